@@ -1,0 +1,29 @@
+// Names that no two of a list share.
+ghost use Rattle.std.specs.Prelude.{◌≡◌, ◌≢◌, ◌↔◌, ℕ, ◌<◌, List, ◌==◌, true, false, length, All, Any, IsTrue};
+ghost use Rattle.std.specs.List.{AllPairs};
+
+/// What has a name.
+pub(crate) trait Named {
+    ghost name: { Self → List ℕ };
+
+    fn name(&self) -> &str
+        ensures { result.now ≡ name self.now };
+}
+
+/// Whether no two items share a name. It takes time with the square of their number.
+pub(crate) fn have_own_names<N: Named>(items: &[N]) -> bool
+    ensures { IsTrue result ↔ AllPairs (λ a b. N.name a ≢ N.name b) items.now }
+{
+    for (place, item) in items.iter().enumerate() {
+        if is_taken(&items[..place], item.name()) {
+            return false;
+        }
+    }
+    true
+}
+
+fn is_taken<N: Named>(items: &[N], name: &str) -> bool
+    ensures { IsTrue result ↔ Any (λ item. N.name item ≡ name.now) items.now }
+{
+    items.iter().any(|item| item.name() == name)
+}
