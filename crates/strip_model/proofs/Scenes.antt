@@ -40,7 +40,3 @@ pub small_rate : (actors : List Actor) (seen : List ActorData) (i : ℕ) (d : Ac
 small_rate actors seen i d same lt each =
     let is : IsActor (actor_data (get_or actors i d)) = subst IsActor (mapped_at actor_data actors seen i d same lt) (each i (actor_data d) lt) in
     is.rate
-
--- the code and contracts count the same
-pub same_count : {X Y : Type 0} (f : X → Y) (xs : List X) (ys : List Y) → map f xs ≡ ys → length xs ≡ length ys
-same_count f xs ys same = sym (length-map xs f) ∙ ap length same

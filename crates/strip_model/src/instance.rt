@@ -45,6 +45,7 @@ impl Instance {
     /// The scenes, in the order of their numbers.
     pub fn scenes(&self) -> &[Scene]
         ensures scenes { map scene_data result.now ≡ self.now.scenes }
+        ensures count { length result.now ≡ length self.now.scenes }
         ensures limits { IsInstance self.now }
     {
         &self.scenes
@@ -53,6 +54,7 @@ impl Instance {
     /// The actors, in the order of their numbers.
     pub fn actors(&self) -> &[Actor]
         ensures actors { map actor_data result.now ≡ self.now.actors }
+        ensures count { length result.now ≡ length self.now.actors }
         ensures limits { IsInstance self.now }
     {
         &self.actors

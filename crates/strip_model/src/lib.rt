@@ -48,6 +48,8 @@ mod tests {
         let best = exhaustive::cheapest_order(alloc, &inst)?;
         assert_eq!(rt; best.order.as_slice(), [0, 1, 2].as_slice());
         assert_eq!(rt; best.pay, 13);
+        assert!(rt; is_order(&inst, &best.order));
+        assert_eq!(rt; pay(&inst, &[0, 1, 2]), 13);
         Ok(())
     }
 }

@@ -1,6 +1,6 @@
 // Orders of an instance, and their pay.
 ghost use Rattle.std.specs.Prelude.{◌≡◌, ◌↔◌, ℕ, ◌*◌, ◌<◌, ◌≤◌, List, length, All, sum_by, count_by, slice_index, ◌==◌, IsTrue};
-ghost use Rattle.strip_model.specs.Data.{IsInstance};
+ghost use Rattle.strip_model.specs.declared.limits.TheConstants.{MAX_DAYS, MAX_SCENES};
 ghost use Rattle.strip_model.specs.Order.{IsOrder};
 ghost use Rattle.strip_model.specs.Pay.{casts_of, days_of, pay_of, paid_days, from_first, to_last, works};
 
@@ -56,10 +56,10 @@ pub fn pay(inst: &Instance, order: &[u16]) -> u64
 /// The days of the scenes from the actor's first in the order to his last.
 fn days_paid(inst: &Instance, order: &[u16], actor: usize) -> u64
     requires order { IsOrder (length inst.now.scenes) order.now }
-    requires short { length order.now ≤ 200 }
+    requires short { length order.now ≤ MAX_SCENES }
     requires actor { actor < length inst.now.actors }
     ensures days { result ≡ paid_days (casts_of inst.now) (days_of inst.now) order.now actor }
-    ensures small { result ≤ 99 * 200 }
+    ensures small { result ≤ MAX_DAYS * MAX_SCENES }
 {
     days_to_last(inst, from_first_scene(inst, order, actor), actor)
 }
@@ -81,10 +81,10 @@ fn from_first_scene<'a>(inst: &Instance, order: &'a [u16], actor: usize) -> &'a 
 /// The days of the scenes up to the actor's last in the order.
 fn days_to_last(inst: &Instance, order: &[u16], actor: usize) -> u64
     requires order { All (λ scene. scene < length inst.now.scenes) order.now }
-    requires short { length order.now ≤ 200 }
+    requires short { length order.now ≤ MAX_SCENES }
     requires actor { actor < length inst.now.actors }
     ensures days { result ≡ sum_by (slice_index (days_of inst.now)) (to_last (works (casts_of inst.now) actor) order.now) }
-    ensures small { result ≤ 99 * length order.now }
+    ensures small { result ≤ MAX_DAYS * length order.now }
 {
     let mut days = 0;
     let mut to_last = 0;
@@ -108,7 +108,7 @@ fn works_in(inst: &Instance, actor: usize, scene: u16) -> bool
 fn days_in(inst: &Instance, scene: u16) -> u64
     requires { scene < length inst.now.scenes }
     ensures days { result ≡ slice_index (days_of inst.now) scene }
-    ensures small { result ≤ 99 }
+    ensures small { result ≤ MAX_DAYS }
 {
     inst.scenes()[scene as usize].days
 }

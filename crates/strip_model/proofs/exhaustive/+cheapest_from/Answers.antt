@@ -2,17 +2,15 @@ use Rattle.std.proofs.Common.{◌≡◌, ◌∙◌, ℕ, ◌-◌, ◌<◌, ◌++
 use Rattle.std.specs.declared.alloc.AllocError.{AllocError}
 use Rattle.strip_model.specs.declared.exhaustive.Cheapest.{Cheapest}
 use Rattle.strip_model.specs.Data.{InstanceData}
-use Rattle.strip_model.specs.Instance.{scene_data}
 use Rattle.strip_model.specs.Order.{IsOrder}
 use Rattle.strip_model.specs.Beginning.{IsBeginning, IsFirstCheapestFrom}
-use Rattle.strip_model.proofs.Scenes.{same_count}
 use Rattle.strip_model.proofs.Search.{IsBestBelow, best_passes, best_tries, best_all, order_all, itself_all, beginning_push, beginning_short}
 use Rattle.strip_model.proofs.exhaustive.+cheapest_from.Goals as goal
 
 pub loop-scene-preserved-then-times_in-gt0 : goal.loop-scene-preserved-then-times_in-gt0
 loop-scene-preserved-then-times_in-gt0 t c =
     best_passes c.args.inst.now c.args.begun.now c.loop-scene.scene c.loop-scene.best
-    (omega (arith, same_count scene_data c.scenes.result.now c.args.inst.now.scenes c.scenes.ensures.scenes))
+    (omega arith)
     (omega (arith, c.times_in.ensures, c.requires.once c.loop-scene.scene)) c.loop-scene.invariant
 
 -- a scene is added that the list lacks
@@ -27,14 +25,14 @@ added n begun longer extended scene is lt fresh same made =
 pub cheapest_from-requires : goal.cheapest_from-requires
 cheapest_from-requires t c =
     let both = added (length c.args.inst.now.scenes) c.args.begun.now c.deref.result.now c.in_ok-extended.extended.items c.loop-scene.scene
-    c.requires (omega (arith, same_count scene_data c.scenes.result.now c.args.inst.now.scenes c.scenes.ensures.scenes))
+    c.requires (omega arith)
     (omega (arith, c.times_in.ensures)) c.deref.ensures.value c.in_ok-extended.ensures in
     (omega (arith, both.0, c.decreases), both.1)
 
 pub loop-scene-preserved : goal.loop-scene-preserved
 loop-scene-preserved t c =
     best_tries c.args.inst.now c.args.begun.now c.loop-scene.scene c.loop-scene.best c.in_ok-found.found c.cheaper.result
-    (omega (arith, same_count scene_data c.scenes.result.now c.args.inst.now.scenes c.scenes.ensures.scenes))
+    (omega arith)
     (subst (λ (xs : List ℕ). IsFirstCheapestFrom c.args.inst.now xs c.in_ok-found.found.order.items)
     (c.deref.ensures.value ∙ c.in_ok-extended.ensures) c.in_ok-found.ensures.first)
     c.in_ok-found.ensures.pay c.cheaper.ensures c.loop-scene.invariant
@@ -51,12 +49,12 @@ none_left inst begun next best end same is known = order_all inst begun next (om
 pub complete-requires : goal.complete-requires
 complete-requires t c =
     none_left c.args.inst.now c.args.begun.now c.loop-scene.scene c.loop-scene.best
-    (omega (arith, same_count scene_data c.scenes.result.now c.args.inst.now.scenes c.scenes.ensures.scenes)) c.in-None.is c.requires c.loop-scene.invariant
+    (omega arith) c.in-None.is c.requires c.loop-scene.invariant
 
 pub returns-in-Some-clause-first : goal.returns-in-Some-clause-first
 returns-in-Some-clause-first t c =
     some_best c.args.inst.now c.args.begun.now c.loop-scene.scene c.loop-scene.best c.in-Some.best
-    (omega (arith, same_count scene_data c.scenes.result.now c.args.inst.now.scenes c.scenes.ensures.scenes)) c.in-Some.is c.loop-scene.invariant
+    (omega arith) c.in-Some.is c.loop-scene.invariant
 
 itself : (inst : InstanceData) (begun : List ℕ) (next : ℕ) (best : Option Cheapest) (result : Result Cheapest AllocError) → next ≡ length inst.scenes → best ≡ None
     → IsBeginning (length inst.scenes) begun → IsBestBelow inst begun next best → IfOk result (λ b. b.order.items ≡ begun)
@@ -68,5 +66,5 @@ itself inst begun next best (Err e) end same is known made = tt
 pub returns-in-None-clause-first : goal.returns-in-None-clause-first
 returns-in-None-clause-first t c =
     itself c.args.inst.now c.args.begun.now c.loop-scene.scene c.loop-scene.best c.complete.result
-    (omega (arith, same_count scene_data c.scenes.result.now c.args.inst.now.scenes c.scenes.ensures.scenes)) c.in-None.is c.requires c.loop-scene.invariant
+    (omega arith) c.in-None.is c.requires c.loop-scene.invariant
     c.complete.ensures.order

@@ -1,8 +1,6 @@
 use Rattle.std.proofs.Common.{◌≡◌, ◌∙◌, ◌*◌, ◌<◌, ◌≤◌, length, slice_index, sym, ap, subst, refl, arith}
-use Rattle.std.proofs.lemmas.List.{length-map}
 use Rattle.std.proofs.Math.Nat.{mul-le-mul}
 use Rattle.strip_model.specs.declared.scene.Actor.{Actor}
-use Rattle.strip_model.specs.Instance.{actor_data}
 use Rattle.strip_model.specs.Pay.{casts_of, days_of, rates_of, paid_days}
 use Rattle.strip_model.proofs.Orders.{length-order, sum_below-more}
 use Rattle.strip_model.proofs.Scenes.{rate_at, small_rate}
@@ -11,7 +9,7 @@ use Rattle.strip_model.proofs.pricing.pay.Goals.{After-actor-item, After-days_pa
 
 -- the actor has a number
 numbered : (c : After-days_paid) → c.loop-number.number < length c.args.inst.now.actors
-numbered c = omega (arith, ap length c.actors-actor-items.ensures.actors, length-map c.actors-actor-items.result.now actor_data)
+numbered c = omega arith
 
 -- what he is paid is within the limits
 limited : (c : After-days_paid) → c.actor-item.result.rate * c.days_paid.result ≤ 1000000000 * 19800

@@ -1,0 +1,5 @@
+mod Counts
+mod Faults
+pub mod Names
+mod Pieces
+mod Places

@@ -1,0 +1,60 @@
+use Rattle.std.proofs.Common.{◌≡◌, ℕ, ◌+◌, ◌≤◌, List, ◌++◌, vec_len, length, take, ◌∙◌, ap, subst, refl, arith, rules}
+use Rattle.std.proofs.lemmas.List.{length-take-le}
+use Rattle.strip_io.specs.Files.{CopiesFrom}
+use Rattle.strip_io.proofs.Counts.{counts_on, counts_stay, failed_since}
+use Rattle.strip_io.proofs.Pieces.{buffer_front, read_more, read_whole}
+use Rattle.strip_io.proofs.transfer.load.Goals as goal
+
+pub loop-turn-init : goal.loop-turn-init
+loop-turn-init g c = record {
+  held = refl;
+  told = refl;
+  counts = counts_stay c.args.name.now (g.F.Files.faults c.args.files.now);
+  name = refl;
+  limit = refl;
+  short = omega arith;
+  turn = omega arith;
+  room = search rules;
+  read = λ text told. rw (c.new-all.ensures.items, c.new-all.ensures.len) refl;
+}
+
+pub returns-in_err-count-clause-read : goal.returns-in_err-count-clause-read
+returns-in_err-count-clause-read g c =
+    λ _. failed_since c.args.name.now (g.F.Files.holds c.args.files.now) (g.F.Files.holds c.loop-turn.files) (g.F.Files.faults c.args.files.now) (g.F.Files.faults c.loop-turn.files) (g.F.Files.faults c.read.new.self) c.loop-turn.invariant.counts c.loop-turn.invariant.held c.in_err-count.ensures.cause
+
+pub returns-then-count-eq0-clause-all : goal.returns-then-count-eq0-clause-all
+returns-then-count-eq0-clause-all g c = λ text told.
+    let here = ap (λ (bytes : List ℕ → _). bytes c.args.name.now) c.loop-turn.invariant.told ∙ told in
+    let copied = c.in_ok-count.ensures.copied text here in
+    read_whole _ _ _ (c.loop-turn.invariant.read text told) (omega (arith, copied.ends))
+
+pub returns-in_err-extend_from_slice-clause-counts : goal.returns-in_err-extend_from_slice-clause-counts
+returns-in_err-extend_from_slice-clause-counts g c =
+    counts_on _ _ _ _ c.loop-turn.invariant.counts c.read.ensures.counts
+
+pub loop-turn-preserved : goal.loop-turn-preserved
+loop-turn-preserved g c =
+    let within : c.in_ok-count.count ≤ length c.read.new.into = c.in_ok-count.ensures.within in
+    let size : vec_len c.extend_from_slice.new.self ≡ vec_len c.loop-turn.all + length (take c.in_ok-count.count c.deref.result.now) = c.in_ok-extend_from_slice.ensures.len in
+    let items : c.extend_from_slice.new.self.items ≡ c.loop-turn.all.items ++ take c.in_ok-count.count c.deref.result.now = c.in_ok-extend_from_slice.ensures.items in
+    let viewed = c.deref.ensures.len in
+    let whole : length c.read.new.into ≡ c.loop-turn.piece.len = omega arith in
+    let front = length-take-le c.in_ok-count.count c.deref.result.now (omega arith) in
+    let written : take c.in_ok-count.count c.deref.result.now ≡ take c.in_ok-count.count c.read.new.into =
+    ap (take c.in_ok-count.count) c.deref.ensures.value ∙ buffer_front c.read.new.into c.loop-turn.piece.items c.loop-turn.piece.len c.in_ok-count.count within whole in
+    let reached : vec_len c.extend_from_slice.new.self ≡ vec_len c.loop-turn.all + c.in_ok-count.count = omega arith in
+    record {
+      held = c.read.ensures.held ∙ c.loop-turn.invariant.held;
+      told = c.read.ensures.told ∙ c.loop-turn.invariant.told;
+      counts = counts_on _ _ _ _ c.loop-turn.invariant.counts c.read.ensures.counts;
+      name = refl;
+      limit = refl;
+      short = omega arith;
+      turn = omega arith;
+      room = c.loop-turn.invariant.room;
+      read = λ text told.
+          let here = ap (λ (bytes : List ℕ → _). bytes c.args.name.now) c.loop-turn.invariant.told ∙ told in
+          let copied : CopiesFrom text (vec_len c.loop-turn.all) c.in_ok-count.count c.read.new.into = subst (λ (at : ℕ). CopiesFrom text at c.in_ok-count.count c.read.new.into) c.len.ensures (c.in_ok-count.ensures.copied text here) in
+          rw (items, written, reached)
+          (read_more c.loop-turn.all.items text c.read.new.into (vec_len c.loop-turn.all) c.in_ok-count.count (c.loop-turn.invariant.read text told) copied);
+    }

@@ -1,0 +1,16 @@
+use Rattle.std.proofs.Common.{◌≡◌, ℕ, ◌≤◌, List, ◌++◌, drop, vec_len, Some}
+use Rattle.strip_io.specs.Counts.{CountsOnly}
+use Rattle.strip_io.proofs.transfer.load.Given as goal
+
+abbrev pub invariant-loop-turn : goal.invariant-loop-turn
+invariant-loop-turn g l = record {
+  held : g.F.Files.holds l.files ≡ g.F.Files.holds l.fn.files;
+  told : g.F.Files.bytes l.files ≡ g.F.Files.bytes l.fn.files;
+  counts : CountsOnly l.fn.name (g.F.Files.faults l.fn.files) (g.F.Files.faults l.files);
+  name : l.name ≡ l.fn.name;
+  limit : l.limit ≡ l.fn.limit;
+  short : vec_len l.all ≤ l.fn.limit;
+  turn : l._turn ≤ vec_len l.all;
+  room : vec_len l.piece ≡ 4096;
+  read : (text : List ℕ) → g.F.Files.bytes l.fn.files l.fn.name ≡ Some text → l.all.items ++ drop (vec_len l.all) text ≡ text;
+}

@@ -1,0 +1,12 @@
+use Rattle.std.proofs.Common.{◌≡◌, ℕ, ◌≤◌, List, ◌++◌, length}
+use Rattle.strip_io.specs.Sink.{Took}
+use Rattle.strip_io.proofs.transfer.send.Given as goal
+
+abbrev pub invariant-loop-rest : goal.invariant-loop-rest
+invariant-loop-rest g l = record {
+  later : g.S.Sink.faults l.fn.out ≤ g.S.Sink.faults l.out;
+  parts : (sent : List ℕ) × (sent ++ l.rest ≡ l.fn.text) × Took (g.S.Sink.taken l.fn.out) (g.S.Sink.taken l.out) sent;
+}
+
+abbrev pub decreases-loop-rest : goal.decreases-loop-rest
+decreases-loop-rest g l = length l.rest

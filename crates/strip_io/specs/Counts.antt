@@ -1,0 +1,15 @@
+-- Counts of faults, which never fall.
+use Rattle.std.specs.Prelude.{◌≡◌, ◌≢◌, ℕ, ◌+◌, ◌-◌, ◌^◌, ◌≤◌, min, Bool, false, ◌⊎◌, List}
+
+-- the count rose, or stands at the end of its type, where no rise can be told
+abbrev pub Rose : ℕ → ℕ → Type 0
+Rose before now = min (before + 1) (2 ^ 64 - 1) ≤ now
+
+-- the count of this name didn't fall, and that of every other name stayed
+pub record CountsOnly (name : List ℕ) (before now : List ℕ → ℕ) : Type 0 where
+  pub later : before name ≤ now name
+  pub others : (other : List ℕ) → other ≢ name → now other ≡ before other
+
+-- a read of the name failed: its count rose, or the name isn't held
+abbrev pub ReadFailed : List ℕ → (List ℕ → Bool) → (List ℕ → ℕ) → (List ℕ → ℕ) → Type 0
+ReadFailed name held before now = Rose (before name) (now name) ⊎ (held name ≡ false)

@@ -1,0 +1,6 @@
+pub mod Counts
+pub mod Files
+pub mod Held
+pub mod Memory
+pub mod Shown
+pub mod Sink

@@ -1,0 +1,8 @@
+-- What an entry of the table stands for.
+use Rattle.std.specs.Prelude.{string_bytes}
+use Rattle.strip_io.specs.Held.{HeldFile}
+use Rattle.strip_io.specs.declared.table.Entry.{Entry}
+
+-- the entry as a held file
+abbrev pub shown : Entry → HeldFile
+shown entry = record { name = string_bytes entry.name; bytes = entry.bytes.items; faults = entry.faults }

@@ -1,0 +1,11 @@
+-- What a sink has taken.
+use Rattle.std.specs.Prelude.{◌≡◌, ℕ, ◌<◌, List, ◌++◌, length, take, Option}
+use Rattle.std.specs.Option.{option_map}
+
+-- the sink took exactly this text, where it tells what it takes
+abbrev pub Took : Option (List ℕ) → Option (List ℕ) → List ℕ → Type 0
+Took before after text = after ≡ option_map (λ taken. taken ++ text) before
+
+-- the sink took a part of the text from its front, and not all of it
+abbrev pub TookFront : Option (List ℕ) → Option (List ℕ) → List ℕ → Type 0
+TookFront before after text = (n : ℕ) × (n < length text) × Took before after (take n text)

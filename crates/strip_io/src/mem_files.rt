@@ -1,0 +1,97 @@
+// Files in memory, which fail at chosen reads.
+ghost use Rattle.std.specs.Prelude.{◌≡◌, ◌≢◌, ◌⊎◌, ◌↔◌, ℕ, ◌-◌, ◌^◌, ◌<◌, ◌≤◌, min, false, List, [], length, Some, IfOk, OnOk, OnErr, IsErr, Contains};
+ghost use Rattle.strip_io.specs.Counts.{CountsOnly, ReadFailed};
+ghost use Rattle.strip_io.specs.Files.{CopiesFrom};
+ghost use Rattle.strip_io.specs.Held.{bytes_of, count_fault, faults_of, is_held, next_count, put};
+
+use crate::table::{Table, copy_from};
+use crate::tally::next_count;
+use crate::{Failed, Files, Memory};
+use std::alloc::Global;
+use std::marker::Model;
+
+/// Files in memory. A read fails where its number, counted from 1 over all names, is among those
+/// that were given, and where its name isn't held.
+#[derive(Drop)]
+pub struct MemFiles {
+    files: Table,
+    failing: Vec<u64>,
+    calls: u64,
+}
+
+impl Model for MemFiles {
+    ghost use Rattle.strip_io.specs.Memory.{MemoryFiles};
+
+    ghost Value = { MemoryFiles };
+
+    ghost view = { λ m. record { files = m.files; failing = m.failing.items; calls = m.calls } };
+}
+
+impl MemFiles {
+    /// No files yet. The reads with these numbers will fail.
+    pub fn new(alloc: Global, failing: &[u64]) -> Result<MemFiles, Memory>
+        ensures { IfOk result (λ m. m ≡ record { files = []; failing = failing.now; calls = 0 }) }
+    {
+        Ok(MemFiles {
+            files: Table::new(alloc),
+            failing: Vec::from_slice(alloc, failing)?,
+            calls: 0,
+        })
+    }
+
+    /// Holds these bytes under the name, in place of those that it had. A new name begins with no
+    /// faults, and a held one keeps its count.
+    #[tactic(auto, using(crate::proofs::Names::bytes_put, crate::proofs::Names::bytes_put_other, crate::proofs::Names::faults_put))]
+    pub fn add(&mut self, name: &str, bytes: &[u8]) -> Result<(), Memory>
+        ensures ok { OnOk result (self.new ≡ record self.old { files = put self.old.files name.now bytes.now }) }
+        ensures told { OnOk result (bytes_of self.new.files name.now ≡ Some bytes.now) }
+        ensures others { OnOk result ((other : List ℕ) → other ≢ name.now
+            → bytes_of self.new.files other ≡ bytes_of self.old.files other) }
+        ensures counts { OnOk result ((other : List ℕ) → faults_of self.new.files other ≡ faults_of self.old.files other) }
+        ensures err { OnErr result (self.new ≡ self.old) }
+    {
+        self.files.put(name, bytes)
+    }
+}
+
+impl Files for MemFiles {
+    ghost holds = { λ m. is_held m.files };
+
+    ghost bytes = { λ m. bytes_of m.files };
+
+    ghost faults = { λ m. faults_of m.files };
+
+    fn read(&mut self, name: &str, at: u64, into: &mut [u8]) -> Result<usize, Failed>
+        requires room { 0 < length into.old }
+        requires place { at ≤ 2 ^ 31 }
+
+        ensures within { IfOk result (λ n. n ≤ length into.new) }
+        ensures copied { IfOk result (λ n. (text : List ℕ) → bytes_of self.old.files name.now ≡ Some text
+            → CopiesFrom text at n into.new) }
+        ensures cause { OnErr result (ReadFailed name.now (is_held self.old.files) (faults_of self.old.files) (faults_of self.new.files)) }
+        ensures held { is_held self.new.files ≡ is_held self.old.files }
+        ensures told { bytes_of self.new.files ≡ bytes_of self.old.files }
+        ensures counts { CountsOnly name.now (faults_of self.old.files) (faults_of self.new.files) }
+
+        // It fails at the listed calls and at names that aren't held, and nowhere else.
+        ensures fails { IsErr result ↔ (Contains self.old.failing (next_count self.old.calls)
+            ⊎ (is_held self.old.files name.now ≡ false)) }
+        ensures exact { IfOk result (λ n. (text : List ℕ) → bytes_of self.old.files name.now ≡ Some text
+            → n ≡ min (length into.old) (length text - at)) }
+
+        ensures ok { OnOk result (self.new.files ≡ self.old.files) }
+        ensures err { OnErr result (self.new.files ≡ count_fault self.old.files name.now) }
+        ensures calls { self.new.calls ≡ next_count self.old.calls }
+        ensures failing { self.new.failing ≡ self.old.failing }
+    {
+        self.calls = next_count(self.calls);
+        if self.failing.contains(&self.calls) {
+            self.files.count_fault(name);
+            return Err(Failed);
+        }
+        match self.files.bytes(name) {
+            Some(text) => Ok(copy_from(text, at as usize, into)),
+            None => Err(Failed),
+        }
+    }
+}

@@ -1,0 +1,105 @@
+// The names that a source holds, with what it knows of each.
+ghost use Rattle.std.specs.Prelude.{◌≡◌, ◌-◌, min, List, [], length, take, drop, map, string_bytes, OnOk, OnErr};
+ghost use Rattle.std.specs.List.{position};
+ghost use Rattle.std.specs.Option.{option_copied};
+ghost use Rattle.std.specs.Str.{bytes_eq};
+ghost use Rattle.strip_io.specs.Held.{bytes_of, count_fault, is_held, put};
+
+use crate::Memory;
+use crate::tally::next_count;
+use std::alloc::Global;
+use std::marker::Model;
+
+#[derive(Drop)]
+struct Entry {
+    name: String,
+    bytes: Vec<u8>,
+    faults: u64,
+}
+
+// Names, each with its bytes and the count of its faults.
+#[derive(Drop)]
+pub(crate) struct Table {
+    alloc: Global,
+    entries: Vec<Entry>,
+}
+
+impl Model for Table {
+    ghost use Rattle.std.specs.Prelude.{List, map};
+    ghost use Rattle.strip_io.specs.Held.{HeldFile};
+
+    ghost Value = { List HeldFile };
+
+    ghost use Rattle.strip_io.specs.Shown.{shown};
+
+    ghost view = { λ table. map shown table.entries.items };
+}
+
+// The place of a name.
+fn place(entries: &[Entry], name: &str) -> Option<usize>
+    ensures { result ≡ position (λ entry. bytes_eq (string_bytes entry.name) name.now) entries.now }
+{
+    entries.iter().position(|entry| entry.name.as_str() == name)
+}
+
+impl Table {
+    pub(crate) fn new(alloc: Global) -> Table
+        ensures { result ≡ [] }
+    {
+        Table {
+            alloc,
+            entries: Vec::new(alloc),
+        }
+    }
+
+    pub(crate) fn holds(&self, name: &str) -> bool
+        ensures { result ≡ is_held self.now name.now }
+    {
+        place(&self.entries, name).is_some()
+    }
+
+    pub(crate) fn bytes(&self, name: &str) -> Option<&[u8]>
+        ensures { option_copied result ≡ bytes_of self.now name.now }
+    {
+        let place = place(&self.entries, name)?;
+        Some(&self.entries[place].bytes)
+    }
+
+    pub(crate) fn put(&mut self, name: &str, bytes: &[u8]) -> Result<(), Memory>
+        ensures ok { OnOk result (self.new ≡ put self.old name.now bytes.now) }
+        ensures err { OnErr result (self.new ≡ self.old) }
+    {
+        let bytes = Vec::from_slice(self.alloc, bytes)?;
+        if let Some(place) = place(&self.entries, name) {
+            self.entries[place].bytes = bytes;
+            return Ok(());
+        }
+        let name = String::from_str(self.alloc, name)?;
+        self.entries.push(Entry {
+            name,
+            bytes,
+            faults: 0,
+        })?;
+        Ok(())
+    }
+
+    pub(crate) fn count_fault(&mut self, name: &str)
+        ensures { self.new ≡ count_fault self.old name.now }
+    {
+        if let Some(place) = place(&self.entries, name) {
+            let entry = &mut self.entries[place];
+            entry.faults = next_count(entry.faults);
+        }
+    }
+}
+
+// Copies bytes of the text from a place on to the front of `into`, as many as there are and fit.
+pub(crate) fn copy_from(text: &[u8], at: usize, into: &mut [u8]) -> usize
+    ensures count { result ≡ min (length into.old) (length text.now - at) }
+    ensures bytes { take result into.new ≡ take result (drop at text.now) }
+{
+    let rest = &text[at.min(text.len())..];
+    let count = rest.len().min(into.len());
+    into[..count].copy_from_slice(&rest[..count]);
+    count
+}

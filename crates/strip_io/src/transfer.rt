@@ -1,0 +1,104 @@
+// Whole files and whole texts.
+ghost use Rattle.std.specs.Prelude.{◌≡◌, ℕ, ◌^◌, ◌<◌, ◌≤◌, List, length, vec_len, Some, Err, IfOk, OnOk, OnErr};
+ghost use Rattle.strip_io.specs.declared.transfer.LoadFault.TheVariants.{Read, Memory as OutOfMemory};
+ghost use Rattle.strip_io.specs.Counts.{CountsOnly, ReadFailed, Rose};
+ghost use Rattle.strip_io.specs.Sink.{Took, TookFront};
+
+use crate::{Failed, Files, Sink};
+use std::alloc::{AllocError, Global};
+use std::error::Error;
+use std::fmt;
+
+/// Why a file wasn't loaded.
+#[derive(Clone, Copy, Debug, PartialEq, Eq)]
+pub enum LoadFault {
+    /// A read failed, or the name isn't held.
+    Read,
+    /// It has more bytes than the limit.
+    TooLong,
+    /// Memory ran out.
+    Memory,
+}
+
+impl From<AllocError> for LoadFault {
+    ghost from_gives = { λ _ e. e ≡ OutOfMemory };
+
+    fn from(_: AllocError) -> Self {
+        LoadFault::Memory
+    }
+}
+
+impl From<Failed> for LoadFault {
+    ghost from_gives = { λ _ e. e ≡ Read };
+
+    fn from(_: Failed) -> Self {
+        LoadFault::Read
+    }
+}
+
+impl fmt::Display for LoadFault {
+    fn fmt<W: fmt::Write>(&self, f: &mut fmt::Formatter<W>) -> fmt::Result {
+        f.write_str(match self {
+            LoadFault::Read => "a file couldn't be read",
+            LoadFault::TooLong => "a file is too long",
+            LoadFault::Memory => "out of memory",
+        })
+    }
+}
+
+impl Error for LoadFault {}
+
+/// How many bytes are asked for at once.
+const PIECE: usize = 4096;
+
+/// The bytes of a name, read to its end. At most `limit` of them are kept; it takes at most
+/// `limit + 1` reads.
+pub fn load<F: Files>(
+    alloc: Global,
+    files: &mut F,
+    name: &str,
+    limit: u64,
+) -> Result<Vec<u8>, LoadFault>
+    requires { limit ≤ 2 ^ 30 }
+
+    ensures all { IfOk result (λ v. (text : List ℕ) → F.bytes files.old name.now ≡ Some text → v.items ≡ text) }
+    ensures short { IfOk result (λ v. vec_len v ≤ limit) }
+
+    ensures too_long { result ≡ Err LoadFault.TooLong → (text : List ℕ)
+        → F.bytes files.old name.now ≡ Some text → limit < length text }
+    ensures read { result ≡ Err LoadFault.Read
+        → ReadFailed name.now (F.holds files.old) (F.faults files.old) (F.faults files.new) }
+
+    ensures held { F.holds files.new ≡ F.holds files.old }
+    ensures told { F.bytes files.new ≡ F.bytes files.old }
+    ensures counts { CountsOnly name.now (F.faults files.old) (F.faults files.new) }
+{
+    let mut all = Vec::new(alloc);
+    let mut piece = vec![in alloc; 0; PIECE]?;
+    for _turn in 0..limit + 1 {
+        let count = files.read(name, all.len() as u64, &mut piece)?;
+        if count == 0 {
+            return Ok(all);
+        }
+        if (all.len() + count) as u64 > limit {
+            return Err(LoadFault::TooLong);
+        }
+        all.extend_from_slice(&piece[..count])?;
+    }
+    unreachable!()
+}
+
+/// Writes the whole text, in as many pieces as the sink takes. It takes no memory.
+pub fn send<S: Sink>(out: &mut S, text: &[u8]) -> Result<(), Failed>
+    ensures ok { OnOk result (Took (S.taken out.old) (S.taken out.new) text.now) }
+    ensures cause { OnErr result (Rose (S.faults out.old) (S.faults out.new)) }
+    ensures front { OnErr result (TookFront (S.taken out.old) (S.taken out.new) text.now) }
+    ensures later { S.faults out.old ≤ S.faults out.new }
+{
+    let mut rest = text;
+    while !rest.is_empty() {
+        let count = out.write(rest)?;
+        rest = &rest[count..];
+    }
+    Ok(())
+}

@@ -1,0 +1,11 @@
+//! Whole runs of the program over files and sinks in memory: what it prints and how it ends.
+#![tactic(auto)]
+
+#[cfg(test)]
+mod faults;
+#[cfg(test)]
+mod films;
+#[cfg(test)]
+mod refusals;
+#[cfg(test)]
+mod runs;

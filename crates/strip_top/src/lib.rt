@@ -1,0 +1,14 @@
+//! What the program does, from its words and files to what it prints and its exit status.
+#![tactic(auto)]
+
+mod answer;
+mod head;
+mod plain;
+mod program;
+mod refusal;
+mod status;
+mod words;
+
+pub use program::report;
+pub use refusal::{MAX_CLASSES, MAX_FILE, Refusal};
+pub use status::Status;
