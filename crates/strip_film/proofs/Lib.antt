@@ -1,0 +1,12 @@
+pub mod Elems
+pub mod Casts
+pub mod Spans
+pub mod Sets
+pub mod StepSum
+pub mod Orders
+pub mod Least
+pub mod Limits
+pub mod Before
+pub mod Paths
+pub mod Rows
+pub mod Located

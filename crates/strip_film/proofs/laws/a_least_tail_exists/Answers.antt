@@ -1,0 +1,5 @@
+use Rattle.strip_film.proofs.Least.{finish_exists}
+use Rattle.strip_film.proofs.laws.a_least_tail_exists.Goals as goal
+
+pub returns : goal.returns
+returns c = λ film set is. finish_exists film set is

@@ -1,0 +1,9 @@
+pub mod Film
+pub mod Shoot
+pub mod Finish
+pub mod Order
+pub mod Pay
+pub mod Path
+pub mod Bounds
+pub mod Shown
+pub mod Located

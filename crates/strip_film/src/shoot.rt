@@ -1,0 +1,42 @@
+// The state of a shoot, when a set of scenes remains.
+ghost use Rattle.std.specs.Prelude.{◌≡◌, true};
+ghost use Rattle.strip_mask.specs.Set.{has};
+ghost use Rattle.strip_film.specs.Film.{IsFilm, LiesIn};
+ghost use Rattle.strip_film.specs.Shoot.{cast_of, on_location, step_cost};
+
+use crate::film::Film;
+use strip_mask::{Mask, sum_over};
+
+/// Who works in some scene of the set: one turn for each scene of it.
+pub fn cast_of(film: &Film, q: Mask) -> Mask
+    requires { LiesIn film.now q.0 }
+    ensures { result.0 ≡ cast_of film.now q.0 }
+{
+    let casts = film.casts();
+    let mut cast = Mask(0);
+    for scene in q.iter() {
+        cast = cast.union(Mask(casts[scene as usize]));
+    }
+    cast
+}
+
+/// Who is on location while the set remains: who works in a scene of it and in one outside it. One
+/// turn for each scene of the film.
+pub fn on(film: &Film, q: Mask) -> Mask
+    requires { LiesIn film.now q.0 }
+    ensures { result.0 ≡ on_location film.now q.0 }
+{
+    cast_of(film, q).meet(cast_of(film, film.all().minus(q)))
+}
+
+/// What it costs to shoot scene `s` next while the set remains: its days, for its cast and for
+/// whoever is on location. One turn for each scene of the film and each actor who is paid.
+pub fn step(film: &Film, q: Mask, s: u32) -> u64
+    requires lies { LiesIn film.now q.0 }
+    requires remains { has q.0 s ≡ true }
+    ensures cost { result ≡ step_cost film.now q.0 s }
+    ensures limits { IsFilm film.now }
+{
+    let paid = Mask(film.casts()[s as usize]).union(on(film, q));
+    film.days()[s as usize] * sum_over(film.rates(), paid)
+}

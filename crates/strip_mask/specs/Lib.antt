@@ -1,0 +1,4 @@
+pub mod Set
+pub mod Sums
+pub mod Iter
+pub mod Laws
