@@ -82,3 +82,8 @@ module _ (film : FilmData) (path : PathData) (is : IsPath film path) where
       left = ap (λ (q : ℕ). without q s) is.left ∙ sym (rest_after-append (all_scenes film) s path.scenes);
       steps = paid;
     }
+
+-- what a path paid is a tail
+pub path_limit : (film : FilmData) (path : PathData) → IsPath film path → IsFilm film → path.paid ≤ 19800 * 64000000000
+path_limit film path is limits =
+    omega (arith, is.steps, steps_limit film (all_scenes film) path.scenes limits (IsSet-full (length film.casts) limits.scene_count.1) is.remained)

@@ -54,6 +54,7 @@ pub fn costs_stay_small()
         → step_cost film set scene < 2 ^ 63 }
     ensures steps { (film : FilmData) (set : ℕ) (scenes : List ℕ) → IsFilm film → IsSet set → Remained set scenes
         → steps_cost film set scenes < 2 ^ 63 }
+    ensures paid { (film : FilmData) (path : PathData) → IsFilm film → IsPath film path → path.paid < 2 ^ 63 }
 {}
 
 /// Which of two lists comes first is a total order.
