@@ -30,22 +30,22 @@ has-fold casts acc actor (s ∷ scenes) =
     ∙ ap (λ (b : Bool). b || list_any (λ scene. has (slice_index casts scene) actor) scenes) (has-union acc (slice_index casts s) actor)
     ∙ or_assoc (has acc actor) (has (slice_index casts s) actor) (list_any (λ scene. has (slice_index casts scene) actor) scenes)
 
-pub has-cast_of : (film : FilmData) (set actor : ℕ) → has (cast_of film set) actor ≡ list_any (works film actor) (members set)
+pub has-cast_of : (film : FilmData) (set actor : ℕ) → has (cast_of film set) actor ≡ list_any (works film.casts actor) (members set)
 has-cast_of film set actor =
-    has-fold film.casts 0 actor (members set) ∙ ap (λ (b : Bool). b || list_any (works film actor) (members set)) (has-empty actor)
+    has-fold film.casts 0 actor (members set) ∙ ap (λ (b : Bool). b || list_any (works film.casts actor) (members set)) (has-empty actor)
 
 -- an actor of a set's cast works in a scene of it, and the other way round
 pub cast_has : (film : FilmData) (set actor : ℕ) → IsSet set → has (cast_of film set) actor ≡ true
-    → (scene : ℕ) × (has set scene ≡ true) × (works film actor scene ≡ true)
+    → (scene : ℕ) × (has set scene ≡ true) × (works film.casts actor scene ≡ true)
 cast_has film set actor is some =
-    let found : (scene : ℕ) × Elem scene (members set) × (works film actor scene ≡ true) = any_is (works film actor) (members set) (sym (has-cast_of film set actor) ∙ some) in
+    let found : (scene : ℕ) × Elem scene (members set) × (works film.casts actor scene ≡ true) = any_is (works film.casts actor) (members set) (sym (has-cast_of film set actor) ∙ some) in
     (found.0, has_from_members set found.0 (contains_from_elem (members set) found.0 found.1), found.2)
 
-pub has_cast : (film : FilmData) (set actor scene : ℕ) → IsSet set → has set scene ≡ true → works film actor scene ≡ true
+pub has_cast : (film : FilmData) (set actor scene : ℕ) → IsSet set → has set scene ≡ true → works film.casts actor scene ≡ true
     → has (cast_of film set) actor ≡ true
 has_cast film set actor scene is there working =
     let c : Contains (members set) scene = Contains-members set scene is there in
-    has-cast_of film set actor ∙ any_from (works film actor) (members set) scene (Elem-from_contains (members set) scene c.0 c.1 c.2) working
+    has-cast_of film set actor ∙ any_from (works film.casts actor) (members set) scene (Elem-from_contains (members set) scene c.0 c.1 c.2) working
 
 -- a scene's cast is a set of actors of the film, also past the last scene
 pub cast_lies : (film : FilmData) (scene : ℕ) → IsFilm film → LiesBelow (length film.rates) (slice_index film.casts scene)

@@ -66,11 +66,11 @@ module _ (film : FilmData) (is : IsFilm film) where
   ]
 
   -- whoever works in the next scene is called from then on
-  called_next : (set s actor : ℕ) → LiesIn film set → has set s ≡ true → called (without set s) actor ≡ (called set actor || works film actor s)
-  called_next set s actor lies there = same_test (called (without set s) actor) (called set actor || works film actor s)
+  called_next : (set s actor : ℕ) → LiesIn film set → has set s ≡ true → called (without set s) actor ≡ (called set actor || works film.casts actor s)
+  called_next set s actor lies there = same_test (called (without set s) actor) (called set actor || works film.casts actor s)
       (λ later. onward (cast_has film (minus (all_scenes film) (without set s)) actor (shot_set (without set s)) later))
-      (λ before. elim (or_cases (called set actor) (works film actor s) before) [
-        | inl earlier ↦ (let found : (x : ℕ) × (has (minus (all_scenes film) set) x ≡ true) × (works film actor x ≡ true) = cast_has film (minus (all_scenes film) set) actor (shot_set set) earlier in
+      (λ before. elim (or_cases (called set actor) (works film.casts actor s) before) [
+        | inl earlier ↦ (let found : (x : ℕ) × (has (minus (all_scenes film) set) x ≡ true) × (works film.casts actor x ≡ true) = cast_has film (minus (all_scenes film) set) actor (shot_set set) earlier in
             let shot : (has (all_scenes film) found.0 ≡ true) × (has set found.0 ≡ false) = shot_is set found.0 lies found.1 in
             has_cast film (minus (all_scenes film) (without set s)) actor found.0 (shot_set (without set s))
             (is_shot (without set s) found.0 rest_lies shot.0 (not_after set s found.0 lies there shot.1)) found.2)
@@ -84,11 +84,11 @@ module _ (film : FilmData) (is : IsFilm film) where
       itself : has (without set s) s ≡ false
       itself = has-without set s s ∙ (let same : eqb s s ≡ true = grind (arith, nat_tests) in rw same refl)
 
-      onward : (x : ℕ) × (has (minus (all_scenes film) (without set s)) x ≡ true) × (works film actor x ≡ true) → (called set actor || works film actor s) ≡ true
+      onward : (x : ℕ) × (has (minus (all_scenes film) (without set s)) x ≡ true) × (works film.casts actor x ≡ true) → (called set actor || works film.casts actor s) ≡ true
       onward (x, shot, working) =
           let gone : (has (all_scenes film) x ≡ true) × (has (without set s) x ≡ false) = shot_is (without set s) x rest_lies shot in
           elim (eqb_tells s x) [
-            | inl same ↦ rw (subst (λ (i : ℕ). works film actor i ≡ true) (sym same.1) working) (or_true (called set actor))
+            | inl same ↦ rw (subst (λ (i : ℕ). works film.casts actor i ≡ true) (sym same.1) working) (or_true (called set actor))
             | inr other ↦ (let out : has set x ≡ false = elim (cases_Bool (has set x)) [
               | inl still ↦ absurd (let e : has (without set s) x ≡ true = has_without set s x there still other.1 in let f : has (without set s) x ≡ false = gone.1 in cc)
               | inr no_more ↦ no_more
@@ -99,31 +99,31 @@ module _ (film : FilmData) (is : IsFilm film) where
 
   -- who works in a scene of the set works in the next scene or later
   working_in : (set s : ℕ) (later : List ℕ) (actor : ℕ) → LiesIn film set → EachOnce set (s ∷ later)
-      → has (cast_of film set) actor ≡ (works film actor s || list_any (works film actor) later)
-  working_in set s later actor lies each = same_test (has (cast_of film set) actor) (list_any (works film actor) (s ∷ later))
+      → has (cast_of film set) actor ≡ (works film.casts actor s || list_any (works film.casts actor) later)
+  working_in set s later actor lies each = same_test (has (cast_of film set) actor) (list_any (works film.casts actor) (s ∷ later))
       (λ some. onward (cast_has film set actor (is_set set lies) some))
-      (λ some. back (any_is (works film actor) (s ∷ later) some))
+      (λ some. back (any_is (works film.casts actor) (s ∷ later) some))
     where
-      onward : (x : ℕ) × (has set x ≡ true) × (works film actor x ≡ true) → list_any (works film actor) (s ∷ later) ≡ true
-      onward (x, there, working) = any_from (works film actor) (s ∷ later) x (has_elem set (s ∷ later) x each there) working
+      onward : (x : ℕ) × (has set x ≡ true) × (works film.casts actor x ≡ true) → list_any (works film.casts actor) (s ∷ later) ≡ true
+      onward (x, there, working) = any_from (works film.casts actor) (s ∷ later) x (has_elem set (s ∷ later) x each there) working
 
-      back : (x : ℕ) × Elem x (s ∷ later) × (works film actor x ≡ true) → has (cast_of film set) actor ≡ true
+      back : (x : ℕ) × Elem x (s ∷ later) × (works film.casts actor x ≡ true) → has (cast_of film set) actor ≡ true
       back (x, there, working) = has_cast film set actor x (is_set set lies) (elem_has set (s ∷ later) x each.0 there) working
 
   -- who is paid on the days of the next scene
   paid_in_step : (set s : ℕ) (later : List ℕ) (actor : ℕ) → LiesIn film set → EachOnce set (s ∷ later)
-      → has (union (slice_index film.casts s) (on_location film set)) actor ≡ is_paid (called set actor) (works film actor) s later
+      → has (union (slice_index film.casts s) (on_location film set)) actor ≡ is_paid (called set actor) (works film.casts actor) s later
   paid_in_step set s later actor lies each =
       has-union (slice_index film.casts s) (on_location film set) actor
-      ∙ ap (λ (b : Bool). works film actor s || b) (has-meet (cast_of film set) (cast_of film (minus (all_scenes film) set)) actor
+      ∙ ap (λ (b : Bool). works film.casts actor s || b) (has-meet (cast_of film set) (cast_of film (minus (all_scenes film) set)) actor
       ∙ ap (λ (b : Bool). b && called set actor) (working_in set s later actor lies each))
-      ∙ by_tests (works film actor s) (list_any (works film actor) later) (called set actor)
+      ∙ by_tests (works film.casts actor s) (list_any (works film.casts actor) later) (called set actor)
 
   location_lies : (set : ℕ) → LiesIn film set → LiesBelow (length film.rates) (on_location film set)
   location_lies set lies actor member =
       let parts : (has (cast_of film set) actor ≡ true) × (has (cast_of film (minus (all_scenes film) set)) actor ≡ true)
       = both (has (cast_of film set) actor) (has (cast_of film (minus (all_scenes film) set)) actor) (sym (has-meet (cast_of film set) (cast_of film (minus (all_scenes film) set)) actor) ∙ member) in
-      let found : (x : ℕ) × (has set x ≡ true) × (works film actor x ≡ true) = cast_has film set actor (is_set set lies) parts.0 in
+      let found : (x : ℕ) × (has set x ≡ true) × (works film.casts actor x ≡ true) = cast_has film set actor (is_set set lies) parts.0 in
       cast_lies film found.0 is actor found.2
 
   -- who is paid on the days of a scene are actors of the film
@@ -137,7 +137,7 @@ module _ (film : FilmData) (is : IsFilm film) where
   -- a step by actors: the days of the scene for each actor who is paid on them
   step_by_actors : (set s : ℕ) (later : List ℕ) → LiesIn film set → EachOnce set (s ∷ later)
       → step_cost film set s ≡ sum_below (length film.rates)
-      (λ actor. slice_index film.days s * cond (is_paid (called set actor) (works film actor) s later) (slice_index film.rates actor) 0)
+      (λ actor. slice_index film.days s * cond (is_paid (called set actor) (works film.casts actor) s later) (slice_index film.rates actor) 0)
   step_by_actors set s later lies each =
       let paid : ℕ = union (slice_index film.casts s) (on_location film set) in
       let split : sum_over film.rates paid ≡ sum_below (length film.rates) (λ actor. cond (has paid actor) (slice_index film.rates actor) 0)
@@ -145,35 +145,35 @@ module _ (film : FilmData) (is : IsFilm film) where
       ap (λ (n : ℕ). slice_index film.days s * n) split
       ∙ sym (sum_below-scale (length film.rates) (slice_index film.days s) (λ actor. cond (has paid actor) (slice_index film.rates actor) 0))
       ∙ sum_below-ext (length film.rates) (λ actor. slice_index film.days s * cond (has paid actor) (slice_index film.rates actor) 0)
-      (λ actor. slice_index film.days s * cond (is_paid (called set actor) (works film actor) s later) (slice_index film.rates actor) 0)
+      (λ actor. slice_index film.days s * cond (is_paid (called set actor) (works film.casts actor) s later) (slice_index film.rates actor) 0)
       (λ actor lt. ap (λ (b : Bool). slice_index film.days s * cond b (slice_index film.rates actor) 0) (paid_in_step set s later actor lies each))
 
   -- the steps along a list, by actors
   pub steps_by_actors : (set : ℕ) (scenes : List ℕ) → LiesIn film set → EachOnce set scenes
       → steps_cost film set scenes ≡ sum_below (length film.rates)
-      (λ actor. slice_index film.rates actor * paid_after (called set actor) (works film actor) (slice_index film.days) scenes)
+      (λ actor. slice_index film.rates actor * paid_after (called set actor) (works film.casts actor) (slice_index film.days) scenes)
   steps_by_actors set [] lies each = sym (sum_below-none (length film.rates) (λ actor. slice_index film.rates actor * 0) (λ actor lt. omega arith))
   steps_by_actors set (s ∷ later) lies each =
       let rest : steps_cost film (without set s) later ≡ sum_below (length film.rates)
-      (λ actor. slice_index film.rates actor * paid_after (called (without set s) actor) (works film actor) (slice_index film.days) later)
+      (λ actor. slice_index film.rates actor * paid_after (called (without set s) actor) (works film.casts actor) (slice_index film.days) later)
       = steps_by_actors (without set s) later (LiesBelow-without (length film.casts) set s lies each.0.0) (each.0.1, each.1) in
       ap (λ (n : ℕ). n + steps_cost film (without set s) later) (step_by_actors set s later lies each)
-      ∙ ap (λ (n : ℕ). sum_below (length film.rates) (λ actor. slice_index film.days s * cond (is_paid (called set actor) (works film actor) s later) (slice_index film.rates actor) 0) + n) rest
+      ∙ ap (λ (n : ℕ). sum_below (length film.rates) (λ actor. slice_index film.days s * cond (is_paid (called set actor) (works film.casts actor) s later) (slice_index film.rates actor) 0) + n) rest
       ∙ sym (sum_below-add (length film.rates)
-      (λ actor. slice_index film.days s * cond (is_paid (called set actor) (works film actor) s later) (slice_index film.rates actor) 0)
-      (λ actor. slice_index film.rates actor * paid_after (called (without set s) actor) (works film actor) (slice_index film.days) later))
+      (λ actor. slice_index film.days s * cond (is_paid (called set actor) (works film.casts actor) s later) (slice_index film.rates actor) 0)
+      (λ actor. slice_index film.rates actor * paid_after (called (without set s) actor) (works film.casts actor) (slice_index film.days) later))
       ∙ sum_below-ext (length film.rates) _ _ (λ actor lt. by_actor actor)
     where
-      by_actor : (actor : ℕ) → slice_index film.days s * cond (is_paid (called set actor) (works film actor) s later) (slice_index film.rates actor) 0
-          + slice_index film.rates actor * paid_after (called (without set s) actor) (works film actor) (slice_index film.days) later
-          ≡ slice_index film.rates actor * paid_after (called set actor) (works film actor) (slice_index film.days) (s ∷ later)
+      by_actor : (actor : ℕ) → slice_index film.days s * cond (is_paid (called set actor) (works film.casts actor) s later) (slice_index film.rates actor) 0
+          + slice_index film.rates actor * paid_after (called (without set s) actor) (works film.casts actor) (slice_index film.days) later
+          ≡ slice_index film.rates actor * paid_after (called set actor) (works film.casts actor) (slice_index film.days) (s ∷ later)
       by_actor actor =
-          ap (λ (b : Bool). slice_index film.days s * cond (is_paid (called set actor) (works film actor) s later) (slice_index film.rates actor) 0
-          + slice_index film.rates actor * paid_after b (works film actor) (slice_index film.days) later)
+          ap (λ (b : Bool). slice_index film.days s * cond (is_paid (called set actor) (works film.casts actor) s later) (slice_index film.rates actor) 0
+          + slice_index film.rates actor * paid_after b (works film.casts actor) (slice_index film.days) later)
           (called_next set s actor lies each.0.0)
           ∙ days_and_rate (slice_index film.days s) (slice_index film.rates actor)
-          (paid_after (called set actor || works film actor s) (works film actor) (slice_index film.days) later)
-          (is_paid (called set actor) (works film actor) s later)
+          (paid_after (called set actor || works film.casts actor s) (works film.casts actor) (slice_index film.days) later)
+          (is_paid (called set actor) (works film.casts actor) s later)
 
   -- at first nobody was called
   nobody_called : (actor : ℕ) → called (all_scenes film) actor ≡ false
@@ -182,7 +182,7 @@ module _ (film : FilmData) (is : IsFilm film) where
     | inr none ↦ none
   ]
     where
-      contradicts : (x : ℕ) × (has (minus (all_scenes film) (all_scenes film)) x ≡ true) × (works film actor x ≡ true) → ⊥
+      contradicts : (x : ℕ) × (has (minus (all_scenes film) (all_scenes film)) x ≡ true) × (works film.casts actor x ≡ true) → ⊥
       contradicts (x, shot, working) =
           let parts : (has (all_scenes film) x ≡ true) × (not (has (all_scenes film) x) ≡ true)
           = both (has (all_scenes film) x) (not (has (all_scenes film) x)) (sym (has-minus (all_scenes film) (all_scenes film) x) ∙ shot) in
@@ -195,5 +195,5 @@ module _ (film : FilmData) (is : IsFilm film) where
       steps_by_actors (all_scenes film) order (LiesBelow-full (length film.casts)) each
       ∙ sum_below-ext (length film.rates) _ _ (λ actor lt.
       ap (λ (n : ℕ). slice_index film.rates actor * n)
-      (ap (λ (b : Bool). paid_after b (works film actor) (slice_index film.days) order) (nobody_called actor)
-      ∙ paid_after-new (works film actor) (slice_index film.days) order))
+      (ap (λ (b : Bool). paid_after b (works film.casts actor) (slice_index film.days) order) (nobody_called actor)
+      ∙ paid_after-new (works film.casts actor) (slice_index film.days) order))

@@ -30,7 +30,7 @@ abbrev pub least_of : (ℕ → ℕ) → ℕ → List ℕ → ℕ
 least_of f x [] = f x
 least_of f x (y ∷ ys) = min (f x) (least_of f y ys)
 
--- the least cost of a first step and the static bound of what then remains, where the set isn't empty
+-- the least, over the scenes of a list, of a step and the static bound of what then remains; `none` where the list is empty
 abbrev pub least_step : StaticBound → FilmData → ℕ → ℕ → List ℕ → ℕ
 least_step bound film set none [] = none
 least_step bound film set none (scene ∷ scenes) =

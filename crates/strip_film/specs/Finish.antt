@@ -18,7 +18,7 @@ rest_after set (scene ∷ scenes) = rest_after (without set scene) scenes
 abbrev pub EachOnce : ℕ → List ℕ → Type 0
 EachOnce set scenes = Remained set scenes × (rest_after set scenes ≡ 0)
 
--- the sum of the steps along a list
+-- the tail of a list: the sum of the steps along it, while the set remains at its start
 abbrev pub steps_cost : FilmData → ℕ → List ℕ → ℕ
 steps_cost film set [] = 0
 steps_cost film set (scene ∷ scenes) = step_cost film set scene + steps_cost film (without set scene) scenes

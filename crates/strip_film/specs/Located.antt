@@ -4,11 +4,11 @@ use Rattle.strip_mask.specs.Set.{has}
 use Rattle.strip_film.specs.Film.{FilmData}
 use Rattle.strip_film.specs.Pay.{works}
 
--- in some scene of the set
+-- the actor works in some scene of the set
 abbrev pub WorksInside : FilmData → ℕ → ℕ → Type 0
-WorksInside film set actor = (scene : ℕ) × (has set scene ≡ true) × (works film actor scene ≡ true)
+WorksInside film set actor = (scene : ℕ) × (has set scene ≡ true) × (works film.casts actor scene ≡ true)
 
--- in some scene of the film outside the set
+-- the actor works in some scene of the film outside the set
 abbrev pub WorksOutside : FilmData → ℕ → ℕ → Type 0
 WorksOutside film set actor =
-    (scene : ℕ) × (scene < length film.casts) × (has set scene ≡ false) × (works film actor scene ≡ true)
+    (scene : ℕ) × (scene < length film.casts) × (has set scene ≡ false) × (works film.casts actor scene ≡ true)

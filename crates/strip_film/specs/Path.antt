@@ -33,6 +33,6 @@ AreFirsts firsts film set [] = Unit {0}
 AreFirsts firsts film set (scene ∷ scenes) =
     (has (firsts film set) scene ≡ true) × AreFirsts firsts film (without set scene) scenes
 
--- an open path, over a choice of first scenes
+-- an open path, over a choice of first scenes: each of its scenes was one that may be first
 abbrev pub IsOpen : Firsts → FilmData → PathData → Type 0
 IsOpen firsts film path = IsPath film path × AreFirsts firsts film (all_scenes film) path.scenes

@@ -5,9 +5,9 @@ use Rattle.strip_mask.specs.Sums.{sum_below}
 use Rattle.strip_film.specs.Film.{FilmData}
 use Rattle.strip_film.specs.Order.{IsOrder}
 
--- whether the actor works in the scene
-abbrev pub works : FilmData → ℕ → ℕ → Bool
-works film actor scene = has (slice_index film.casts scene) actor
+-- whether the actor works in the scene, by the scenes' casts
+abbrev pub works : List ℕ → ℕ → ℕ → Bool
+works casts actor scene = has (slice_index casts scene) actor
 
 -- the list from the first number that passes on; empty where none passes
 abbrev pub from_first : (ℕ → Bool) → List ℕ → List ℕ
@@ -19,13 +19,17 @@ abbrev pub to_last : (ℕ → Bool) → List ℕ → List ℕ
 to_last p xs = reverse (from_first p (reverse xs))
 
 -- the days that an actor is paid for: those of the scenes from his first in the order to his last
-abbrev pub paid_days : FilmData → List ℕ → ℕ → ℕ
-paid_days film order actor =
-    sum_by (slice_index film.days) (to_last (works film actor) (from_first (works film actor) order))
+abbrev pub paid_days : List ℕ → List ℕ → List ℕ → ℕ → ℕ
+paid_days casts days order actor = sum_by (slice_index days) (to_last (works casts actor) (from_first (works casts actor) order))
 
--- the pay of an order
+-- the pay of an order, by the scenes' casts and days and the actors' rates
+abbrev pub pay_by_lists : List ℕ → List ℕ → List ℕ → List ℕ → ℕ
+pay_by_lists casts days rates order =
+    sum_below (length rates) (λ actor. slice_index rates actor * paid_days casts days order actor)
+
+-- the pay of an order of the film
 abbrev pub pay_of : FilmData → List ℕ → ℕ
-pay_of film order = sum_below (length film.rates) (λ actor. slice_index film.rates actor * paid_days film order actor)
+pay_of film order = pay_by_lists film.casts film.days film.rates order
 
 -- the optimum: some order of the film pays this, and none pays less
 pub record IsOptimum (film : FilmData) (pay : ℕ) : Type 0 where

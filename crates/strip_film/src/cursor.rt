@@ -22,6 +22,7 @@ impl Cursor {
         Cursor { task, last: None }
     }
 
+    /// The number of the task: the part of a search that the cursor stands in.
     pub fn task(&self) -> u32
         ensures { result ≡ self.now.task }
     {

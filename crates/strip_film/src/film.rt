@@ -7,13 +7,13 @@ use strip_io::Memory;
 use strip_mask::Mask;
 
 /// How many scenes a film has at most, and how many actors.
-const MAX: usize = 64;
+const MAX_COUNT: usize = 64;
 
-/// The greatest sum of the scenes' days.
-const MAX_DAYS: u64 = 19_800;
+/// The greatest sum of the scenes' days: 200 scenes of 99 days.
+const MAX_DAY_SUM: u64 = 19_800;
 
-/// The greatest sum of the actors' rates.
-const MAX_RATES: u64 = 64_000_000_000;
+/// The greatest sum of the actors' rates: 64 actors of 1,000,000,000.
+const MAX_RATE_SUM: u64 = 64_000_000_000;
 
 /// The scenes and actors of a film, by number: who works in a scene, its days, and what an actor
 /// gets for a day. A cast is a mask of actor numbers.
@@ -39,8 +39,9 @@ impl Model for Film {
 
 impl Film {
     /// The film of these casts, days and rates, where they keep the limits: 1 to 64 scenes with as
-    /// many numbers of days, none of them 0, at most 64 actors, sums within the limits, and no cast
-    /// with a bit that is no actor. It takes no memory.
+    /// many numbers of days, none of them 0 and together at most 19,800; at most 64 actors, with rates
+    /// for a day of together at most 64,000,000,000; and no cast with a bit that is no actor. It takes
+    /// no memory.
     pub fn of(casts: Vec<u64>, days: Vec<u64>, rates: Vec<u64>) -> Option<Film>
         ensures limits { IsSome result ↔ IsFilm (record { casts = casts.items; days = days.items; rates = rates.items }) }
         ensures same { IfSome result (λ film. film ≡ record { casts = casts.items; days = days.items; rates = rates.items }) }
@@ -89,7 +90,7 @@ impl Film {
         &self.days
     }
 
-    /// What each actor gets for a day, in units of money.
+    /// What each actor gets for a day, in whole units of money, by actor number.
     pub fn rates(&self) -> &[u64]
         ensures rates { result.now ≡ self.now.rates }
         ensures limits { IsFilm self.now }
@@ -97,7 +98,7 @@ impl Film {
         &self.rates
     }
 
-    /// An equal film.
+    /// An equal film, with lists of its own. It fails only where memory runs out.
     pub fn copy(&self) -> Result<Film, Memory>
         ensures { IfOk result (λ film. film ≡ self.now) }
     {
@@ -126,12 +127,12 @@ fn keeps_limits(casts: &[u64], days: &[u64], rates: &[u64]) -> bool
     ensures { IsTrue result ↔ IsFilm (record { casts = casts.now; days = days.now; rates = rates.now }) }
 {
     !casts.is_empty()
-        && casts.len() <= MAX
+        && casts.len() <= MAX_COUNT
         && days.len() == casts.len()
-        && rates.len() <= MAX
+        && rates.len() <= MAX_COUNT
         && days.iter().all(|count| *count > 0)
-        && add_up_to_at_most(days, MAX_DAYS)
-        && add_up_to_at_most(rates, MAX_RATES)
+        && add_up_to_at_most(days, MAX_DAY_SUM)
+        && add_up_to_at_most(rates, MAX_RATE_SUM)
         && all_lie_below(casts, rates.len())
 }
 

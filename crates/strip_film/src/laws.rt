@@ -30,7 +30,7 @@ pub fn finishing_everything_is_the_optimum()
         → IsFinish film (all_scenes film) cost ↔ IsOptimum film cost }
 {}
 
-/// Every set of scenes has a list of least tail.
+/// Every set of scenes has a cost of finishing it: some list has the least tail.
 pub fn a_least_tail_exists()
     ensures { (film : FilmData) (set : ℕ) → IsSet set → (cost : ℕ) × IsFinish film set cost }
 {}

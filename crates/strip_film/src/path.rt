@@ -58,7 +58,8 @@ impl Path {
         self.paid
     }
 
-    /// The path with scene `s` shot next.
+    /// The path with scene `s`, one that remains, shot next and its step paid. A copy, and the time of
+    /// `step`.
     pub fn extend(&self, film: &Film, s: u32) -> Path
         requires path { IsPath film.now (shown self.now) }
         requires remains { has (shown self.now).rest s ≡ true }

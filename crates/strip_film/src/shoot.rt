@@ -7,7 +7,7 @@ ghost use Rattle.strip_film.specs.Shoot.{cast_of, on_location, step_cost};
 use crate::film::Film;
 use strip_mask::{Mask, sum_over};
 
-/// Who works in some scene of the set: one turn for each scene of it.
+/// Who works in some scene of the set, as a set of actor numbers. One turn for each scene of it.
 pub fn cast_of(film: &Film, q: Mask) -> Mask
     requires { LiesIn film.now q.0 }
     ensures { result.0 ≡ cast_of film.now q.0 }
@@ -20,8 +20,8 @@ pub fn cast_of(film: &Film, q: Mask) -> Mask
     cast
 }
 
-/// Who is on location while the set remains: who works in a scene of it and in one outside it. One
-/// turn for each scene of the film.
+/// Who is on location while the set remains, as a set of actor numbers: who works in a scene of it
+/// and in one outside it. One turn for each scene of the film.
 pub fn on(film: &Film, q: Mask) -> Mask
     requires { LiesIn film.now q.0 }
     ensures { result.0 ≡ on_location film.now q.0 }
@@ -29,8 +29,8 @@ pub fn on(film: &Film, q: Mask) -> Mask
     cast_of(film, q).meet(cast_of(film, film.all().minus(q)))
 }
 
-/// What it costs to shoot scene `s` next while the set remains: its days, for its cast and for
-/// whoever is on location. One turn for each scene of the film and each actor who is paid.
+/// What it costs, in units of money, to shoot scene `s` next while the set remains: its days at the
+/// rates of its cast and of whoever is on location. One turn for each scene of the film and each actor who is paid.
 pub fn step(film: &Film, q: Mask, s: u32) -> u64
     requires lies { LiesIn film.now q.0 }
     requires remains { has q.0 s ≡ true }

@@ -1,5 +1,5 @@
 -- Laws of sets, as `sets_are_by_members` states them.
-use Rattle.std.specs.Prelude.{◌≡◌, ◌≢◌, ◌↔◌, ℕ, ◌+◌, ◌<◌, ◌≤◌, true, false, not, ◌&&◌, ◌||◌, eqb, List, slice_index, Contains, Some}
+use Rattle.std.specs.Prelude.{◌≡◌, ◌≢◌, ◌↔◌, ℕ, ◌+◌, ◌<◌, ◌≤◌, true, false, not, ◌&&◌, ◌||◌, eqb, List, slice_index, Contains, Some, None}
 use Rattle.std.specs.List.Sorted.{IsStrictlyIncreasing}
 use Rattle.strip_mask.specs.Set.{IsSet, has, with, without, union, meet, minus, members, size, first, sum_over}
 
@@ -26,6 +26,14 @@ SumsAddUp = (v : List ℕ) (a b : ℕ) → ((i : ℕ) → has a i ≡ true → h
 -- the sum over a part of a set is at most the sum over the set
 abbrev pub NoMoreThanTheWhole : Type 0
 NoMoreThanTheWhole = (v : List ℕ) (a b : ℕ) → ((i : ℕ) → has a i ≡ true → has b i ≡ true) → sum_over v a ≤ sum_over v b
+
+-- the empty set has no member and no first, and its size and sums are 0
+abbrev pub EmptyHasNone : Type 0
+EmptyHasNone = ((i : ℕ) → has 0 i ≡ false) × (first 0 ≡ None) × (size 0 ≡ 0) × ((v : List ℕ) → sum_over v 0 ≡ 0)
+
+-- the members of a set are below 64
+abbrev pub MembersBelow64 : Type 0
+MembersBelow64 = (a i : ℕ) → IsSet a → has a i ≡ true → i < 64
 
 -- a set that isn't empty has a least member, which is its first
 abbrev pub HasLeastMember : Type 0

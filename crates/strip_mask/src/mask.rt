@@ -2,16 +2,17 @@
 ghost use Rattle.std.specs.Prelude.{◌≡◌, ◌↔◌, ℕ, ◌^◌, ◌<◌, ◌≤◌, true, length, IfSome, IsTrue, Some};
 ghost use Rattle.std.specs.Iterator.{UpTo, YieldsFirst, item_count};
 ghost use Rattle.std.specs.Iterator.SizeHint.{IsWithinCount};
-ghost use Rattle.strip_mask.specs.Laws.{AddsItsValue, HasLeastMember, MadeByMembers, MembersRise, NoMoreThanTheWhole, OneFewer, SameMembersSameSet, SumsAddUp};
+ghost use Rattle.strip_mask.specs.Laws.{AddsItsValue, EmptyHasNone, HasLeastMember, MadeByMembers, MembersBelow64, MembersRise, NoMoreThanTheWhole, OneFewer, SameMembersSameSet, SumsAddUp};
 ghost use Rattle.strip_mask.specs.Iter.{rest_of};
 ghost use Rattle.strip_mask.specs.Set.{first, has, meet, members, minus, size, sum_over, union, with, without};
 
-/// A set of numbers below 64: bit `i` stands for number `i`.
+/// A set of numbers below 64: bit `i` stands for number `i`. Each call but the turns of `iter` is a
+/// few instructions.
 #[derive(Clone, Copy, Debug, PartialEq, Eq)]
 pub struct Mask(pub u64);
 
 impl Mask {
-    /// Whether the set has the number.
+    /// Whether the set has the number, which is below 64.
     pub fn has(self, i: u32) -> bool
         requires { i < 64 }
         ensures { result ≡ has self.0 i }
@@ -19,7 +20,7 @@ impl Mask {
         self.0 >> i & 1 == 1
     }
 
-    /// The set with this number in it.
+    /// The set with this number, which is below 64, in it.
     pub fn with(self, i: u32) -> Mask
         requires { i < 64 }
         ensures { result.0 ≡ with self.0 i }
@@ -27,7 +28,7 @@ impl Mask {
         Mask(self.0 | 1 << i)
     }
 
-    /// The set without this number.
+    /// The set without this number, which is below 64.
     pub fn without(self, i: u32) -> Mask
         requires { i < 64 }
         ensures { result.0 ≡ without self.0 i }
@@ -134,7 +135,8 @@ impl Iterator for MaskIter {
     }
 }
 
-/// The sum of the values at the numbers of the set.
+/// The sum of the values at the numbers of the set, each of which is a place of the slice; it is below
+/// 2^64. One turn for each number.
 pub fn sum_over(values: &[u64], m: Mask) -> u64
     requires within { (i : ℕ) → has m.0 i ≡ true → i < length values.now }
     requires fits { sum_over values.now m.0 < 2 ^ 64 }
@@ -155,6 +157,8 @@ pub fn sets_are_by_members()
     ensures adds { AddsItsValue }
     ensures apart { SumsAddUp }
     ensures part { NoMoreThanTheWhole }
+    ensures empty { EmptyHasNone }
+    ensures below { MembersBelow64 }
     ensures least { HasLeastMember }
     ensures rising { MembersRise }
 {}

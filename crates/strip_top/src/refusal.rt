@@ -7,7 +7,7 @@ use std::fmt;
 /// How many bytes an instance file may have.
 pub const MAX_FILE: u64 = 1_048_576;
 
-/// How many classes of scenes are solved.
+/// How many classes of scenes are solved. Each scene is a class of its own: scenes aren't merged.
 pub const MAX_CLASSES: usize = 8;
 
 /// Why there is nothing to print but an error row, as which a refusal is displayed.
