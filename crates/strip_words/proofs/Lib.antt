@@ -1,0 +1,5 @@
+pub mod Members
+pub mod Marks
+pub mod Spelled
+pub mod Sayings
+pub mod Shows

@@ -1,0 +1,4 @@
+pub mod Words
+pub mod Solve
+pub mod Reading
+pub mod Shown
