@@ -1,0 +1,5 @@
+pub mod Field
+pub mod Checks
+pub mod Faults
+pub mod Text
+pub mod Shown

@@ -1,0 +1,133 @@
+// What the bytes of a field are.
+ghost use Rattle.std.specs.Prelude.{◌≡◌, true, false, reverse, MatchOption, IfOk};
+ghost use Rattle.std.specs.List.{list_all};
+ghost use Rattle.std.specs.Str.{is_utf8, all_ascii_digits};
+ghost use Rattle.strip_instance.specs.declared.fault.InstanceFault.TheVariants.{NotUtf8};
+ghost use Rattle.strip_instance.specs.Field.{is_blank, is_kept, is_mark, is_name, is_name_byte, is_number, is_scene_name, is_word, number_of, trimmed, without_front_blanks, works};
+ghost use Rattle.strip_instance.specs.Checks.{Makes, checks_of_one};
+
+use crate::fault::InstanceFault;
+use std::str;
+use strip_model::MAX_NAME;
+
+/// The field without the spaces and tabs at its ends.
+pub(crate) fn trimmed(field: &[u8]) -> &[u8]
+    ensures { result.now ≡ trimmed field.now }
+{
+    without_back_blanks(without_front_blanks(field))
+}
+
+fn without_front_blanks(field: &[u8]) -> &[u8]
+    ensures { result.now ≡ without_front_blanks field.now }
+{
+    let mut rest = field;
+    while let [byte, tail @ ..] = rest {
+        if !is_blank(*byte) {
+            return rest;
+        }
+        rest = tail;
+    }
+    rest
+}
+
+fn without_back_blanks(field: &[u8]) -> &[u8]
+    ensures { result.now ≡ reverse (without_front_blanks (reverse field.now)) }
+{
+    let mut rest = field;
+    while let [front @ .., byte] = rest {
+        if !is_blank(*byte) {
+            return rest;
+        }
+        rest = front;
+    }
+    rest
+}
+
+fn is_blank(byte: u8) -> bool
+    ensures { result ≡ is_blank byte }
+{
+    byte == b' ' || byte == b'\t'
+}
+
+/// Whether the field is the word in any case of ASCII letters.
+pub(crate) fn is_word(word: &[u8], field: &[u8]) -> bool
+    ensures { result ≡ is_word word.now field.now }
+{
+    field.eq_ignore_ascii_case(word)
+}
+
+pub(crate) fn is_name(field: &[u8]) -> bool
+    ensures { result ≡ is_name field.now }
+{
+    !field.is_empty() && field.len() <= MAX_NAME && are_name_bytes(field)
+}
+
+fn are_name_bytes(bytes: &[u8]) -> bool
+    ensures { result ≡ list_all is_name_byte bytes.now }
+{
+    bytes.iter().all(|byte| is_name_byte(*byte))
+}
+
+fn is_name_byte(byte: u8) -> bool
+    ensures { result ≡ is_name_byte byte }
+{
+    byte >= 0x20 && byte != 0x7f
+}
+
+pub(crate) fn is_scene_name(field: &[u8]) -> bool
+    ensures { result ≡ is_scene_name field.now }
+{
+    is_name(field) && !is_kept(field)
+}
+
+fn is_kept(field: &[u8]) -> bool
+    ensures { result ≡ is_kept field.now }
+{
+    is_word(b"rate", field) || is_word(b"hold", field) || is_word(b"before", field)
+}
+
+/// The number that the field's digits spell, where it lies within these ends.
+pub(crate) fn number_of(field: &[u8], least: u64, most: u64) -> Option<u64>
+    ensures { MatchOption result (is_number least most field.now ≡ false)
+        (λ number. (is_number least most field.now ≡ true) × (number ≡ number_of field.now)) }
+{
+    if !are_digits(field) {
+        return None;
+    }
+    let Ok(digits) = str::from_utf8(field) else {
+        return None;
+    };
+    let Ok(number) = digits.parse::<u64>() else {
+        return None;
+    };
+    (least <= number && number <= most).then_some(number)
+}
+
+fn are_digits(bytes: &[u8]) -> bool
+    ensures { result ≡ all_ascii_digits bytes.now }
+{
+    bytes.iter().all(|byte| byte.is_ascii_digit())
+}
+
+/// Whether the mark says that the actor works; none where the field is no mark.
+pub(crate) fn mark_meaning(field: &[u8]) -> Option<bool>
+    ensures { MatchOption result (is_mark field.now ≡ false)
+        (λ working. (is_mark field.now ≡ true) × (working ≡ works field.now)) }
+{
+    match field {
+        b"x" | b"X" | b"1" => Some(true),
+        b"" | b"." | b"-" | b"0" => Some(false),
+        _ => None,
+    }
+}
+
+/// The field as text.
+pub(crate) fn text_of(field: &[u8], row: u64, col: u64) -> Result<&str, InstanceFault>
+    ensures makes { Makes (checks_of_one (is_utf8 field.now) (NotUtf8 row col)) result }
+    ensures same { IfOk result (λ text. text.now ≡ field.now) }
+{
+    match str::from_utf8(field) {
+        Ok(text) => Ok(text),
+        Err(_) => Err(InstanceFault::NotUtf8 { row, col }),
+    }
+}
