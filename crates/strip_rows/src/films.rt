@@ -1,6 +1,5 @@
 // Films whose cheapest orders were found by another program, from first and last positions.
-use crate::runs::{SOLVE, check};
-use std::alloc::{AllocError, Global};
+use crate::runs::{SOLVE, check, solved};
 use std::test::Fail;
 
 struct Film {
@@ -137,16 +136,10 @@ static FILMS: [Film; 12] = [
     },
 ];
 
-fn printed(alloc: Global, film: &Film) -> Result<String, AllocError> {
-    let pay = film.pay;
-    let order = film.order;
-    format!(in alloc; "status,optimal\ncost,{pay}\nbound,{pay}\nlines,0\norder,{order}\n")
-}
-
 #[test]
 fn random_films_are_solved(rt: HostRuntime) -> Result<(), Fail> {
     for film in &FILMS {
-        let printed = printed(rt.alloc(), film)?;
+        let printed = solved(rt.alloc(), film.pay, film.order)?;
         check(&rt, &SOLVE, film.text.as_bytes(), 0, printed.as_str())?;
     }
     Ok(())

@@ -2,6 +2,8 @@
 #![tactic(auto)]
 
 #[cfg(test)]
+mod exports;
+#[cfg(test)]
 mod faults;
 #[cfg(test)]
 mod films;
@@ -9,3 +11,5 @@ mod films;
 mod refusals;
 #[cfg(test)]
 mod runs;
+#[cfg(test)]
+mod words;

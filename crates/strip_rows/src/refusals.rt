@@ -1,56 +1,116 @@
-// Words and files that are refused.
-use crate::runs::{SOLVE, TRIANGLE, check};
+// Files that are refused.
+use crate::runs::{SOLVE, check};
+use std::alloc::{AllocError, Global};
 use std::test::Fail;
 
-#[test]
-fn words_that_name_no_job_are_refused(rt: HostRuntime) -> Result<(), Fail> {
-    let all: [&[&str]; 5] = [
-        &[],
-        &["solve"],
-        &["solve", "a", "b"],
-        &["solve", "-x"],
-        &["check", "f", "p"],
-    ];
-    for words in all {
-        check(&rt, words, TRIANGLE.as_bytes(), 2, "error,Words,,\n")?;
-    }
-    Ok(())
-}
-
-#[test]
-fn texts_out_of_the_plain_form_are_refused(rt: HostRuntime) -> Result<(), Fail> {
-    let texts = [
-        // nothing, and a film that is cut inside a row
-        "",
-        "scene,days,a,b\nrate,,5,6\ns1,1,x\n",
-        // a space behind a name, and rows that end as on other systems
-        "scene,days,a,b,c\nrate,,1,2,3\ns1 ,1,x,x,.\ns2,1,.,x,x\ns3,1,x,.,x\n",
-        "scene,days,a\r\nrate,,100\r\ns1,2,x\r\n",
-        // beyond the limits
-        "scene,days,a\nrate,,1000000001\ns1,2,x\n",
-        "scene,days,a\nrate,,100\ns1,0,x\n",
-        "scene,days,a\nrate,,100\ns1,100,x\n",
-        "scene,days,a\nrate,,100\ns1,2,x\ns1,3,x\n",
+const REFUSED: [(&str, &str); 21] = [
+    ("", "error,Empty,,\n"),
+    ("\u{feff}\r\n\r\n", "error,Empty,,\n"),
+    ("s1,2,x\n", "error,BadHeader,,\n"),
+    ("scene,days,a\n", "error,NoRateRow,,\n"),
+    ("scene,days,a,b\nrate,,5\ns1,1,x,x\n", "error,Width,2,\n"),
+    // cut inside quotes, and inside a row
+    (
+        "scene,days,a,b\nrate,,5,6\n\"s1,1,x,x\n",
+        "error,Width,3,\n",
+    ),
+    ("scene,days,a,b\nrate,,5,6\ns1,1,x\n", "error,Width,3,\n"),
+    (
+        "scene,days,a,b\nrate,,5,6\ns1,1,x,x\n,\n\ns2,1,x",
+        "error,Width,5,\n",
+    ),
+    (
+        "scene,days,a,\nrate,,5,6\ns1,1,x,x\n",
+        "error,BadName,1,4\n",
+    ),
+    ("scene,days,a\nrate,,100\nHold,2,x\n", "error,BadName,3,1\n"),
+    (
         "scene,days,a\nrate,,100\n\
             a2345678901234567890123456789012345678901234567890123456789012345,2,x\n",
-    ];
-    for text in texts {
-        check(&rt, &SOLVE, text.as_bytes(), 5, "error,NotPlain,,\n")?;
+        "error,BadName,3,1\n",
+    ),
+    (
+        "scene,days,a\nrate,,100\ns1,2,x\ns1,3,x\n",
+        "error,DuplicateScene,4,\n",
+    ),
+    (
+        "scene,days,a,a\nrate,,5,6\ns1,1,x,x\n",
+        "error,DuplicateActor,,4\n",
+    ),
+    // beyond the limits
+    (
+        "scene,days,a\nrate,,1000000000\ns1,0,x\n",
+        "error,BadDays,3,\n",
+    ),
+    (
+        "scene,days,a\nrate,,1000000000\ns1,100,x\n",
+        "error,BadDays,3,\n",
+    ),
+    (
+        "scene,days,a\nrate,,1000000001\ns1,99,x\n",
+        "error,BadRate,,3\n",
+    ),
+    (
+        "scene,days,a,b\nrate,,5,5.5\ns1,99,x,x\n",
+        "error,BadRate,,4\n",
+    ),
+    ("scene,days,a\nrate,,100\ns1,2,y\n", "error,BadMark,3,3\n"),
+    (
+        "scene,days,a,b\nrate,,5,6\ns1,2,x,x\n\n,,,\ns2,2,x,?\n",
+        "error,BadMark,5,4\n",
+    ),
+    ("scene,days,a\nrate,,100\n", "error,NoScene,,\n"),
+    ("scene,days,a\nrate,,100\n,,\n,\n", "error,NoScene,,\n"),
+];
+
+#[test]
+fn texts_that_say_no_film_are_refused(rt: HostRuntime) -> Result<(), Fail> {
+    for (text, row) in &REFUSED {
+        check(&rt, &SOLVE, text.as_bytes(), 5, row)?;
     }
-    Ok(())
+    let latin = b"scene,days,a\nrate,,100\ncaf\xe9,2,x\n";
+    check(&rt, &SOLVE, latin, 5, "error,NotUtf8,3,1\n")
+}
+
+/// A film of this many scenes where nobody plays.
+fn with_scenes(alloc: Global, scenes: u64) -> Result<String, AllocError> {
+    let mut text = String::from_str(alloc, "scene,days\nrate,\n")?;
+    for number in 0..scenes {
+        let row = format!(in alloc; "s{number},1\n")?;
+        text.push_str(row.as_str())?;
+    }
+    Ok(text)
 }
 
 #[test]
 fn nine_scenes_are_too_many(rt: HostRuntime) -> Result<(), Fail> {
-    let film = "scene,days\nrate,\ns1,1\ns2,1\ns3,1\ns4,1\ns5,1\ns6,1\ns7,1\ns8,1\ns9,1\n";
-    check(&rt, &SOLVE, film.as_bytes(), 5, "error,TooManyClasses,9,\n")
+    for (scenes, row) in [
+        (9, "error,TooManyClasses,9,\n"),
+        (200, "error,TooManyClasses,200,\n"),
+        (201, "error,TooManyScenes,,\n"),
+    ] {
+        let film = with_scenes(rt.alloc(), scenes)?;
+        check(&rt, &SOLVE, film.as_bytes(), 5, row)?;
+    }
+    Ok(())
+}
+
+#[test]
+fn a_65th_actor_is_too_many(rt: HostRuntime) -> Result<(), Fail> {
+    let alloc = rt.alloc();
+    let mut film = String::from_str(alloc, "scene,days")?;
+    for number in 0..65 {
+        let field = format!(in alloc; ",a{number}")?;
+        film.push_str(field.as_str())?;
+    }
+    check(&rt, &SOLVE, film.as_bytes(), 5, "error,TooManyActors,,\n")
 }
 
 #[test]
 fn a_file_is_at_most_a_mebibyte(rt: HostRuntime) -> Result<(), Fail> {
     let alloc = rt.alloc();
     let longest = vec![in alloc; b'a'; 1_048_576]?;
-    check(&rt, &SOLVE, &longest, 5, "error,NotPlain,,\n")?;
+    check(&rt, &SOLVE, &longest, 5, "error,BadHeader,,\n")?;
     let longer = vec![in alloc; b'a'; 1_048_577]?;
     check(&rt, &SOLVE, &longer, 5, "error,TooLong,,\n")
 }

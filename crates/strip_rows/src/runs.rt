@@ -50,21 +50,44 @@ pub(crate) fn check(
     check_over(rt, words, &mut files, status, printed)
 }
 
+/// What is printed for a film that is solved.
+pub(crate) fn solved(alloc: Global, pay: &str, order: &str) -> Result<String, AllocError> {
+    format!(in alloc; "status,optimal\ncost,{pay}\nbound,{pay}\nlines,0\norder,{order}\n")
+}
+
+// A film, its least pay, and the first order that costs it.
+const WORKED: [(&str, &str, &str); 6] = [
+    (TRIANGLE, "13", "s1,s2,s3"),
+    (
+        "scene,days,a1,a2\nrate,,10,20\ns1,1,x,.\ns2,1,.,x\ns3,1,x,x\n",
+        "60",
+        "s1,s3,s2",
+    ),
+    ("scene,days,a\nrate,,100\ns1,2,x\n", "200", "s1"),
+    // two scenes of one cast apart in the file
+    (
+        "scene,days,a,b,c\nrate,,1,2,3\ns1,1,x,x,.\ns2,1,.,x,x\ns3,1,x,.,x\ns4,1,x,x,.\n",
+        "16",
+        "s1,s4,s2,s3",
+    ),
+    (
+        "scene,days,a,c\nrate,,5,7\ns1,1,x,x\ns2,1,x,.\ns3,1,x,x\n",
+        "29",
+        "s1,s3,s2",
+    ),
+    // one actor is paid nothing, and another works nowhere
+    (
+        "scene,days,a,z,y\nrate,,10,0,5\ns1,1,x,x,.\ns2,1,x,.,.\ns3,1,.,x,.\n",
+        "20",
+        "s1,s2,s3",
+    ),
+];
+
 #[test]
 fn worked_films_are_solved(rt: HostRuntime) -> Result<(), Fail> {
-    let films = [
-        (TRIANGLE, TRIANGLE_SOLVED),
-        (
-            "scene,days,a1,a2\nrate,,10,20\ns1,1,x,.\ns2,1,.,x\ns3,1,x,x\n",
-            "status,optimal\ncost,60\nbound,60\nlines,0\norder,s1,s3,s2\n",
-        ),
-        (
-            "scene,days,a\nrate,,100\ns1,2,x\n",
-            "status,optimal\ncost,200\nbound,200\nlines,0\norder,s1\n",
-        ),
-    ];
-    for (film, printed) in films {
-        check(&rt, &SOLVE, film.as_bytes(), 0, printed)?;
+    for (film, pay, order) in &WORKED {
+        let printed = solved(rt.alloc(), pay, order)?;
+        check(&rt, &SOLVE, film.as_bytes(), 0, printed.as_str())?;
     }
     Ok(())
 }
@@ -75,11 +98,6 @@ fn files_that_never_fail_are_solved(rt: HostRuntime) -> Result<(), Fail> {
     files.add("film.csv", TRIANGLE.as_bytes())?;
     check_over(&rt, &SOLVE, &mut files, 0, TRIANGLE_SOLVED)?;
     // A name that was never added is an empty file there, which is no film.
-    check_over(
-        &rt,
-        &["solve", "other.csv"],
-        &mut files,
-        5,
-        "error,NotPlain,,\n",
-    )
+    let words = ["solve", "other.csv"];
+    check_over(&rt, &words, &mut files, 5, "error,Empty,,\n")
 }

@@ -1,9 +1,3 @@
 pub mod Lists
 pub mod Outcomes
-pub mod PlainRows
-pub mod PlainFields
-pub mod PlainCast
-pub mod PlainTexts
-pub mod PlainLines
-pub mod PlainInstance
-pub mod PlainLength
+pub mod Refusals

@@ -1,14 +1,14 @@
 -- What is due for the words and the files: a status and the text to print.
-use Rattle.std.specs.Prelude.{◌≡◌, ℕ, ◌≤◌, List, length, Option, Some}
+use Rattle.std.specs.Prelude.{◌≡◌, ℕ, ◌≤◌, List, length, Option, Some, Ok}
 use Rattle.strip_model.specs.Data.{InstanceData, IsInstance}
 use Rattle.strip_model.specs.Pay.{pay_of, IsFirstCheapest}
 use Rattle.strip_io.specs.Sink.{Took, TookFront}
+use Rattle.strip_instance.specs.Text.{SaysJust}
 use Rattle.strip_top.specs.declared.refusal.Refusal.{Refusal}
 use Rattle.strip_top.specs.declared.refusal.Refusal.TheVariants.{Words}
-use Rattle.strip_top.specs.declared.refusal.TheConstants.{MAX_CLASSES}
+use Rattle.strip_top.specs.declared.refusal.TheConstants.{MAX_FILE, MAX_CLASSES}
 use Rattle.strip_top.specs.declared.status.Status.{Status}
 use Rattle.strip_top.specs.declared.status.Status.TheVariants.{Solved, NoJob, Refused, ReadFault, WriteFault, OutOfMemory}
-use Rattle.strip_top.specs.Plain.{Spells}
 use Rattle.strip_top.specs.Words.{AsksToSolve, NameNoJob}
 use Rattle.strip_top.specs.Head.{head_rows}
 use Rattle.strip_top.specs.Refusal.{error_row, IsRefusedFor, IsOfFile}
@@ -17,14 +17,14 @@ use Rattle.strip_top.specs.Refusal.{error_row, IsRefusedFor, IsOfFile}
 abbrev pub WhereTold : Option (List ℕ) → (List ℕ → Type 0) → Type 0
 WhereTold told P = (text : List ℕ) → told ≡ Some text → P text
 
--- the printed text is the head rows of a cheapest order of the instance that the file's bytes are,
+-- the printed text is the head rows of a cheapest order of the instance that the file's bytes say,
 -- with its pay as cost and bound; no order of the instance pays less
 pub record IsSolution (told : Option (List ℕ)) (printed : List ℕ) : Type 0 where
   pub inst : InstanceData
   pub order : List ℕ
   pub is_instance : IsInstance inst
   pub few : length inst.scenes ≤ MAX_CLASSES
-  pub spelled : WhereTold told (λ text. Spells text inst)
+  pub spelled : WhereTold told (λ text. (length text ≤ MAX_FILE) × SaysJust text (Ok inst))
   pub cheapest : IsFirstCheapest inst order
   pub rows : printed ≡ head_rows inst order (pay_of inst order)
 

@@ -1,6 +1,4 @@
 pub mod Rows
-pub mod Plain
-pub mod PlainReading
 pub mod Words
 pub mod Head
 pub mod Refusal

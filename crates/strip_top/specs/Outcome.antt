@@ -1,11 +1,12 @@
 -- How a run ends: what each exit status says of the words, the files and the sink.
-use Rattle.std.specs.Prelude.{◌≡◌, ℕ, ◌<◌, ◌≤◌, ◌⊎◌, Bool, List, length, Option}
+use Rattle.std.specs.Prelude.{◌≡◌, ℕ, ◌<◌, ◌≤◌, ◌⊎◌, Bool, List, length, Option, Ok, Err}
 use Rattle.strip_model.specs.Data.{InstanceData}
 use Rattle.strip_io.specs.Counts.{Rose, ReadFailed}
+use Rattle.strip_instance.specs.declared.fault.InstanceFault.{InstanceFault}
+use Rattle.strip_instance.specs.Text.{Says}
 use Rattle.strip_top.specs.declared.status.Status.{Status}
 use Rattle.strip_top.specs.declared.status.Status.TheVariants.{Solved, NoJob, Refused, ReadFault, WriteFault, OutOfMemory}
 use Rattle.strip_top.specs.declared.refusal.TheConstants.{MAX_FILE, MAX_CLASSES}
-use Rattle.strip_top.specs.Plain.{IsPlainText}
 use Rattle.strip_top.specs.Words.{AsksToSolve}
 use Rattle.strip_top.specs.Due.{IsDue, Prints, PrintsFront}
 
@@ -30,15 +31,15 @@ JobReadFailed words held before now = (file : List ℕ) × AsksToSolve words fil
 abbrev pub IsDueText : List (List ℕ) → (List ℕ → Option (List ℕ)) → List ℕ → Type 0
 IsDueText words bytes printed = (status : Status) × IsDue words bytes status printed
 
--- a file with this text is not solved: it is too long, not in the plain form, or has too many classes
+-- a file with this text is not solved: it is too long, says a fault, or says an instance with too many classes
 abbrev pub IsUnfit : List ℕ → Type 0
 IsUnfit text =
-    (MAX_FILE < length text) ⊎ ((inst : InstanceData) → ¬ IsPlainText inst text)
-    ⊎ ((inst : InstanceData) × IsPlainText inst text × (MAX_CLASSES < length inst.scenes))
+    (MAX_FILE < length text) ⊎ ((fault : InstanceFault) × Says text (Err fault))
+    ⊎ ((inst : InstanceData) × Says text (Ok inst) × (MAX_CLASSES < length inst.scenes))
 
--- a file with this text is solved: it is the plain form of an instance with few enough classes
+-- a file with this text is solved: it isn't too long, and says an instance with few enough classes
 abbrev pub IsFit : List ℕ → Type 0
-IsFit text = (inst : InstanceData) × IsPlainText inst text × (length inst.scenes ≤ MAX_CLASSES)
+IsFit text = (length text ≤ MAX_FILE) × ((inst : InstanceData) × Says text (Ok inst) × (length inst.scenes ≤ MAX_CLASSES))
 
 -- what the sink took and which counts rose, by the status
 abbrev pub IsOutcome : List (List ℕ) → (List ℕ → Option (List ℕ)) → (List ℕ → Bool) → (List ℕ → ℕ) → (List ℕ → ℕ)

@@ -3,12 +3,13 @@
 
 mod answer;
 mod head;
-mod plain;
 mod program;
 mod refusal;
 mod status;
-mod words;
 
 pub use program::report;
 pub use refusal::{MAX_CLASSES, MAX_FILE, Refusal};
 pub use status::Status;
+
+#[cfg(test)]
+mod tests;

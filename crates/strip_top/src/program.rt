@@ -1,8 +1,9 @@
 // The whole program, over handed-in words, files and sink.
-ghost use Rattle.std.specs.Prelude.{◌≡◌, ◌⊎◌, ℕ, ◌≤◌, List, true, Some, string_bytes};
+ghost use Rattle.std.specs.Prelude.{◌≡◌, ◌⊎◌, ℕ, ◌≤◌, List, true, Some};
 ghost use Rattle.strip_io.specs.Counts.{Rose};
 ghost use Rattle.strip_io.specs.Sink.{Took, TookFront};
-ghost use Rattle.strip_top.specs.Words.{texts, AsksToSolve, NameNoJob};
+ghost use Rattle.strip_words.specs.Shown.{texts};
+ghost use Rattle.strip_top.specs.Words.{AsksToSolve, NameNoJob};
 ghost use Rattle.strip_top.specs.Due.{IsDue, Prints, PrintsFront};
 ghost use Rattle.strip_top.specs.Outcome.{IsOutcome, IsExitStatus, IsDueText, IsUnfit, IsFit, JobReadFailed};
 
@@ -10,9 +11,11 @@ use crate::answer::{Answer, Stop, answer_words};
 use crate::status::Status;
 use std::alloc::Global;
 use strip_io::{Failed, Files, Sink, send};
+use strip_words::words_name_one_job;
 
 /// Does all that the program does, and answers its exit status. It reads the file that the words
-/// ask to solve, prints an order of least pay, and takes all its memory before it writes.
+/// ask to solve, prints an order of least pay, and takes all its memory before it writes. The
+/// options of the words change nothing so far.
 pub fn report<F: Files, S: Sink>(alloc: Global, words: &[String], files: &mut F, out: &mut S) -> u8
     // What was printed and why, by the exit status.
     ensures solved { result ≡ 0
@@ -46,6 +49,8 @@ pub fn report<F: Files, S: Sink>(alloc: Global, words: &[String], files: &mut F,
     ensures others { (name : List ℕ) → ¬ AsksToSolve (texts words.now) name → F.faults files.new name ≡ F.faults files.old name }
     ensures writes { S.faults out.old ≤ S.faults out.new }
 {
+    // The words name one job at most, and so one file.
+    words_name_one_job();
     run(alloc, words, files, out).code()
 }
 
@@ -68,12 +73,12 @@ fn run<F: Files, S: Sink>(alloc: Global, words: &[String], files: &mut F, out: &
 
 /// Writes the answer's text, and gives its status where all of it was taken.
 fn print<S: Sink>(out: &mut S, answer: &Answer) -> Status
-    ensures ends { ((result ≡ answer.now.status) × Took (S.taken out.old) (S.taken out.new) (string_bytes answer.now.text))
+    ensures ends { ((result ≡ answer.now.status) × Took (S.taken out.old) (S.taken out.new) answer.now.text.items)
         ⊎ ((result ≡ Status.WriteFault) × Rose (S.faults out.old) (S.faults out.new)
-        × TookFront (S.taken out.old) (S.taken out.new) (string_bytes answer.now.text)) }
+        × TookFront (S.taken out.old) (S.taken out.new) answer.now.text.items) }
     ensures writes { S.faults out.old ≤ S.faults out.new }
 {
-    match send(out, answer.text.as_bytes()) {
+    match send(out, &answer.text) {
         Ok(()) => answer.status,
         Err(Failed) => Status::WriteFault,
     }
