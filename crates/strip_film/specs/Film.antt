@@ -1,31 +1,26 @@
--- A film as plain lists: the casts and days of its scenes and the rates of its actors, by number.
-use Rattle.std.specs.Prelude.{◌≡◌, ℕ, zero, suc, ◌<◌, ◌≤◌, true, List, length, sum, All}
-use Rattle.strip_mask.specs.Set.{has, with}
+-- A film within the limits, and sets of its scenes.
+use Rattle.std.specs.Prelude.{◌≡◌, ◌↔◌, ℕ, ◌<◌, ◌≤◌, true, List, length, slice_index, sum, All}
+use Rattle.strip_mask.specs.Set.{LiesBelow, full, has}
+use Rattle.strip_pay.specs.declared.pair.Pair.{Pair}
+use Rattle.strip_pay.specs.Film.{FilmData}
+use Rattle.strip_pay.specs.Pairs.{FitPairs, Precedes}
 
--- casts are sets of actors
-pub record FilmData : Type 0 where
-  pub casts : List ℕ
-  pub days : List ℕ
-  pub rates : List ℕ
+-- the film of these lists
+abbrev pub film_data : List ℕ → List ℕ → List ℕ → List ℕ → List Pair → FilmData
+film_data casts days rates holds pairs = record { casts = casts; days = days; rates = rates; holds = holds; pairs = pairs }
 
--- a set of numbers below n
-abbrev pub LiesBelow : ℕ → ℕ → Type 0
-LiesBelow n set = (i : ℕ) → has set i ≡ true → i < n
-
--- a film within the limits
+-- a film within the limits; casts are sets of actors
 pub record IsFilm (film : FilmData) : Type 0 where
   pub scene_count : (0 < length film.casts) × (length film.casts ≤ 64)
   pub day_count : length film.days ≡ length film.casts
   pub actor_count : length film.rates ≤ 64
+  pub hold_count : length film.holds ≡ length film.rates
   pub some_days : All (λ days. 0 < days) film.days
   pub day_sum : sum film.days ≤ 19800
   pub rate_sum : sum film.rates ≤ 64000000000
+  pub hold_sum : sum film.holds ≤ 64000000000
   pub casts : All (LiesBelow (length film.rates)) film.casts
-
--- all numbers below n
-abbrev pub full : ℕ → ℕ
-full zero = 0
-full (suc n) = with (full n) n
+  pub pairs : FitPairs (length film.casts) film.pairs
 
 -- all scenes of the film
 abbrev pub all_scenes : FilmData → ℕ
@@ -34,3 +29,7 @@ all_scenes film = full (length film.casts)
 -- the set lies in the film
 abbrev pub LiesIn : FilmData → ℕ → Type 0
 LiesIn film set = LiesBelow (length film.casts) set
+
+-- the table has for each scene the set of the scenes that a pair puts directly before it
+pub record TellsBefore (pairs : List Pair) (table : List ℕ) : Type 0 where
+  pub each : (scene first : ℕ) → (has (slice_index table scene) first ≡ true) ↔ Precedes pairs first scene

@@ -1,9 +1,8 @@
 pub mod Film
 pub mod Shoot
 pub mod Finish
-pub mod Order
-pub mod Pay
 pub mod Path
 pub mod Bounds
+pub mod Rules
 pub mod Shown
 pub mod Located

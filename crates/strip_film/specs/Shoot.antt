@@ -1,7 +1,9 @@
 -- The state of a shoot, when a set of scenes remains.
-use Rattle.std.specs.Prelude.{ℕ, ◌*◌, fold, slice_index}
-use Rattle.strip_mask.specs.Set.{union, meet, minus, members, sum_over}
-use Rattle.strip_film.specs.Film.{FilmData, all_scenes}
+use Rattle.std.specs.Prelude.{ℕ, ◌+◌, ◌*◌, if◌then◌else◌, List, fold, slice_index}
+use Rattle.strip_mask.specs.Set.{has, with, union, meet, minus, members, sum_over}
+use Rattle.strip_pay.specs.declared.pair.Pair.{Pair}
+use Rattle.strip_pay.specs.Film.{FilmData}
+use Rattle.strip_film.specs.Film.{all_scenes}
 
 -- who works in some scene of the set
 abbrev pub cast_of : FilmData → ℕ → ℕ
@@ -11,7 +13,16 @@ cast_of film set = fold (λ cast scene. union cast (slice_index film.casts scene
 abbrev pub on_location : FilmData → ℕ → ℕ
 on_location film set = meet (cast_of film set) (cast_of film (minus (all_scenes film) set))
 
--- what it costs to shoot a scene next: its days, for its cast and whoever is on location
+-- what it costs to shoot a scene next: its days, at the rates of its cast and the hold rates of who else is on location
 abbrev pub step_cost : FilmData → ℕ → ℕ → ℕ
 step_cost film set scene =
-    slice_index film.days scene * sum_over film.rates (union (slice_index film.casts scene) (on_location film set))
+    slice_index film.days scene * (sum_over film.rates (slice_index film.casts scene)
+    + sum_over film.holds (minus (on_location film set) (slice_index film.casts scene)))
+
+-- the scenes that a pair puts behind a scene of the set
+abbrev pub behind : List Pair → ℕ → ℕ
+behind pairs set = fold (λ found pair. if has set pair.first then with found pair.then else found) 0 pairs
+
+-- the scenes of the set that no pair puts behind another scene of the set
+abbrev pub ready : FilmData → ℕ → ℕ
+ready film set = minus set (behind film.pairs set)

@@ -1,14 +1,18 @@
 -- What contracts see of paths and cursors.
-use Rattle.std.specs.Prelude.{take, Option}
+use Rattle.std.specs.Prelude.{ℕ, take, Option}
 use Rattle.std.specs.Option.{option_map}
 use Rattle.strip_film.specs.declared.path.Path.{Path}
 use Rattle.strip_film.specs.declared.cursor.Cursor.{Cursor}
 use Rattle.strip_film.specs.Path.{PathData}
 
 -- a path: its scenes in shooting order, what remains, and what was paid
-abbrev pub shown : Path → PathData
-shown path = record { scenes = take path.len path.list; rest = path.rest.0; paid = path.paid }
+abbrev pub path_data : Path → PathData
+path_data path = record { scenes = take path.len path.list; rest = path.rest.0; paid = path.paid }
 
--- the last path of a cursor, if it has one
-abbrev pub last_shown : Cursor → Option PathData
-last_shown cursor = option_map shown cursor.last
+pub record CursorData : Type 0 where
+  pub task : ℕ
+  pub last : Option PathData
+
+-- a cursor: its task, and its last path, if it has one
+abbrev pub cursor_data : Cursor → CursorData
+cursor_data cursor = record { task = cursor.task; last = option_map path_data cursor.last }

@@ -12,34 +12,32 @@ pub struct Cursor {
 
 impl Cursor {
     ghost use Rattle.std.specs.Option.{option_map};
-    ghost use Rattle.strip_film.specs.Shown.{shown, last_shown};
+    ghost use Rattle.strip_film.specs.Shown.{cursor_data, path_data};
 
     /// A cursor without a last path.
     pub fn of(task: u32) -> Cursor
-        ensures task { result.task ≡ task }
-        ensures last { last_shown result ≡ None }
+        ensures { cursor_data result ≡ record { task = task; last = None } }
     {
         Cursor { task, last: None }
     }
 
     /// The number of the task: the part of a search that the cursor stands in.
     pub fn task(&self) -> u32
-        ensures { result ≡ self.now.task }
+        ensures { result ≡ (cursor_data self.now).task }
     {
         self.task
     }
 
     /// The last path that was enlisted, if there is one.
     pub fn last(&self) -> Option<Path>
-        ensures { option_map shown result ≡ last_shown self.now }
+        ensures { option_map path_data result ≡ (cursor_data self.now).last }
     {
         self.last
     }
 
     /// Makes `path` the last path.
     pub fn moved(&mut self, path: &Path)
-        ensures last { last_shown self.new ≡ Some (shown path.now) }
-        ensures task { self.new.task ≡ self.old.task }
+        ensures { cursor_data self.new ≡ record { task = (cursor_data self.old).task; last = Some (path_data path.now) } }
     {
         self.last = Some(*path);
     }

@@ -1,101 +1,142 @@
 // A film within the limits.
-ghost use Rattle.std.specs.Prelude.{◌≡◌, ◌↔◌, ℕ, ◌<◌, ◌≤◌, List, length, sum, All, IsTrue, IsSome, IfSome, IfOk};
-ghost use Rattle.strip_film.specs.Film.{FilmData, IsFilm, LiesBelow, all_scenes, full};
+ghost use Rattle.std.specs.Prelude.{◌≡◌, ◌↔◌, ℕ, ◌<◌, ◌≤◌, true, List, length, sum, All, IsTrue, IsSome, IfSome, IfOk};
+ghost use Rattle.strip_mask.specs.Set.{LiesBelow, has};
+ghost use Rattle.strip_pay.specs.Film.{FilmData};
+ghost use Rattle.strip_pay.specs.Pairs.{IsKnownPair, Precedes};
+ghost use Rattle.strip_film.specs.Film.{IsFilm, TellsBefore, all_scenes, film_data};
 
+use crate::limits::{MAX_COUNT, MAX_DAY_SUM, MAX_RATE_SUM};
 use std::marker::Model;
 use strip_io::Memory;
 use strip_mask::Mask;
+use strip_pay::{Pair, fit};
 
-/// How many scenes a film has at most, and how many actors.
-const MAX_COUNT: usize = 64;
-
-/// The greatest sum of the scenes' days: 200 scenes of 99 days.
-const MAX_DAY_SUM: u64 = 19_800;
-
-/// The greatest sum of the actors' rates: 64 actors of 1,000,000,000.
-const MAX_RATE_SUM: u64 = 64_000_000_000;
-
-/// The scenes and actors of a film, by number: who works in a scene, its days, and what an actor
-/// gets for a day. A cast is a mask of actor numbers.
+/// The scenes and actors of a film, by number: who works in a scene, its days, what an actor gets
+/// for a day of work and for a day of waiting, and which scenes come before which. A cast is a mask
+/// of actor numbers.
 #[derive(Debug, Drop)]
 pub struct Film {
     casts: Vec<u64>,
     days: Vec<u64>,
     rates: Vec<u64>,
+    holds: Vec<u64>,
+    pairs: Vec<Pair>,
+    // Made once, so that no call goes over the casts or the pairs for them: all scenes, and for each
+    // scene those that come directly before it.
     all: Mask,
+    before: [u64; MAX_COUNT],
 }
 
 impl Model for Film {
     ghost use Rattle.std.specs.Prelude.{◌≡◌, length};
-    ghost use Rattle.strip_film.specs.Film.{FilmData, IsFilm, full};
+    ghost use Rattle.strip_mask.specs.Set.{full};
+    ghost use Rattle.strip_pay.specs.Film.{FilmData};
+    ghost use Rattle.strip_film.specs.Film.{IsFilm, TellsBefore, film_data};
 
     ghost Value = { FilmData };
 
-    ghost view = { λ f. record { casts = f.casts.items; days = f.days.items; rates = f.rates.items } };
+    ghost view = { λ f. film_data f.casts.items f.days.items f.rates.items f.holds.items f.pairs.items };
 
-    ghost invariant = { λ f. IsFilm (record { casts = f.casts.items; days = f.days.items; rates = f.rates.items })
-        × (f.all.0 ≡ full (length f.casts.items)) };
+    ghost invariant = { λ f. IsFilm (film_data f.casts.items f.days.items f.rates.items f.holds.items f.pairs.items)
+        × (f.all.0 ≡ full (length f.casts.items))
+        × TellsBefore f.pairs.items f.before };
 }
 
 impl Film {
-    /// The film of these casts, days and rates, where they keep the limits: 1 to 64 scenes with as
-    /// many numbers of days, none of them 0 and together at most 19,800; at most 64 actors, with rates
-    /// for a day of together at most 64,000,000,000; and no cast with a bit that is no actor. It takes
-    /// no memory.
-    pub fn of(casts: Vec<u64>, days: Vec<u64>, rates: Vec<u64>) -> Option<Film>
-        ensures limits { IsSome result ↔ IsFilm (record { casts = casts.items; days = days.items; rates = rates.items }) }
-        ensures same { IfSome result (λ film. film ≡ record { casts = casts.items; days = days.items; rates = rates.items }) }
+    /// The film of these casts, days, rates, hold rates and pairs, where they keep the limits: 1 to 64
+    /// scenes with as many numbers of days, none of them 0 and together at most 19,800; at most 64
+    /// actors, with rates for a day of together at most 64,000,000,000, and as many hold rates of
+    /// together at most that; no cast with a bit that is no actor; and pairs of two different scenes
+    /// each, none twice, that no way along them leads from a scene back to it. It takes no memory.
+    pub fn of(
+        casts: Vec<u64>,
+        days: Vec<u64>,
+        rates: Vec<u64>,
+        holds: Vec<u64>,
+        pairs: Vec<Pair>,
+    ) -> Option<Film>
+        ensures limits { IsSome result ↔ IsFilm (film_data casts.items days.items rates.items holds.items pairs.items) }
+        ensures same { IfSome result (λ film. film ≡ film_data casts.items days.items rates.items holds.items pairs.items) }
     {
-        if !keeps_limits(&casts, &days, &rates) {
+        if !are_within_limits(&casts, &days, &rates, &holds, &pairs) {
             return None;
         }
-        let all = all_below(casts.len());
+        let all = Mask::below(casts.len() as u32);
+        let before = directly_before(&pairs);
         Some(Film {
             casts,
             days,
             rates,
+            holds,
+            pairs,
             all,
+            before,
         })
+    }
+
+    /// Every film keeps the limits. It does nothing: a caller that needs one of them makes this call
+    /// first.
+    pub fn keeps_limits(&self)
+        ensures { IsFilm self.now }
+    {
+        let _ = &self.casts;
     }
 
     /// How many scenes the film has.
     pub fn scenes(&self) -> usize
-        ensures count { result ≡ length self.now.casts }
-        ensures limits { IsFilm self.now }
+        ensures { result ≡ length self.now.casts }
     {
         self.casts.len()
     }
 
     /// The set of all scenes.
     pub fn all(&self) -> Mask
-        ensures all { result.0 ≡ all_scenes self.now }
-        ensures limits { IsFilm self.now }
+        ensures { result.0 ≡ all_scenes self.now }
     {
         self.all
     }
 
     /// Who works in each scene, as masks of actor numbers.
     pub fn casts(&self) -> &[u64]
-        ensures casts { result.now ≡ self.now.casts }
-        ensures limits { IsFilm self.now }
+        ensures { result.now ≡ self.now.casts }
     {
         &self.casts
     }
 
     /// How many days each scene takes.
     pub fn days(&self) -> &[u64]
-        ensures days { result.now ≡ self.now.days }
-        ensures limits { IsFilm self.now }
+        ensures { result.now ≡ self.now.days }
     {
         &self.days
     }
 
-    /// What each actor gets for a day, in whole units of money, by actor number.
+    /// What each actor gets for a day of work, in whole units of money, by actor number.
     pub fn rates(&self) -> &[u64]
-        ensures rates { result.now ≡ self.now.rates }
-        ensures limits { IsFilm self.now }
+        ensures { result.now ≡ self.now.rates }
     {
         &self.rates
+    }
+
+    /// What each actor gets for a day of waiting, in whole units of money, by actor number.
+    pub fn holds(&self) -> &[u64]
+        ensures { result.now ≡ self.now.holds }
+    {
+        &self.holds
+    }
+
+    /// Which scenes have to be shot before which.
+    pub fn pairs(&self) -> &[Pair]
+        ensures { result.now ≡ self.now.pairs }
+    {
+        &self.pairs
+    }
+
+    /// The scenes that a pair puts directly before this one, which is below 64.
+    pub fn before(&self, scene: u32) -> Mask
+        requires { scene < MAX_COUNT }
+        ensures { (first : ℕ) → (has result.0 first ≡ true) ↔ Precedes self.now.pairs first scene }
+    {
+        Mask(self.before[scene as usize])
     }
 
     /// An equal film, with lists of its own. It fails only where memory runs out.
@@ -106,34 +147,34 @@ impl Film {
             casts: self.casts.clone()?,
             days: self.days.clone()?,
             rates: self.rates.clone()?,
+            holds: self.holds.clone()?,
+            pairs: self.pairs.clone()?,
             all: self.all,
+            before: self.before,
         })
     }
 }
 
-/// The set of the numbers below `count`.
-fn all_below(count: usize) -> Mask
-    requires { count ≤ 64 }
-    ensures { result.0 ≡ full count }
-{
-    let mut all = Mask(0);
-    for number in 0..count as u32 {
-        all = all.with(number);
-    }
-    all
-}
-
-fn keeps_limits(casts: &[u64], days: &[u64], rates: &[u64]) -> bool
-    ensures { IsTrue result ↔ IsFilm (record { casts = casts.now; days = days.now; rates = rates.now }) }
+fn are_within_limits(
+    casts: &[u64],
+    days: &[u64],
+    rates: &[u64],
+    holds: &[u64],
+    pairs: &[Pair],
+) -> bool
+    ensures { IsTrue result ↔ IsFilm (film_data casts.now days.now rates.now holds.now pairs.now) }
 {
     !casts.is_empty()
         && casts.len() <= MAX_COUNT
         && days.len() == casts.len()
         && rates.len() <= MAX_COUNT
+        && holds.len() == rates.len()
         && days.iter().all(|count| *count > 0)
         && add_up_to_at_most(days, MAX_DAY_SUM)
         && add_up_to_at_most(rates, MAX_RATE_SUM)
+        && add_up_to_at_most(holds, MAX_RATE_SUM)
         && all_lie_below(casts, rates.len())
+        && fit(pairs, casts.len())
 }
 
 /// Whether the sum of the values is at most the limit. It doesn't overflow.
@@ -152,15 +193,21 @@ fn add_up_to_at_most(values: &[u64], limit: u64) -> bool
 
 /// Whether each number of each set is below `count`.
 fn all_lie_below(sets: &[u64], count: usize) -> bool
-    requires { count ≤ 64 }
+    requires { count ≤ MAX_COUNT }
     ensures { IsTrue result ↔ All (LiesBelow count) sets.now }
 {
-    sets.iter().all(|set| lies_below(*set, count))
+    sets.iter().all(|set| Mask(*set).lies_below(count as u32))
 }
 
-fn lies_below(set: u64, count: usize) -> bool
-    requires { count ≤ 64 }
-    ensures { IsTrue result ↔ LiesBelow count set }
+/// For each scene the set of the scenes that a pair puts directly before it.
+fn directly_before(pairs: &[Pair]) -> [u64; MAX_COUNT]
+    requires { All (IsKnownPair MAX_COUNT) pairs.now }
+    ensures { TellsBefore pairs.now result }
 {
-    Mask(set).minus(all_below(count)).is_empty()
+    let mut before = [0; MAX_COUNT];
+    for pair in pairs {
+        let then = pair.then as usize;
+        before[then] = Mask(before[then]).with(pair.first as u32).0;
+    }
+    before
 }

@@ -1,13 +1,16 @@
 //! Laws of the definitions. Each function does nothing: its contract is the law.
-ghost use Rattle.std.specs.Prelude.{◌≡◌, ◌↔◌, ◌⊎◌, ℕ, ◌*◌, ◌^◌, ◌<◌, ◌≤◌, true, List, length, slice_index};
-ghost use Rattle.strip_mask.specs.Set.{IsSet, has, sum_over, union};
-ghost use Rattle.strip_film.specs.Film.{FilmData, IsFilm, LiesIn, all_scenes};
-ghost use Rattle.strip_film.specs.Shoot.{cast_of, on_location, step_cost};
-ghost use Rattle.strip_film.specs.Located.{WorksInside, WorksOutside};
-ghost use Rattle.strip_film.specs.Finish.{IsFinish, Remained, steps_cost};
-ghost use Rattle.strip_film.specs.Order.{IsBefore, IsOrder};
+ghost use Rattle.std.specs.Prelude.{◌≡◌, ◌≢◌, ◌↔◌, ℕ, ◌+◌, ◌*◌, ◌^◌, ◌<◌, ◌≤◌, true, List, [], length, slice_index, All};
+ghost use Rattle.strip_mask.specs.Set.{IsSet, has, minus, sum_over};
+ghost use Rattle.strip_pay.specs.Film.{FilmData};
+ghost use Rattle.strip_pay.specs.Order.{IsKeptOrder, IsOrder};
+ghost use Rattle.strip_pay.specs.Pay.{IsOptimum, pay_of};
+ghost use Rattle.strip_film.specs.declared.shared.Line.{Line};
+ghost use Rattle.strip_film.specs.Film.{IsFilm, LiesIn, all_scenes};
+ghost use Rattle.strip_film.specs.Shoot.{cast_of, on_location, ready, step_cost};
+ghost use Rattle.strip_film.specs.Located.{IsReady, WorksInside, WorksOutside};
+ghost use Rattle.strip_film.specs.Finish.{AreFirsts, EachOnce, IsAtMostFinish, IsFinish, steps_cost};
 ghost use Rattle.strip_film.specs.Path.{IsPath, PathData};
-ghost use Rattle.strip_film.specs.Pay.{IsOptimum, pay_of};
+ghost use Rattle.strip_film.specs.Rules.{AreJustified, BeginLeast, BoundsFinish, FirstsAreReady, Rules, ahead, known};
 
 /// A set's cast is who works in a scene of it. On location is who also works in a scene outside it,
 /// which was shot before.
@@ -18,7 +21,28 @@ pub fn casts_are_by_scenes()
         → (has (on_location film set) actor ≡ true) ↔ (WorksInside film set actor × WorksOutside film set actor) }
 {}
 
-/// The sum of the steps along an order is its pay, by each actor's first and last position.
+/// The ready scenes of a set are those of its scenes that no scene of it has to come before: all of
+/// them where the film has no pairs.
+pub fn ready_scenes_are_by_pairs()
+    ensures pairs { (film : FilmData) (set scene : ℕ) → (has (ready film set) scene ≡ true) ↔ IsReady film set scene }
+    ensures none { (film : FilmData) (set : ℕ) → film.pairs ≡ [] → ready film set ≡ set }
+{}
+
+/// Every set of a film's scenes that isn't empty has a ready scene, since its pairs have no cycle.
+pub fn each_set_has_a_ready_scene()
+    ensures { (film : FilmData) (set : ℕ) → IsFilm film → LiesIn film set → set ≢ 0
+        → (scene : ℕ) × (has (ready film set) scene ≡ true) }
+{}
+
+/// The lists that have each scene of a film once, each ready when it was shot, are its orders that keep
+/// the pairs.
+pub fn kept_orders_are_ready_lists()
+    ensures { (film : FilmData) (order : List ℕ) → IsFilm film
+        → EachOnce film (all_scenes film) order ↔ IsKeptOrder film order }
+{}
+
+/// The sum of the steps along an order, whether it keeps the pairs or not, is its pay, by each actor's
+/// first and last scene.
 pub fn steps_add_up_to_the_pay()
     ensures { (film : FilmData) (order : List ℕ) → IsFilm film → IsOrder (length film.casts) order
         → steps_cost film (all_scenes film) order ≡ pay_of film order }
@@ -30,9 +54,15 @@ pub fn finishing_everything_is_the_optimum()
         → IsFinish film (all_scenes film) cost ↔ IsOptimum film cost }
 {}
 
-/// Every set of scenes has a cost of finishing it: some list has the least tail.
+/// Every set of a film's scenes has a cost of finishing it: some list has the least tail.
 pub fn a_least_tail_exists()
-    ensures { (film : FilmData) (set : ℕ) → IsSet set → (cost : ℕ) × IsFinish film set cost }
+    ensures { (film : FilmData) (set : ℕ) → IsFilm film → LiesIn film set → (cost : ℕ) × IsFinish film set cost }
+{}
+
+/// Where each ready scene of a set may be shot first, some first begins a least tail.
+pub fn ready_firsts_begin_least_tails()
+    ensures { (film : FilmData) (bound : ℕ → ℕ) → IsFilm film
+        → BeginLeast (record { film = film; bound = bound; firsts = ready film }) }
 {}
 
 /// What remains after a path lies in the film.
@@ -42,24 +72,34 @@ pub fn what_remains_lies_in_the_film()
 
 /// Fewer actors on location never cost more.
 pub fn fewer_on_location_cost_no_more()
-    ensures { (film : FilmData) (scene few many : ℕ) → IsSet few → IsSet many
+    ensures { (film : FilmData) (scene few many : ℕ)
         → ((actor : ℕ) → has few actor ≡ true → has many actor ≡ true)
-        → slice_index film.days scene * sum_over film.rates (union (slice_index film.casts scene) few)
-        ≤ slice_index film.days scene * sum_over film.rates (union (slice_index film.casts scene) many) }
+        → slice_index film.days scene * (sum_over film.rates (slice_index film.casts scene)
+        + sum_over film.holds (minus few (slice_index film.casts scene)))
+        ≤ slice_index film.days scene * (sum_over film.rates (slice_index film.casts scene)
+        + sum_over film.holds (minus many (slice_index film.casts scene))) }
 {}
 
-/// A step, a tail and what a path paid are below 2^63.
+/// A step, the steps along scenes that remained, ready or not, and what a path paid are below 2^63.
 pub fn costs_stay_small()
     ensures step { (film : FilmData) (set scene : ℕ) → IsFilm film → IsSet set → has set scene ≡ true
         → step_cost film set scene < 2 ^ 63 }
-    ensures steps { (film : FilmData) (set : ℕ) (scenes : List ℕ) → IsFilm film → IsSet set → Remained set scenes
+    ensures steps { (film : FilmData) (set : ℕ) (scenes : List ℕ) → IsFilm film → IsSet set → AreFirsts (λ q. q) set scenes
         → steps_cost film set scenes < 2 ^ 63 }
     ensures paid { (film : FilmData) (path : PathData) → IsFilm film → IsPath film path → path.paid < 2 ^ 63 }
 {}
 
-/// Which of two lists comes first is a total order.
-pub fn lists_are_in_order()
-    ensures total { (a b : List ℕ) → IsBefore a b ⊎ ((a ≡ b) ⊎ IsBefore b a) }
-    ensures once { (a : List ℕ) → ¬ IsBefore a a }
-    ensures transitive { (a b c : List ℕ) → IsBefore a b → IsBefore b c → IsBefore a c }
+/// What a justified list of lines makes known is true: each bound is at most the cost of finishing its
+/// set.
+pub fn a_justified_list_is_true()
+    ensures lines { (rules : Rules) (lines : List Line) → IsFilm rules.film → BoundsFinish rules → BeginLeast rules
+        → AreJustified rules lines → All (λ line. IsAtMostFinish rules.film line.set line.bound) lines }
+    ensures known { (rules : Rules) (lines : List Line) (set : ℕ) → IsFilm rules.film → BoundsFinish rules → BeginLeast rules
+        → AreJustified rules lines → LiesIn rules.film set → IsAtMostFinish rules.film set (known rules lines set) }
+{}
+
+/// The look-ahead of a set of the film's scenes is at most the cost of finishing it.
+pub fn the_look_ahead_is_true()
+    ensures { (rules : Rules) → IsFilm rules.film → BoundsFinish rules → BeginLeast rules → FirstsAreReady rules
+        → (set : ℕ) → LiesIn rules.film set → IsAtMostFinish rules.film set (ahead rules set) }
 {}

@@ -1,19 +1,18 @@
-//! Films as lists, the state of a shoot, the cost of finishing it, and the types that a search
-//! shares.
+//! Films as lists, the state of a shoot, the cost of finishing it, the rules of a search, and the
+//! types that its parts share.
 #![tactic(auto)]
 
 mod cursor;
 mod film;
 pub mod laws;
+mod limits;
 mod path;
 mod shared;
 mod shoot;
 
 pub use cursor::Cursor;
 pub use film::Film;
+pub use limits::{MAX_COUNT, MAX_DAY_SUM, MAX_RATE_SUM};
 pub use path::Path;
-pub use shared::{Kind, Known, Line, Listed, Noted, Probe};
-pub use shoot::{cast_of, on, step};
-
-#[cfg(test)]
-mod tests;
+pub use shared::{Known, Line, Listed, Noted, Probe};
+pub use shoot::{cast_of, on, ready, step};

@@ -1,14 +1,5 @@
 // What the parts of a search hand to one another.
 
-/// Which static bound is used.
-#[derive(Clone, Copy, Debug, PartialEq, Eq)]
-pub enum Kind {
-    /// Each scene's days for its own cast.
-    Plain,
-    /// The same, and what pairs of actors on location cost beyond it.
-    Pairs,
-}
-
 /// A bound on the cost of finishing a set of scenes: the set as a mask, the bound in units of money.
 #[derive(Clone, Copy, Debug, PartialEq, Eq)]
 pub struct Line {

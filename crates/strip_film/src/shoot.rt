@@ -1,8 +1,8 @@
 // The state of a shoot, when a set of scenes remains.
 ghost use Rattle.std.specs.Prelude.{◌≡◌, true};
 ghost use Rattle.strip_mask.specs.Set.{has};
-ghost use Rattle.strip_film.specs.Film.{IsFilm, LiesIn};
-ghost use Rattle.strip_film.specs.Shoot.{cast_of, on_location, step_cost};
+ghost use Rattle.strip_film.specs.Film.{LiesIn};
+ghost use Rattle.strip_film.specs.Shoot.{cast_of, on_location, ready, step_cost};
 
 use crate::film::Film;
 use strip_mask::{Mask, sum_over};
@@ -30,13 +30,35 @@ pub fn on(film: &Film, q: Mask) -> Mask
 }
 
 /// What it costs, in units of money, to shoot scene `s` next while the set remains: its days at the
-/// rates of its cast and of whoever is on location. One turn for each scene of the film and each actor who is paid.
+/// rates of its cast and the hold rates of whoever else is on location. One turn for each scene of
+/// the film and each actor who is paid.
 pub fn step(film: &Film, q: Mask, s: u32) -> u64
     requires lies { LiesIn film.now q.0 }
     requires remains { has q.0 s ≡ true }
-    ensures cost { result ≡ step_cost film.now q.0 s }
-    ensures limits { IsFilm film.now }
+    ensures { result ≡ step_cost film.now q.0 s }
 {
-    let paid = Mask(film.casts()[s as usize]).union(on(film, q));
-    film.days()[s as usize] * sum_over(film.rates(), paid)
+    film.keeps_limits();
+    let cast = Mask(film.casts()[s as usize]);
+    let waiting = on(film, q).minus(cast);
+    let (rates, holds) = (film.rates(), film.holds());
+    film.days()[s as usize] * (sum_over(rates, cast) + sum_over(holds, waiting))
+}
+
+/// The scenes of the set that may be shot next: no pair puts them behind another scene of it. One
+/// turn for each scene of the set; none where the film has no pairs.
+pub fn ready(film: &Film, q: Mask) -> Mask
+    requires { LiesIn film.now q.0 }
+    ensures { result.0 ≡ ready film.now q.0 }
+{
+    if film.pairs().is_empty() {
+        return q;
+    }
+    film.keeps_limits();
+    let mut ready = Mask(0);
+    for scene in q.iter() {
+        if film.before(scene).meet(q).is_empty() {
+            ready = ready.with(scene);
+        }
+    }
+    ready
 }

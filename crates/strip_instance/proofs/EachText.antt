@@ -10,7 +10,8 @@ use Rattle.strip_model.specs.Data.{InstanceData}
 use Rattle.strip_instance.specs.declared.fault.InstanceFault.{InstanceFault}
 use Rattle.strip_instance.specs.Field.{Field, trimmed}
 use Rattle.strip_instance.specs.Checks.{first_fault}
-use Rattle.strip_instance.specs.Faults.{Row, all_checks}
+use Rattle.strip_instance.specs.Parts.{Row}
+use Rattle.strip_instance.specs.Faults.{all_checks}
 use Rattle.strip_instance.specs.Text.{HasRows, Says, reading_of}
 
 some_same : (a b : Read) → Some a ≡ Some b → a ≡ b

@@ -3,14 +3,24 @@ use Rattle.std.proofs.Common.{◌≡◌, [], ◌∷◌, ◌++◌, Ok, Err, codes
 use Rattle.std.specs.Prelude.{⊤}
 use Rattle.std.specs.Str.{chars, is_utf8}
 use lib.Utf8.{encode}
+use Rattle.std.specs.Fmt.{digits}
+use Rattle.csv.specs.Writing.{fields_text, is_blank}
 use Rattle.csv.proofs.OnLiterals.{csv_on_literals}
-use Rattle.strip_instance.specs.declared.fault.InstanceFault.TheVariants.{Empty, BadHeader, NoRateRow, Width, BadName, DuplicateActor, BadDays, BadRate, BadMark, NoScene, NotUtf8}
+use Rattle.strip_mask.specs.Set.{has}
+use Rattle.strip_model.specs.Data.{InstanceData}
+use Rattle.strip_instance.specs.declared.fault.InstanceFault.TheVariants.{Empty, BadHeader, NoRateRow, Width, BadName, DuplicateActor, BadDays, BadRate, BadHold, BadMark, NoScene, NotUtf8}
+use Rattle.strip_instance.specs.Text.{canonical_text}
 use Rattle.strip_instance.proofs.EachText.{reading_of_text}
 
 -- what computes a literal text's reading
 unfoldable on_literals : ⊤
 unfolding csv_on_literals is_utf8 chars encode
 on_literals = tt
+
+-- and what computes a text that is written
+unfoldable in_writing : ⊤
+unfolding fields_text is_blank digits has
+in_writing = tt
 
 no_row : reading_of_text (codes "") ≡ Err Empty
 unfolding on_literals
@@ -62,7 +72,7 @@ no_days : reading_of_text (codes "scene,days,a,b\nrate,,5,6\ns1,0,x,x\n") ≡ Er
 unfolding on_literals
 no_days = refl
 
-kept_word : reading_of_text (codes "scene,days,a,b\nrate,,5,6\nHOLD,1,x,x\n") ≡ Err (BadName 3 1)
+kept_word : reading_of_text (codes "scene,days,a,b\nrate,,5,6\nBEFORE,1,x,x\n") ≡ Err (BadName 3 1)
 unfolding on_literals
 kept_word = refl
 
@@ -73,7 +83,8 @@ counted_row = refl
 
 each_mark : reading_of_text (codes "scene,days,a,b,c\nrate,,1,2,3\ns1,1,x,.,X\ns2,99,-,1,0\n") ≡ Ok (record {
   scenes = record { name = codes "s1"; days = 1; cast = 5 } ∷ record { name = codes "s2"; days = 99; cast = 2 } ∷ [];
-  actors = record { name = codes "a"; rate = 1 } ∷ record { name = codes "b"; rate = 2 } ∷ record { name = codes "c"; rate = 3 } ∷ [];
+  actors = record { name = codes "a"; rate = 1; hold = 1 } ∷ record { name = codes "b"; rate = 2; hold = 2 } ∷ record { name = codes "c"; rate = 3; hold = 3 } ∷ [];
+  pairs = [];
 })
 unfolding on_literals
 each_mark = refl
@@ -81,7 +92,8 @@ each_mark = refl
 -- as a spreadsheet may write it
 from_spreadsheet : reading_of_text (codes "Scene, Days ,Ann,Bob\r\nRate,,100,0250\r\n Yard ,02,X, \r\n,,,\r\nHall,1,1,x\r\n") ≡ Ok (record {
   scenes = record { name = codes "Yard"; days = 2; cast = 1 } ∷ record { name = codes "Hall"; days = 1; cast = 3 } ∷ [];
-  actors = record { name = codes "Ann"; rate = 100 } ∷ record { name = codes "Bob"; rate = 250 } ∷ [];
+  actors = record { name = codes "Ann"; rate = 100; hold = 100 } ∷ record { name = codes "Bob"; rate = 250; hold = 250 } ∷ [];
+  pairs = [];
 })
 unfolding on_literals
 from_spreadsheet = refl
@@ -89,7 +101,79 @@ from_spreadsheet = refl
 -- names with commas and quotes
 quoted_names : reading_of_text (codes "scene,days,\"Ann, Jr.\"\nrate,,5\n\"\"\"Hall\"\", later\",3,x\n") ≡ Ok (record {
   scenes = record { name = codes "\"Hall\", later"; days = 3; cast = 1 } ∷ [];
-  actors = record { name = codes "Ann, Jr."; rate = 5 } ∷ [];
+  actors = record { name = codes "Ann, Jr."; rate = 5; hold = 5 } ∷ [];
+  pairs = [];
 })
 unfolding on_literals
 quoted_names = refl
+
+-- hold rates
+triangle : InstanceData
+triangle = record {
+  scenes = record { name = codes "s1"; days = 1; cast = 3 } ∷ record { name = codes "s2"; days = 1; cast = 6 } ∷ record { name = codes "s3"; days = 1; cast = 5 } ∷ [];
+  actors = record { name = codes "a"; rate = 1; hold = 5 } ∷ record { name = codes "b"; rate = 2; hold = 1 } ∷ record { name = codes "c"; rate = 3; hold = 4 } ∷ [];
+  pairs = [];
+}
+
+hold_row : reading_of_text (codes "scene,days,a,b,c\nrate,,1,2,3\nhold,,5,1,4\ns1,1,x,x,\ns2,1,,x,x\ns3,1,x,,x\n") ≡ Ok triangle
+unfolding on_literals triangle
+hold_row = refl
+
+-- the word in any case, and a field behind it that isn't read
+in_capitals : reading_of_text (codes "scene,days,a,b\nrate,,1,2\n HOLD\t,per day, 05 ,\t0\n,,,\ns1,1,x,.\n") ≡ Ok (record {
+  scenes = record { name = codes "s1"; days = 1; cast = 1 } ∷ [];
+  actors = record { name = codes "a"; rate = 1; hold = 5 } ∷ record { name = codes "b"; rate = 2; hold = 0 } ∷ [];
+  pairs = [];
+})
+unfolding on_literals
+in_capitals = refl
+
+no_hold_rate : reading_of_text (codes "scene,days,a,b,c\nrate,,1,2,3\nhold,,1,x,1\ns1,1,x\n") ≡ Err (BadHold 4)
+unfolding on_literals
+no_hold_rate = refl
+
+-- its width is told before a bad hold rate, and a bad rate before its width
+width_before_hold_rate : reading_of_text (codes "scene,days,a,b,c\nrate,,1,2,3\nhold,,x,1\ns1,1,x\n") ≡ Err (Width 3)
+unfolding on_literals
+width_before_hold_rate = refl
+
+rate_before_hold_row : reading_of_text (codes "scene,days,a,b,c\nrate,,1,2,y\nhold,,x,1\n") ≡ Err (BadRate 5)
+unfolding on_literals
+rate_before_hold_row = refl
+
+-- there is one hold row, and the rows behind it keep their numbers
+second_hold_row : reading_of_text (codes "scene,days,a\nrate,,1\nhold,,5\nhold,,5\ns1,1,x\n") ≡ Err (BadName 4 1)
+unfolding on_literals
+second_hold_row = refl
+
+hold_behind_scene : reading_of_text (codes "scene,days,a\nrate,,1\ns1,1,x\nhold,,5\n") ≡ Err (BadName 4 1)
+unfolding on_literals
+hold_behind_scene = refl
+
+row_behind_hold_row : reading_of_text (codes "scene,days,a\nrate,,1\nhold,,5\n,,\ns1,1,y\n") ≡ Err (BadMark 5 3)
+unfolding on_literals
+row_behind_hold_row = refl
+
+hold_row_alone : reading_of_text (codes "scene,days,a\nrate,,1\nhold,,5\n") ≡ Err NoScene
+unfolding on_literals
+hold_row_alone = refl
+
+-- a hold row that tells nothing isn't written again
+same_rates : InstanceData
+same_rates = record {
+  scenes = record { name = codes "s1"; days = 1; cast = 1 } ∷ [];
+  actors = record { name = codes "a"; rate = 1; hold = 1 } ∷ record { name = codes "b"; rate = 2; hold = 2 } ∷ [];
+  pairs = [];
+}
+
+same_rates_read : reading_of_text (codes "scene,days,a,b\nrate,,1,2\nhold,,01,2\ns1,1,x,.\n") ≡ Ok same_rates
+unfolding on_literals same_rates
+same_rates_read = refl
+
+same_rates_written : canonical_text same_rates ≡ codes "scene,days,a,b\nrate,,1,2\ns1,1,x,.\n"
+unfolding in_writing same_rates
+same_rates_written = refl
+
+triangle_written : canonical_text triangle ≡ codes "scene,days,a,b,c\nrate,,1,2,3\nhold,,5,1,4\ns1,1,x,x,.\ns2,1,.,x,x\ns3,1,x,.,x\n"
+unfolding in_writing triangle
+triangle_written = refl

@@ -1,5 +1,5 @@
--- The first two rows of a canonical text have no fault.
-use Rattle.std.proofs.Common.{◌≡◌, ◌≢◌, ℕ, ◌<◌, ◌≤◌, true, List, [], length, map, All, refl, sym, ◌∙◌, arith}
+-- The rows of a canonical text before those of the scenes have no fault.
+use Rattle.std.proofs.Common.{◌≡◌, ◌≢◌, ℕ, ◌<◌, ◌≤◌, Bool, true, false, codes, Some, None, if◌then◌else◌, List, [], length, map, All, refl, sym, ◌∙◌, arith}
 use Rattle.std.specs.List.{AllPairs}
 use Rattle.std.specs.Fmt.{decimal}
 use Rattle.std.proofs.lemmas.Bool.{lt-ltb, eq-eqb, not_from_false}
@@ -8,9 +8,11 @@ use Rattle.std.proofs.lemmas.List.Elements.{All-get_or, All-map, All-weaker}
 use Rattle.strip_model.specs.declared.limits.TheConstants.{MAX_ACTORS, MAX_RATE}
 use Rattle.strip_model.specs.Data.{ActorData, IsActor}
 use Rattle.strip_instance.specs.Field.{Field, is_name, is_number}
-use Rattle.strip_instance.specs.Faults.{actor_name_checks, header_checks, rate_row_checks}
+use Rattle.strip_instance.specs.declared.fault.InstanceFault.{InstanceFault}
+use Rattle.strip_instance.specs.declared.fault.InstanceFault.TheVariants.{BadRate, BadHold}
+use Rattle.strip_instance.specs.Faults.{actor_name_checks, header_checks, pay_row_checks, rate_row_checks, hold_row_checks}
 use Rattle.strip_instance.proofs.TextNames.{IsTextName}
-use Rattle.strip_instance.specs.Text.{header_fields, rate_fields}
+use Rattle.strip_instance.specs.Text.{header_fields, pay_fields, rate_fields, hold_fields}
 use Rattle.strip_instance.proofs.Held.{Hold, hold-nil, hold-cons, hold-below}
 use Rattle.strip_instance.proofs.ReadableNames.{pairs-map, not_contained-before}
 use Rattle.strip_instance.proofs.Numbers.{is_number-decimal}
@@ -36,17 +38,31 @@ header_holds actors few readable differ =
     actor_name_holds names actor few_names within (All-map (IsTextName is_name) (λ actor. actor.name) actors readable)
     (pairs-map (λ actor. actor.name) actors differ)))
 
+-- a row of rates within the limits
+pay_row_holds : (fault : ℕ → InstanceFault) (number : ℕ) (word : Field) (rate : ActorData → ℕ) (actors : List ActorData)
+    → All (λ actor. rate actor ≤ MAX_RATE) actors → Hold (pay_row_checks fault (header_fields actors) number (pay_fields word rate actors))
+pay_row_holds fault number word rate actors limits =
+    let rates = map (λ (actor : ActorData). decimal (rate actor)) actors in
+    let names = map (λ (actor : ActorData). actor.name) actors in
+    let width : length rates ≡ length names = length-map actors (λ (actor : ActorData). decimal (rate actor)) ∙ sym (length-map actors (λ (actor : ActorData). actor.name)) in
+    let each : All (λ field. is_number 0 MAX_RATE field ≡ true) rates
+    = All-map (λ field. is_number 0 MAX_RATE field ≡ true) (λ actor. decimal (rate actor)) actors
+    (All-weaker (λ actor. rate actor ≤ MAX_RATE) (λ actor. is_number 0 MAX_RATE (decimal (rate actor)) ≡ true)
+    (λ actor low. is_number-decimal 0 MAX_RATE (rate actor) (omega arith) low (omega (arith, low))) actors limits) in
+    hold-cons _ _ _ (eq-eqb (length (pay_fields word rate actors)) (length (header_fields actors)) (omega (arith, width)))
+    (hold-below (length rates) _ (λ actor within.
+    hold-cons _ _ _ (All-get_or (λ field. is_number 0 MAX_RATE field ≡ true) rates actor [] within each) hold-nil))
+
 -- the rates
 pub rates_hold : (actors : List ActorData) → All IsActor actors → Hold (rate_row_checks (header_fields actors) (rate_fields actors))
 rates_hold actors limits =
-    let rates = map (λ (actor : ActorData). decimal actor.rate) actors in
-    let names = map (λ (actor : ActorData). actor.name) actors in
-    let width : length rates ≡ length names = length-map actors (λ (actor : ActorData). decimal actor.rate) ∙ sym (length-map actors (λ (actor : ActorData). actor.name)) in
-    let each : All (λ field. is_number 0 MAX_RATE field ≡ true) rates
-    = All-map (λ field. is_number 0 MAX_RATE field ≡ true) (λ actor. decimal actor.rate) actors
-    (All-weaker IsActor (λ actor. is_number 0 MAX_RATE (decimal actor.rate) ≡ true)
-    (λ actor is. is_number-decimal 0 MAX_RATE actor.rate (omega arith) is.rate (omega (arith, is.rate))) actors limits) in
-    hold-cons _ _ _ refl
-    (hold-cons _ _ _ (eq-eqb (length (rate_fields actors)) (length (header_fields actors)) (omega (arith, width)))
-    (hold-below (length rates) _ (λ actor within.
-    hold-cons _ _ _ (All-get_or (λ field. is_number 0 MAX_RATE field ≡ true) rates actor [] within each) hold-nil)))
+    hold-cons _ _ _ refl (pay_row_holds BadRate 2 (codes "rate") (λ actor. actor.rate) actors
+    (All-weaker IsActor (λ actor. actor.rate ≤ MAX_RATE) (λ actor is. is.rate) actors limits))
+
+-- the hold rates, where there is a row of them
+pub holds_hold : (own : Bool) (actors : List ActorData) → All IsActor actors
+    → Hold (hold_row_checks (header_fields actors) (if own then Some (hold_fields actors) else None))
+holds_hold true actors limits =
+    pay_row_holds BadHold 3 (codes "hold") (λ actor. actor.hold) actors
+    (All-weaker IsActor (λ actor. actor.hold ≤ MAX_RATE) (λ actor is. is.hold) actors limits)
+holds_hold false actors limits = hold-nil

@@ -1,15 +1,17 @@
 -- The rows of the scenes in a canonical text have no fault.
-use Rattle.std.proofs.Common.{◌≡◌, ◌≢◌, ℕ, ◌+◌, ◌<◌, ◌≤◌, Bool, true, false, not, List, [], ◌∷◌, length, get_or, map, take, filter, All, refl, sym, ap, ◌∙◌, subst, arith}
+use Rattle.std.proofs.Common.{◌≡◌, ◌≢◌, ℕ, ◌+◌, ◌<◌, ◌≤◌, Bool, true, false, not, List, [], ◌∷◌, length, get_or, map, take, filter, Option, All, refl, sym, ap, ◌∙◌, subst, arith}
 use Rattle.std.specs.List.{range_with_len, AllPairs}
 use Rattle.std.proofs.lemmas.List.FromFn.{length-map-range_with_len}
 use Rattle.std.proofs.lemmas.Bool.{lt-ltb, eq-eqb, ne_eqb, and_left, cond-true, cond-false, not_from_false}
 use Rattle.std.proofs.lemmas.List.{length-map, length-take-le, get_or-map, take-map}
 use Rattle.std.proofs.lemmas.List.Elements.{All-head, All-tail, All-get_or, All-map, All-take, All-weaker}
 use Rattle.std.proofs.lemmas.Simd.{map-map}
-use Rattle.strip_model.specs.declared.limits.TheConstants.{MAX_DAYS, MAX_SCENES}
+use Rattle.strip_pay.specs.declared.fitting.TheConstants.{MAX_SCENES}
+use Rattle.strip_model.specs.declared.limits.TheConstants.{MAX_DAYS}
 use Rattle.strip_model.specs.Data.{SceneData, IsScene}
 use Rattle.strip_instance.specs.Field.{is_scene_name, is_mark}
-use Rattle.strip_instance.specs.Faults.{Row, field_of, contains, is_passed_over, scene_rows, mark_checks, scene_checks, body_checks, scenes_checks}
+use Rattle.strip_instance.specs.Parts.{Row, Parts, field_of}
+use Rattle.strip_instance.specs.Faults.{contains, is_passed_over, scene_rows, mark_checks, scene_checks, body_checks, scenes_checks}
 use Rattle.strip_instance.proofs.TextNames.{IsTextName}
 use Rattle.strip_instance.specs.Text.{mark_of, scene_fields}
 use Rattle.strip_instance.proofs.Casts.{is_mark-mark_of}
@@ -88,38 +90,41 @@ names_before actors place scenes =
 no_scene : SceneData
 no_scene = record { name = []; days = 0; cast = 0 }
 
--- the checks of the row at a place
-place_holds : (header : Row) (actors place : ℕ) (scenes : List SceneData) → length header ≡ 2 + actors
-    → length scenes ≤ MAX_SCENES → place < length scenes → All (IsSound actors) scenes → AllPairs (λ a b. a.name ≢ b.name) scenes
-    → Hold (body_checks header (map (scene_fields actors) scenes) place)
-place_holds header actors place scenes wide few within sound differ =
-    let rows = map (scene_fields actors) scenes in
-    let names = map (λ (scene : SceneData). scene.name) scenes in
-    let scene = get_or scenes place no_scene in
-    let its : IsSound actors scene = All-get_or (IsSound actors) scenes place no_scene within sound in
-    let here : get_or rows place [] ≡ scene_fields actors scene = get_or-map (scene_fields actors) scenes place no_scene [] within in
-    let before : scene_rows (take place rows) ≡ take place rows = scene_rows-before actors place scenes sound in
-    let same : body_checks header rows place ≡ scene_checks header (take place rows) (place + 3) (scene_fields actors scene)
-    = cond-false (is_passed_over (get_or rows place [])) [] (scene_checks header (scene_rows (take place rows)) (place + 3) (get_or rows place []))
-    (ap is_passed_over here ∙ not_passed_over actors scene its.limits)
-    ∙ ap (λ earlier. scene_checks header earlier (place + 3) (get_or rows place [])) before
-    ∙ ap (λ row. scene_checks header (take place rows) (place + 3) row) here in
-    let few_before : length (take place rows) < MAX_SCENES
-    = omega (arith, length-map scenes (scene_fields actors), length-take-le place rows (omega (arith, length-map scenes (scene_fields actors)))) in
-    let named : get_or names place [] ≡ scene.name = get_or-map (λ scene. scene.name) scenes place no_scene [] within in
-    let own : contains (map (λ row. field_of row 0) (take place rows)) scene.name ≡ false
-    = ap (λ earlier. contains earlier scene.name) (names_before actors place scenes) ∙ ap (λ name. contains (take place names) name) (sym named)
-    ∙ not_contained-before names place (pairs-map (λ scene. scene.name) scenes differ) (omega (arith, length-map scenes (λ (scene : SceneData). scene.name))) in
-    subst Hold (sym same) (scene_holds header (take place rows) (place + 3) actors scene wide few_before own its)
+-- parts with these scenes
+module _ (header rates : Row) (hold : Option Row) (first actors : ℕ) (scenes : List SceneData) (wide : length header ≡ 2 + actors)
+    (few : length scenes ≤ MAX_SCENES) (sound : All (IsSound actors) scenes) (differ : AllPairs (λ a b. a.name ≢ b.name) scenes) where
+  abbrev rows : List Row
+  rows = map (scene_fields actors) scenes
 
--- the checks of all rows of scenes
-pub scenes_hold : (header : Row) (actors : ℕ) (scenes : List SceneData) → length header ≡ 2 + actors
-    → 0 < length scenes → length scenes ≤ MAX_SCENES → All (IsSound actors) scenes → AllPairs (λ a b. a.name ≢ b.name) scenes
-    → Hold (scenes_checks header (map (scene_fields actors) scenes))
-scenes_hold header actors scenes wide some few sound differ =
-    let rows = map (scene_fields actors) scenes in
-    let limits : All (IsScene actors) scenes = All-weaker (IsSound actors) (IsScene actors) (λ scene is. is.limits) scenes sound in
-    let count : length (scene_rows rows) ≡ length scenes = ap length (scene_rows-all actors scenes limits) ∙ length-map scenes (scene_fields actors) in
-    hold-append _ _ (hold-below (length rows) (body_checks header rows) (λ place within.
-    place_holds header actors place scenes wide few (omega (arith, length-map scenes (scene_fields actors))) sound differ))
-    (hold-cons _ _ _ (lt-ltb 0 (length (scene_rows rows)) (omega arith)) hold-nil)
+  abbrev parts : Parts
+  parts = record { header = header; rates = rates; hold = hold; body = map (scene_fields actors) scenes; first = first }
+
+  -- the checks of the row at a place
+  place_holds : (place : ℕ) → place < length scenes → Hold (body_checks parts place)
+  place_holds place within =
+      let names = map (λ (scene : SceneData). scene.name) scenes in
+      let scene = get_or scenes place no_scene in
+      let its : IsSound actors scene = All-get_or (IsSound actors) scenes place no_scene within sound in
+      let here : get_or rows place [] ≡ scene_fields actors scene = get_or-map (scene_fields actors) scenes place no_scene [] within in
+      let before : scene_rows (take place rows) ≡ take place rows = scene_rows-before actors place scenes sound in
+      let same : body_checks parts place ≡ scene_checks header (take place rows) (first + place) (scene_fields actors scene)
+      = cond-false (is_passed_over (get_or rows place [])) [] (scene_checks header (scene_rows (take place rows)) (first + place) (get_or rows place []))
+      (ap is_passed_over here ∙ not_passed_over actors scene its.limits)
+      ∙ ap (λ earlier. scene_checks header earlier (first + place) (get_or rows place [])) before
+      ∙ ap (λ row. scene_checks header (take place rows) (first + place) row) here in
+      let few_before : length (take place rows) < MAX_SCENES
+      = omega (arith, few, length-map scenes (scene_fields actors), length-take-le place rows (omega (arith, length-map scenes (scene_fields actors)))) in
+      let named : get_or names place [] ≡ scene.name = get_or-map (λ scene. scene.name) scenes place no_scene [] within in
+      let own : contains (map (λ row. field_of row 0) (take place rows)) scene.name ≡ false
+      = ap (λ earlier. contains earlier scene.name) (names_before actors place scenes) ∙ ap (λ name. contains (take place names) name) (sym named)
+      ∙ not_contained-before names place (pairs-map (λ scene. scene.name) scenes differ) (omega (arith, length-map scenes (λ (scene : SceneData). scene.name))) in
+      subst Hold (sym same) (scene_holds header (take place rows) (first + place) actors scene wide few_before own its)
+
+  -- the checks of all rows of scenes
+  pub scenes_hold : 0 < length scenes → Hold (scenes_checks parts)
+  scenes_hold some =
+      let limits : All (IsScene actors) scenes = All-weaker (IsSound actors) (IsScene actors) (λ scene is. is.limits) scenes sound in
+      let count : length (scene_rows rows) ≡ length scenes = ap length (scene_rows-all actors scenes limits) ∙ length-map scenes (scene_fields actors) in
+      hold-append _ _ (hold-below (length rows) (body_checks parts) (λ place within.
+      place_holds place (omega (arith, length-map scenes (scene_fields actors)))))
+      (hold-cons _ _ _ (lt-ltb 0 (length (scene_rows rows)) (omega arith)) hold-nil)

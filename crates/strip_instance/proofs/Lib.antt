@@ -16,6 +16,7 @@ mod ReadableNames
 mod HeldActors
 mod HeldScenes
 mod Spelled
+mod CanonicalParts
 mod Back
 mod Passed
 mod Limits

@@ -3,13 +3,13 @@ use Rattle.std.proofs.Common.{◌≡◌, ◌≢◌, ◌<◌, ◌≤◌, ℕ, zer
 use Rattle.std.proofs.lemmas.Bool.{cases_lt, leb-true, false≢true}
 use Rattle.std.proofs.lemmas.List.{get_or_past}
 use Rattle.std.proofs.lemmas.Slice.Eq.{bytes_eq-Decides}
-use Rattle.strip_model.specs.Set.{has}
+use Rattle.strip_mask.specs.Set.{has}
 use Rattle.strip_model.specs.Data.{IsName}
-use Rattle.strip_instance.specs.Field.{Field, is_name, is_scene_name, is_number, number_of, works}
+use Rattle.strip_instance.specs.Field.{Field, is_name, is_scene_name, is_number, number_of, is_work_mark}
 use Rattle.strip_instance.specs.Faults.{contains}
-use Rattle.strip_instance.specs.Text.{cast_of}
+use Rattle.strip_instance.specs.Text.{cast_of_marks}
 use Rattle.strip_instance.proofs.Fields.{and-left, and-right}
-use Rattle.strip_instance.proofs.Casts.{has-cast_of}
+use Rattle.strip_instance.proofs.Casts.{has-cast_of_marks}
 
 -- a name keeps the limits of names
 pub name-limits : (field : Field) → is_name field ≡ true → IsName field
@@ -26,10 +26,10 @@ number-limits least most field is =
     (leb-true least (number_of field) (and-right _ _ (and-left _ _ is)), leb-true (number_of field) most (and-right _ _ is))
 
 -- marks spell no other actor
-pub cast-limits : (marks : List Field) (actor : ℕ) → has (cast_of marks) actor ≡ true → actor < length marks
+pub cast-limits : (marks : List Field) (actor : ℕ) → has (cast_of_marks marks) actor ≡ true → actor < length marks
 cast-limits marks actor there = elim (cases_lt actor (length marks)) [
   | inl within ↦ within
-  | inr past ↦ absurd (false≢true (sym (has-cast_of marks actor ∙ ap works (get_or_past marks actor [] past)) ∙ there))
+  | inr past ↦ absurd (false≢true (sym (has-cast_of_marks marks actor ∙ ap is_work_mark (get_or_past marks actor [] past)) ∙ there))
 ]
 
 -- a name that stands among others is found there

@@ -1,5 +1,5 @@
 -- Checks that pass, and the one that fails.
-use Rattle.std.proofs.Common.{◌≡◌, ◌<◌, ◌+◌, ◌⊎◌, ℕ, zero, suc, Bool, true, false, cond, List, [], ◌∷◌, ◌++◌, Option, Some, None, Result, Ok, Err, refl, ◌∙◌, subst, inl, inr, arith, add-one, IsErrAnd}
+use Rattle.std.proofs.Common.{◌≡◌, ◌<◌, ◌+◌, ◌⊎◌, ℕ, zero, suc, Bool, true, false, cond, List, [], ◌∷◌, ◌++◌, Option, Some, None, Result, Ok, Err, refl, ◌∙◌, subst, inl, inr, arith, add-one, IfErr, IsErrAnd}
 use Rattle.std.proofs.lemmas.Bool.{cases_lt}
 use Rattle.strip_instance.specs.declared.fault.InstanceFault.{InstanceFault}
 use Rattle.strip_instance.specs.declared.fault.InstanceFault.TheVariants.{Memory}
@@ -72,6 +72,11 @@ pub makes-handed_on : {T : Type 0} (checks : List Check) (made : Result T Instan
     → (fault ≡ Memory) ⊎ (first_fault checks ≡ Some fault) → Makes checks made
 makes-handed_on checks (Ok value) fault handed found = absurd handed
 makes-handed_on checks (Err other) fault handed found = rw handed found
+
+-- what a call answers that can want for memory alone, where all checks hold
+pub makes-done : {T : Type 0} (checks : List Check) (made : Result T InstanceFault) → first_fault checks ≡ None → IfErr made (λ fault. fault ≡ Memory) → Makes checks made
+makes-done checks (Ok value) none memory = none
+makes-done checks (Err fault) none memory = inl memory
 
 -- a fault among checks comes before those behind them
 pub makes-front : (xs ys : List Check) (fault : InstanceFault) → (fault ≡ Memory) ⊎ (first_fault xs ≡ Some fault) → (fault ≡ Memory) ⊎ (first_fault (xs ++ ys) ≡ Some fault)

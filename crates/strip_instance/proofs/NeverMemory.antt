@@ -1,10 +1,11 @@
 -- No check of a text's rows has want of memory for its fault.
-use Rattle.std.proofs.Common.{◌≡◌, ◌≢◌, ℕ, zero, suc, ◌+◌, Bool, true, false, List, [], ◌∷◌, ◌++◌, length, take, drop, Option, None, Some, Err, sym, ◌∙◌, inl, inr, if◌then◌else◌}
+use Rattle.std.proofs.Common.{◌≡◌, ◌≢◌, ℕ, zero, suc, ◌+◌, Bool, true, false, List, [], ◌∷◌, ◌++◌, length, take, Option, None, Some, Err, sym, ◌∙◌, inl, inr, if◌then◌else◌}
 use Rattle.std.proofs.lemmas.Bool.{cases_Bool, cond-true, cond-false}
 use Rattle.strip_instance.specs.declared.fault.InstanceFault.{InstanceFault}
-use Rattle.strip_instance.specs.declared.fault.InstanceFault.TheVariants.{Memory}
+use Rattle.strip_instance.specs.declared.fault.InstanceFault.TheVariants.{BadRate, BadHold, Memory}
 use Rattle.strip_instance.specs.Checks.{Check, check, first_fault, below}
-use Rattle.strip_instance.specs.Faults.{Row, row_of, actor_fields, actor_name_checks, header_checks, rate_check, rate_row_checks, is_passed_over, scene_rows, mark_check, scene_checks, body_checks, scenes_checks, all_checks}
+use Rattle.strip_instance.specs.Parts.{Row, Parts, parts_of, row_of, actor_fields}
+use Rattle.strip_instance.specs.Faults.{actor_name_checks, header_checks, rate_check, rate_row_checks, hold_row_checks, pay_row_checks, pay_checks, is_passed_over, scene_rows, mark_check, scene_checks, body_checks, scenes_checks, parts_checks, all_checks}
 use Rattle.strip_instance.specs.Text.{Says, reading_of}
 
 -- the first fault isn't want of memory
@@ -45,10 +46,19 @@ header-spares header =
     spares-cons _ _ _ (λ e. cc) (spares-below (length (actor_fields header)) (actor_name_checks (actor_fields header))
     (λ k. spares-cons _ _ _ (λ e. cc) (spares-cons _ _ _ (λ e. cc) (spares-cons _ _ _ (λ e. cc) (spares-cons _ _ _ (λ e. cc) spares-nil)))))
 
-rates-spare : (header rates : Row) → Spares (rate_row_checks header rates)
-rates-spare header rates =
-    spares-cons _ _ _ (λ e. cc) (spares-cons _ _ _ (λ e. cc)
-    (spares-below (length (actor_fields rates)) (rate_check rates) (λ k. spares-cons _ _ _ (λ e. cc) spares-nil)))
+pay-spares : (fault : ℕ → InstanceFault) (header : Row) (number : ℕ) (row : Row) → ((col : ℕ) → fault col ≢ Memory) → Spares (pay_row_checks fault header number row)
+pay-spares fault header number row other =
+    spares-cons _ _ _ (λ e. cc)
+    (spares-below (length (actor_fields row)) (rate_check fault row) (λ k. spares-cons _ _ _ (other (k + 3)) spares-nil))
+
+holds-spare : (header : Row) (hold : Option Row) → Spares (hold_row_checks header hold)
+holds-spare header None = spares-nil
+holds-spare header (Some row) = pay-spares BadHold header 3 row (λ col e. cc)
+
+rates-spare : (parts : Parts) → Spares (pay_checks parts)
+rates-spare parts =
+    spares-append (rate_row_checks parts.header parts.rates) _
+    (spares-cons _ _ _ (λ e. cc) (pay-spares BadRate parts.header 2 parts.rates (λ col e. cc))) (holds-spare parts.header parts.hold)
 
 scene-spares : (header : Row) (earlier : List Row) (number : ℕ) (row : Row) → Spares (scene_checks header earlier number row)
 scene-spares header earlier number row =
@@ -56,19 +66,22 @@ scene-spares header earlier number row =
     (spares-cons _ _ _ (λ e. cc) (spares-cons _ _ _ (λ e. cc)
     (spares-below (length (actor_fields row)) (mark_check number row) (λ k. spares-cons _ _ _ (λ e. cc) spares-nil)))))))
 
-scenes-spare : (header : Row) (body : List Row) → Spares (scenes_checks header body)
-scenes-spare header body =
-    spares-append (below (length body) (body_checks header body)) _
-    (spares-below (length body) (body_checks header body)
-    (λ k. spares-if (is_passed_over (row_of body k)) [] _ spares-nil (scene-spares header (scene_rows (take k body)) (k + 3) (row_of body k))))
+scenes-spare : (parts : Parts) → Spares (scenes_checks parts)
+scenes-spare parts =
+    spares-append (below (length parts.body) (body_checks parts)) _
+    (spares-below (length parts.body) (body_checks parts)
+    (λ k. spares-if (is_passed_over (row_of parts.body k)) [] _ spares-nil
+    (scene-spares parts.header (scene_rows (take k parts.body)) (parts.first + k) (row_of parts.body k))))
     (spares-cons _ _ _ (λ e. cc) spares-nil)
+
+parts-spare : (parts : Parts) → Spares (parts_checks parts)
+parts-spare parts =
+    spares-append (header_checks parts.header ++ pay_checks parts) _
+    (spares-append (header_checks parts.header) (pay_checks parts) (header-spares parts.header) (rates-spare parts)) (scenes-spare parts)
 
 all-spare : (rows : List Row) → Spares (all_checks rows)
 all-spare [] = spares-cons _ _ _ (λ e. cc) spares-nil
-all-spare (header ∷ rows) =
-    spares-append (header_checks header ++ rate_row_checks header (row_of rows 0)) _
-    (spares-append (header_checks header) (rate_row_checks header (row_of rows 0)) (header-spares header) (rates-spare header (row_of rows 0)))
-    (scenes-spare header (drop 1 rows))
+all-spare (header ∷ rows) = parts-spare (parts_of (header ∷ rows))
 
 -- rows are never read as want of memory
 not_memory : (rows : List Row) (found : Option InstanceFault) → found ≢ Some Memory → Err Memory ≢ reading_of rows found

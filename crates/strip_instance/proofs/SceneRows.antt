@@ -6,7 +6,8 @@ use Rattle.std.proofs.lemmas.List.Elements.{filter-append}
 use Rattle.strip_instance.specs.declared.fault.InstanceFault.{InstanceFault}
 use Rattle.strip_instance.specs.declared.fault.InstanceFault.TheVariants.{Memory}
 use Rattle.strip_instance.specs.Checks.{first_fault}
-use Rattle.strip_instance.specs.Faults.{Row, row_of, is_passed_over, scene_rows, scene_checks, body_checks}
+use Rattle.strip_instance.specs.Parts.{Row, Parts, row_of}
+use Rattle.strip_instance.specs.Faults.{is_passed_over, scene_rows, scene_checks, body_checks}
 
 -- one row more, which is passed over or a scene's
 one_row : (row : Row) (passed : Bool) → is_passed_over row ≡ passed → scene_rows (row ∷ []) ≡ cond passed [] (row ∷ [])
@@ -30,23 +31,23 @@ scene_rows-more rows k row within is kept =
     scene_rows-next rows k row within is ∙ ap (λ (rs : List Row). scene_rows (take k rows) ++ rs) (one_row row false kept)
 
 -- the checks of one row
-body_checks-at : (header : Row) (body : List Row) (k : ℕ) (row : Row) (passed : Bool) → row_of body k ≡ row → is_passed_over row ≡ passed
-    → body_checks header body k ≡ cond passed [] (scene_checks header (scene_rows (take k body)) (k + 3) row)
-body_checks-at header body k row passed is test = rw (is, test) refl
+body_checks-at : (parts : Parts) (k : ℕ) (row : Row) (passed : Bool) → row_of parts.body k ≡ row → is_passed_over row ≡ passed
+    → body_checks parts k ≡ cond passed [] (scene_checks parts.header (scene_rows (take k parts.body)) (parts.first + k) row)
+body_checks-at parts k row passed is test = rw (is, test) refl
 
-pub body_checks-passed : (header : Row) (body : List Row) (k : ℕ) (row : Row) → row_of body k ≡ row → is_passed_over row ≡ true
-    → first_fault (body_checks header body k) ≡ None
-body_checks-passed header body k row is passed = ap first_fault (body_checks-at header body k row true is passed)
+pub body_checks-passed : (parts : Parts) (k : ℕ) (row : Row) → row_of parts.body k ≡ row → is_passed_over row ≡ true
+    → first_fault (body_checks parts k) ≡ None
+body_checks-passed parts k row is passed = ap first_fault (body_checks-at parts k row true is passed)
 
-pub body_checks-scene : (header : Row) (body : List Row) (k : ℕ) (row : Row) → row_of body k ≡ row → is_passed_over row ≡ false
-    → first_fault (body_checks header body k) ≡ first_fault (scene_checks header (scene_rows (take k body)) (k + 3) row)
-body_checks-scene header body k row is kept = ap first_fault (body_checks-at header body k row false is kept)
+pub body_checks-scene : (parts : Parts) (k : ℕ) (row : Row) → row_of parts.body k ≡ row → is_passed_over row ≡ false
+    → first_fault (body_checks parts k) ≡ first_fault (scene_checks parts.header (scene_rows (take k parts.body)) (parts.first + k) row)
+body_checks-scene parts k row is kept = ap first_fault (body_checks-at parts k row false is kept)
 
-pub scene-fault : (header : Row) (body : List Row) (k : ℕ) (row : Row) (fault : InstanceFault) → row_of body k ≡ row → is_passed_over row ≡ false
-    → (fault ≡ Memory) ⊎ (first_fault (scene_checks header (scene_rows (take k body)) (k + 3) row) ≡ Some fault)
-    → (fault ≡ Memory) ⊎ (first_fault (body_checks header body k) ≡ Some fault)
-scene-fault header body k row fault is kept (inl memory) = inl memory
-scene-fault header body k row fault is kept (inr found) = inr (body_checks-scene header body k row is kept ∙ found)
+pub scene-fault : (parts : Parts) (k : ℕ) (row : Row) (fault : InstanceFault) → row_of parts.body k ≡ row → is_passed_over row ≡ false
+    → (fault ≡ Memory) ⊎ (first_fault (scene_checks parts.header (scene_rows (take k parts.body)) (parts.first + k) row) ≡ Some fault)
+    → (fault ≡ Memory) ⊎ (first_fault (body_checks parts k) ≡ Some fault)
+scene-fault parts k row fault is kept (inl memory) = inl memory
+scene-fault parts k row fault is kept (inr found) = inr (body_checks-scene parts k row is kept ∙ found)
 
 -- how many scenes there are tells whether there is one
 pub some_scene : (scenes : ℕ) → 0 < scenes → ltb 0 scenes ≡ true

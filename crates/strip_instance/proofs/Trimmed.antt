@@ -5,7 +5,7 @@ use Rattle.std.proofs.lemmas.Grind.{reverse_onto}
 use Rattle.std.proofs.lemmas.List.{get_or_past, reverse-append, reverse-reverse}
 use Rattle.std.proofs.lemmas.List.Elements.{All-map}
 use Rattle.strip_instance.specs.Field.{Field, is_blank, without_front_blanks, trimmed}
-use Rattle.strip_instance.specs.Faults.{Row, field_of}
+use Rattle.strip_instance.specs.Parts.{Row, field_of}
 use Rattle.strip_instance.specs.Text.{HasRows}
 
 -- the field is empty, or its first byte is no blank

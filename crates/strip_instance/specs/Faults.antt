@@ -1,25 +1,14 @@
--- The checks of an instance text in the order in which its faults are told, over its rows: the records with their fields trimmed.
-use Rattle.std.specs.Prelude.{ℕ, ◌+◌, Bool, false, not, ◌==◌, ◌&&◌, nat_lt, List, [], ◌∷◌, ◌++◌, length, map, take, drop, filter, codes, slice_index_or, if◌then◌else◌}
+-- The checks of an instance text in the order in which its faults are told, over its parts.
+use Rattle.std.specs.Prelude.{ℕ, ◌+◌, Bool, false, not, ◌==◌, ◌&&◌, nat_lt, List, [], ◌∷◌, ◌++◌, length, map, take, filter, codes, Option, None, Some, if◌then◌else◌}
 use Rattle.std.specs.List.{list_all, list_any}
 use Rattle.std.specs.Str.{bytes_eq, is_utf8}
-use Rattle.strip_model.specs.declared.limits.TheConstants.{MAX_ACTORS, MAX_DAYS, MAX_RATE, MAX_SCENES}
-use Rattle.strip_instance.specs.declared.fault.InstanceFault.TheVariants.{Empty, BadHeader, NoRateRow, Width, BadName, DuplicateScene, DuplicateActor, BadDays, BadRate, BadMark, NoScene, TooManyScenes, TooManyActors, NotUtf8}
+use Rattle.strip_pay.specs.declared.fitting.TheConstants.{MAX_SCENES}
+use Rattle.strip_model.specs.declared.limits.TheConstants.{MAX_ACTORS, MAX_DAYS, MAX_RATE}
+use Rattle.strip_instance.specs.declared.fault.InstanceFault.{InstanceFault}
+use Rattle.strip_instance.specs.declared.fault.InstanceFault.TheVariants.{Empty, BadHeader, NoRateRow, Width, BadName, DuplicateScene, DuplicateActor, BadDays, BadRate, BadHold, BadMark, NoScene, TooManyScenes, TooManyActors, NotUtf8}
 use Rattle.strip_instance.specs.Field.{Field, is_word, is_name, is_scene_name, is_number, is_mark}
+use Rattle.strip_instance.specs.Parts.{Row, Parts, parts_of, field_of, row_of, actor_fields}
 use Rattle.strip_instance.specs.Checks.{Check, check, checks_of_one, below}
-
-abbrev pub Row : Type 0
-Row = List Field
-
--- the field in a column and a row, counted from 0; past the end it is empty
-abbrev pub field_of : Row → ℕ → Field
-field_of row place = slice_index_or row place []
-
-abbrev pub row_of : List Row → ℕ → Row
-row_of rows place = slice_index_or rows place []
-
--- the fields behind the first two, one for each actor
-abbrev pub actor_fields : Row → List Field
-actor_fields row = drop 2 row
 
 abbrev pub contains : List Field → Field → Bool
 contains names name = list_any (bytes_eq name) names
@@ -41,18 +30,28 @@ header_checks header =
     check (is_header header) BadHeader
     ∷ below (length (actor_fields header)) (actor_name_checks (actor_fields header))
 
--- the rates: the first word, as many fields as the header, and then each actor's rate
-abbrev pub rate_check : Row → ℕ → List Check
-rate_check rates actor = checks_of_one (is_number 0 MAX_RATE (field_of (actor_fields rates) actor)) (BadRate (actor + 3))
+-- each rate of a row; one that is no rate has this fault at its column
+abbrev pub rate_check : (ℕ → InstanceFault) → Row → ℕ → List Check
+rate_check fault row actor = checks_of_one (is_number 0 MAX_RATE (field_of (actor_fields row) actor)) (fault (actor + 3))
 
-abbrev pub rate_checks : Row → List Check
-rate_checks rates = below (length (actor_fields rates)) (rate_check rates)
+abbrev pub rate_checks : (ℕ → InstanceFault) → Row → List Check
+rate_checks fault row = below (length (actor_fields row)) (rate_check fault row)
 
+-- a row of rates with this number: as many fields as the header, and then each rate
+abbrev pub pay_row_checks : (ℕ → InstanceFault) → Row → ℕ → Row → List Check
+pay_row_checks fault header number row = check (length row == length header) (Width number) ∷ rate_checks fault row
+
+-- the rates: the first word, and then the row
 abbrev pub rate_row_checks : Row → Row → List Check
-rate_row_checks header rates =
-    check (is_word (codes "rate") (field_of rates 0)) NoRateRow
-    ∷ check (length rates == length header) (Width 2)
-    ∷ rate_checks rates
+rate_row_checks header rates = check (is_word (codes "rate") (field_of rates 0)) NoRateRow ∷ pay_row_checks BadRate header 2 rates
+
+-- the hold rates, where they have a row
+abbrev pub hold_row_checks : Row → Option Row → List Check
+hold_row_checks header None = []
+hold_row_checks header (Some hold) = pay_row_checks BadHold header 3 hold
+
+abbrev pub pay_checks : Parts → List Check
+pay_checks parts = rate_row_checks parts.header parts.rates ++ hold_row_checks parts.header parts.hold
 
 -- a row whose fields are all empty is passed over
 abbrev pub is_passed_over : Row → Bool
@@ -78,18 +77,21 @@ scene_checks header earlier number row =
     ∷ check (is_number 1 MAX_DAYS (field_of row 1)) (BadDays number)
     ∷ mark_checks number row
 
--- the rows behind the first two; the one at place 0 has number 3
-abbrev pub body_checks : Row → List Row → ℕ → List Check
-body_checks header body place =
-    if is_passed_over (row_of body place) then [] else scene_checks header (scene_rows (take place body)) (place + 3) (row_of body place)
+-- the row at a place of the body
+abbrev pub body_checks : Parts → ℕ → List Check
+body_checks parts place =
+    let row = row_of parts.body place in
+    if is_passed_over row then [] else scene_checks parts.header (scene_rows (take place parts.body)) (parts.first + place) row
 
-abbrev pub scenes_checks : Row → List Row → List Check
-scenes_checks header body =
-    below (length body) (body_checks header body)
-    ++ check (nat_lt 0 (length (scene_rows body))) NoScene ∷ []
+abbrev pub scenes_checks : Parts → List Check
+scenes_checks parts =
+    below (length parts.body) (body_checks parts)
+    ++ check (nat_lt 0 (length (scene_rows parts.body))) NoScene ∷ []
 
--- all checks of a text's rows; a second row that is missing counts as one without fields, so it lacks the word `rate`
+abbrev pub parts_checks : Parts → List Check
+parts_checks parts = header_checks parts.header ++ pay_checks parts ++ scenes_checks parts
+
+-- all checks of a text's rows; a row of rates that is missing counts as one without fields, so it lacks the word `rate`
 abbrev pub all_checks : List Row → List Check
 all_checks [] = check false Empty ∷ []
-all_checks (header ∷ rows) =
-    header_checks header ++ rate_row_checks header (row_of rows 0) ++ scenes_checks header (drop 1 rows)
+all_checks (header ∷ rows) = parts_checks (parts_of (header ∷ rows))

@@ -50,11 +50,11 @@ abbrev pub number_of : Field → ℕ
 number_of field = digits_value 10 field
 
 -- the mark of an actor who works in the scene, and that of one who doesn't
-abbrev pub works : Field → Bool
-works field = bytes_eq field (codes "x") || bytes_eq field (codes "X") || bytes_eq field (codes "1")
+abbrev pub is_work_mark : Field → Bool
+is_work_mark field = bytes_eq field (codes "x") || bytes_eq field (codes "X") || bytes_eq field (codes "1")
 
-abbrev pub rests : Field → Bool
-rests field = bytes_eq field [] || bytes_eq field (codes ".") || bytes_eq field (codes "-") || bytes_eq field (codes "0")
+abbrev pub is_rest_mark : Field → Bool
+is_rest_mark field = bytes_eq field [] || bytes_eq field (codes ".") || bytes_eq field (codes "-") || bytes_eq field (codes "0")
 
 abbrev pub is_mark : Field → Bool
-is_mark field = works field || rests field
+is_mark field = is_work_mark field || is_rest_mark field

@@ -1,4 +1,5 @@
 pub mod Field
+pub mod Parts
 pub mod Checks
 pub mod Faults
 pub mod Text

@@ -1,16 +1,17 @@
 -- What an instance text says: an instance, or its first fault.
-use Rattle.std.specs.Prelude.{◌≡◌, ℕ, ◌+◌, ◌*◌, Bool, true, List, [], ◌∷◌, ◌++◌, length, map, drop, All, codes, Option, None, Some, Result, Ok, Err, if◌then◌else◌}
-use Rattle.std.specs.List.{flat_map, range_with_len}
+use Rattle.std.specs.Prelude.{◌≡◌, ℕ, ◌+◌, ◌*◌, Bool, true, not, ◌==◌, List, [], ◌∷◌, ◌++◌, length, map, All, codes, slice_index, Option, None, Some, Result, Ok, Err, if◌then◌else◌}
+use Rattle.std.specs.List.{flat_map, list_any, range_with_len}
 use Rattle.std.specs.Fmt.{decimal}
 use Rattle.csv.specs.Reading.{AreRecords, default_config, strip_bom}
 use Rattle.csv.specs.Writing.{default_writer, row_text}
 use Rattle.csv.specs.declared.parser.State.TheVariants as st
-use Rattle.strip_model.specs.Set.{has}
+use Rattle.strip_mask.specs.Set.{has}
 use Rattle.strip_model.specs.Data.{SceneData, ActorData, InstanceData}
 use Rattle.strip_instance.specs.declared.fault.InstanceFault.{InstanceFault}
-use Rattle.strip_instance.specs.Field.{Field, trimmed, is_name, is_scene_name, number_of, works}
+use Rattle.strip_instance.specs.Field.{Field, trimmed, is_name, is_scene_name, number_of, is_work_mark}
+use Rattle.strip_instance.specs.Parts.{Row, Parts, parts_of, field_of, actor_fields}
 use Rattle.strip_instance.specs.Checks.{first_fault}
-use Rattle.strip_instance.specs.Faults.{Row, field_of, row_of, actor_fields, scene_rows, all_checks}
+use Rattle.strip_instance.specs.Faults.{scene_rows, all_checks}
 
 -- the text has these rows: its records, as CSV with commas and double quotes, their fields trimmed
 abbrev pub HasRows : List ℕ → List Row → Type 0
@@ -18,33 +19,44 @@ HasRows text rows =
     (records : List (List Field)) × AreRecords default_config st.StartRecord (strip_bom text) records
     × (rows ≡ map (map trimmed) records)
 
--- the actors by their names and rates
-abbrev pub actors_of : List Field → List Field → List ActorData
-actors_of [] rates = []
-actors_of (name ∷ names) [] = []
-actors_of (name ∷ names) (rate ∷ rates) = record { name = name; rate = number_of rate } ∷ actors_of names rates
+-- the rates of a row
+abbrev pub rates_of : Row → List ℕ
+rates_of row = map number_of (actor_fields row)
+
+-- the hold rates: without a row of their own each actor's is his rate
+abbrev pub holds_of : List ℕ → Option Row → List ℕ
+holds_of rates None = rates
+holds_of rates (Some hold) = rates_of hold
+
+-- the actors by their names, rates and hold rates
+abbrev pub actor_of : List Field → List ℕ → List ℕ → ℕ → ActorData
+actor_of names rates holds actor = record { name = field_of names actor; rate = slice_index rates actor; hold = slice_index holds actor }
+
+abbrev pub actors_of : List Field → List ℕ → List ℕ → List ActorData
+actors_of names rates holds = map (actor_of names rates holds) (range_with_len 0 (length names))
 
 -- the set of the actors whose marks say that they work: bit 0 stands for the first
-abbrev pub cast_of : List Field → ℕ
-cast_of [] = 0
-cast_of (mark ∷ marks) = (if works mark then 1 else 0) + 2 * cast_of marks
+abbrev pub cast_of_marks : List Field → ℕ
+cast_of_marks [] = 0
+cast_of_marks (mark ∷ marks) = (if is_work_mark mark then 1 else 0) + 2 * cast_of_marks marks
 
 abbrev pub scene_of : Row → SceneData
 scene_of row = record {
   name = field_of row 0;
   days = number_of (field_of row 1);
-  cast = cast_of (actor_fields row);
+  cast = cast_of_marks (actor_fields row);
 }
 
--- the instance of rows without a fault
-abbrev pub instance_of : List Row → InstanceData
-instance_of rows = record {
-  scenes = map scene_of (scene_rows (drop 2 rows));
-  actors = actors_of (actor_fields (row_of rows 0)) (actor_fields (row_of rows 1));
+-- the instance of parts without a fault
+abbrev pub instance_of : Parts → InstanceData
+instance_of parts = record {
+  scenes = map scene_of (scene_rows parts.body);
+  actors = actors_of (actor_fields parts.header) (rates_of parts.rates) (holds_of (rates_of parts.rates) parts.hold);
+  pairs = [];
 }
 
 abbrev pub reading_of : List Row → Option InstanceFault → Result InstanceData InstanceFault
-reading_of rows None = Ok (instance_of rows)
+reading_of rows None = Ok (instance_of (parts_of rows))
 reading_of rows (Some fault) = Err fault
 
 -- the text says this instance, or this fault: the first one in the order of the checks
@@ -59,24 +71,39 @@ pub record SaysJust (text : List ℕ) (reading : Result InstanceData InstanceFau
 abbrev pub mark_of : ℕ → ℕ → Field
 mark_of cast actor = if has cast actor then codes "x" else codes "."
 
--- the fields of the three kinds of rows
-abbrev pub header_fields : List ActorData → List Field
+-- the fields of the kinds of rows
+abbrev pub header_fields : List ActorData → Row
 header_fields actors = codes "scene" ∷ codes "days" ∷ map (λ actor. actor.name) actors
 
-abbrev pub rate_fields : List ActorData → List Field
-rate_fields actors = codes "rate" ∷ [] ∷ map (λ actor. decimal actor.rate) actors
+abbrev pub pay_fields : Field → (ActorData → ℕ) → List ActorData → Row
+pay_fields word rate actors = word ∷ [] ∷ map (λ actor. decimal (rate actor)) actors
 
-abbrev pub scene_fields : ℕ → SceneData → List Field
+abbrev pub rate_fields : List ActorData → Row
+rate_fields actors = pay_fields (codes "rate") (λ actor. actor.rate) actors
+
+abbrev pub hold_fields : List ActorData → Row
+hold_fields actors = pay_fields (codes "hold") (λ actor. actor.hold) actors
+
+abbrev pub scene_fields : ℕ → SceneData → Row
 scene_fields actors scene = scene.name ∷ decimal scene.days ∷ map (mark_of scene.cast) (range_with_len 0 actors)
+
+-- some actor's hold rate isn't his rate
+abbrev pub has_own_holds : List ActorData → Bool
+has_own_holds actors = list_any (λ actor. not (actor.hold == actor.rate)) actors
+
+-- the rows before those of the scenes; the hold row is among them only where it tells something
+abbrev pub head_rows : List ActorData → List Row
+head_rows actors = header_fields actors ∷ rate_fields actors ∷ (if has_own_holds actors then hold_fields actors ∷ [] else [])
+
+abbrev pub canonical_rows : InstanceData → List Row
+canonical_rows inst = head_rows inst.actors ++ map (scene_fields (length inst.actors)) inst.scenes
 
 -- the canonical text: each row as CSV writes it, quoted where it has to be
 abbrev pub csv_row : List Field → List ℕ
 csv_row fields = row_text default_writer fields
 
 abbrev pub canonical_text : InstanceData → List ℕ
-canonical_text inst =
-    csv_row (header_fields inst.actors) ++ csv_row (rate_fields inst.actors)
-    ++ flat_map (λ scene. csv_row (scene_fields (length inst.actors) scene)) inst.scenes
+canonical_text inst = flat_map csv_row (canonical_rows inst)
 
 -- a name that a text can say: it passes the test of names, and has no blank at either end
 pub record IsReadableName (test : Field → Bool) (name : Field) : Type 0 where

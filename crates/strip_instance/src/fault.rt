@@ -28,6 +28,8 @@ pub enum InstanceFault {
     BadDays { row: u64 },
     /// The column's rate is no number from 0 to 1,000,000,000.
     BadRate { col: u64 },
+    /// The column's hold rate is no number from 0 to 1,000,000,000.
+    BadHold { col: u64 },
     /// The field is no mark.
     BadMark { row: u64, col: u64 },
     /// There is no scene.
@@ -75,6 +77,7 @@ impl fmt::Display for InstanceFault {
             }
             InstanceFault::BadDays { row } => write!(f, "row {row}: not a number of days"),
             InstanceFault::BadRate { col } => write!(f, "column {col}: not a rate"),
+            InstanceFault::BadHold { col } => write!(f, "column {col}: not a hold rate"),
             InstanceFault::BadMark { row, col } => write!(f, "row {row}, column {col}: not a mark"),
             InstanceFault::NoScene => f.write_str("there is no scene"),
             InstanceFault::TooManyScenes => f.write_str("there are too many scenes"),

@@ -3,7 +3,7 @@ ghost use Rattle.std.specs.Prelude.{◌≡◌, true, false, reverse, MatchOption
 ghost use Rattle.std.specs.List.{list_all};
 ghost use Rattle.std.specs.Str.{is_utf8, all_ascii_digits};
 ghost use Rattle.strip_instance.specs.declared.fault.InstanceFault.TheVariants.{NotUtf8};
-ghost use Rattle.strip_instance.specs.Field.{is_blank, is_kept, is_mark, is_name, is_name_byte, is_number, is_scene_name, is_word, number_of, trimmed, without_front_blanks, works};
+ghost use Rattle.strip_instance.specs.Field.{is_blank, is_kept, is_mark, is_name, is_name_byte, is_number, is_scene_name, is_word, number_of, is_work_mark, trimmed, without_front_blanks};
 ghost use Rattle.strip_instance.specs.Checks.{Makes, checks_of_one};
 
 use crate::fault::InstanceFault;
@@ -112,7 +112,7 @@ fn are_digits(bytes: &[u8]) -> bool
 /// Whether the mark says that the actor works; none where the field is no mark.
 pub(crate) fn mark_meaning(field: &[u8]) -> Option<bool>
     ensures { MatchOption result (is_mark field.now ≡ false)
-        (λ working. (is_mark field.now ≡ true) × (working ≡ works field.now)) }
+        (λ working. (is_mark field.now ≡ true) × (working ≡ is_work_mark field.now)) }
 {
     match field {
         b"x" | b"X" | b"1" => Some(true),

@@ -2,8 +2,9 @@
 ghost use Rattle.std.specs.Prelude.{◌≡◌, ◌+◌, ◌<◌, ◌≤◌, length, take, map, IfOk, OnOk};
 ghost use Rattle.indexmap.specs.IndexSet.{keys};
 ghost use Rattle.strip_model.specs.declared.limits.TheConstants.{MAX_ACTORS};
+ghost use Rattle.strip_instance.specs.Parts.{actor_fields};
 ghost use Rattle.strip_instance.specs.Checks.{Makes};
-ghost use Rattle.strip_instance.specs.Faults.{actor_fields, actor_name_checks, header_checks, is_header};
+ghost use Rattle.strip_instance.specs.Faults.{actor_name_checks, header_checks, is_header};
 ghost use Rattle.strip_instance.specs.Shown.{row_data, strs};
 
 use crate::fault::InstanceFault;

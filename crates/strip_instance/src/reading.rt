@@ -1,6 +1,7 @@
 // An instance text, read.
 ghost use Rattle.std.specs.Prelude.{◌≡◌, ◌≢◌, Ok, Err, IfOk, IfErr};
 ghost use Rattle.strip_instance.specs.declared.fault.InstanceFault.TheVariants.{Memory as OutOfMemory};
+ghost use Rattle.strip_instance.specs.Parts.{parts_of};
 ghost use Rattle.strip_instance.specs.Checks.{Makes};
 ghost use Rattle.strip_instance.specs.Faults.{all_checks};
 ghost use Rattle.strip_instance.specs.Shown.{rows_data};
@@ -8,6 +9,7 @@ ghost use Rattle.strip_instance.specs.Text.{SaysJust, instance_of};
 
 use crate::fault::InstanceFault;
 use crate::header::read_names;
+use crate::parts::parts_of;
 use crate::rates::read_actors;
 use crate::records::records;
 use crate::scenes::read_scenes;
@@ -27,17 +29,18 @@ pub fn read_instance(alloc: Global, text: &[u8]) -> Result<Instance, InstanceFau
 
 fn read_rows(alloc: Global, rows: &[ByteRecord]) -> Result<Instance, InstanceFault>
     ensures makes { Makes (all_checks (rows_data rows.now)) result }
-    ensures instance { IfOk result (λ inst. inst ≡ instance_of (rows_data rows.now)) }
+    ensures instance { IfOk result (λ inst. inst ≡ instance_of (parts_of (rows_data rows.now))) }
 {
     let [header, rest @ ..] = rows else {
         return Err(InstanceFault::Empty);
     };
     let names = read_names(alloc, header)?;
-    let [rates, body @ ..] = rest else {
+    let [rates, rest @ ..] = rest else {
         return Err(InstanceFault::NoRateRow);
     };
-    let actors = read_actors(alloc, header, names.as_slice(), rates)?;
-    let scenes = read_scenes(alloc, header, body)?;
+    let parts = parts_of(header, rates, rest);
+    let actors = read_actors(alloc, names.as_slice(), &parts)?;
+    let scenes = read_scenes(alloc, &parts)?;
     match Instance::of(scenes, actors) {
         Some(inst) => Ok(inst),
         None => unreachable!("rows without a fault keep the limits"),

@@ -4,7 +4,8 @@ ghost use Rattle.csv.specs.Reading.{AreRecords, default_config, strip_bom};
 ghost use Rattle.csv.specs.Records.{fields_of};
 ghost use Rattle.csv.specs.declared.parser.State.TheVariants as st;
 ghost use Rattle.strip_instance.specs.declared.fault.InstanceFault.TheVariants.{Memory as OutOfMemory};
-ghost use Rattle.strip_instance.specs.Faults.{actor_fields, field_of, is_passed_over};
+ghost use Rattle.strip_instance.specs.Parts.{actor_fields, field_of};
+ghost use Rattle.strip_instance.specs.Faults.{is_passed_over};
 ghost use Rattle.strip_instance.specs.Shown.{row_data};
 
 use crate::fault::InstanceFault;

@@ -8,7 +8,7 @@ use Rattle.std.proofs.lemmas.List.Quantifiers.{position-Some}
 use Rattle.std.proofs.lemmas.List.{map-set, map-append}
 use Rattle.std.proofs.lemmas.Iterator.Adapters.{position_from-zero}
 use Rattle.strip_io.specs.Held.{HeldFile, found, is_held, put, count_fault, next_count}
-use Rattle.strip_io.specs.Shown.{shown}
+use Rattle.strip_io.specs.Shown.{held_file}
 use Rattle.strip_io.specs.declared.table.Entry.{Entry}
 
 -- whether an entry has the name
@@ -28,23 +28,23 @@ later name x xs i d first = record {
   before = λ k h. first.before (suc k) (omega arith);
 }
 
-pub found_first : (name : List ℕ) (xs : List Entry) (i : ℕ) (d : Entry) → IsFirst name xs i d → found (map shown xs) name ≡ Some (shown (get_or xs i d))
+pub found_first : (name : List ℕ) (xs : List Entry) (i : ℕ) (d : Entry) → IsFirst name xs i d → found (map held_file xs) name ≡ Some (held_file (get_or xs i d))
 found_first name [] i d first = absurd (let h = first.within in omega arith)
 found_first name (x ∷ xs) zero d first = rw first.here refl
 found_first name (x ∷ xs) (suc i) d first = rw (first.before zero (omega arith)) (found_first name xs i d (later name x xs i d first))
 
-pub put_first : (name bytes : List ℕ) (xs : List Entry) (i : ℕ) (d : Entry) → IsFirst name xs i d → put (map shown xs) name bytes ≡ set (map shown xs) i (record (shown (get_or xs i d)) { bytes = bytes })
+pub put_first : (name bytes : List ℕ) (xs : List Entry) (i : ℕ) (d : Entry) → IsFirst name xs i d → put (map held_file xs) name bytes ≡ set (map held_file xs) i (record (held_file (get_or xs i d)) { bytes = bytes })
 put_first name bytes [] i d first = absurd (let h = first.within in omega arith)
 put_first name bytes (x ∷ xs) zero d first = rw first.here refl
 put_first name bytes (x ∷ xs) (suc i) d first =
-    rw (first.before zero (omega arith)) (ap (λ (l : List HeldFile). shown x ∷ l) (put_first name bytes xs i d (later name x xs i d first)))
+    rw (first.before zero (omega arith)) (ap (λ (l : List HeldFile). held_file x ∷ l) (put_first name bytes xs i d (later name x xs i d first)))
 
 pub count_first : (name : List ℕ) (xs : List Entry) (i : ℕ) (d : Entry) → IsFirst name xs i d
-    → count_fault (map shown xs) name ≡ set (map shown xs) i (record (shown (get_or xs i d)) { faults = next_count (get_or xs i d).faults })
+    → count_fault (map held_file xs) name ≡ set (map held_file xs) i (record (held_file (get_or xs i d)) { faults = next_count (get_or xs i d).faults })
 count_first name [] i d first = absurd (let h = first.within in omega arith)
 count_first name (x ∷ xs) zero d first = rw first.here refl
 count_first name (x ∷ xs) (suc i) d first =
-    rw (first.before zero (omega arith)) (ap (λ (l : List HeldFile). shown x ∷ l) (count_first name xs i d (later name x xs i d first)))
+    rw (first.before zero (omega arith)) (ap (λ (l : List HeldFile). held_file x ∷ l) (count_first name xs i d (later name x xs i d first)))
 
 -- no entry has the name
 abbrev pub NoneNamed : List ℕ → List Entry → Type 0
@@ -64,17 +64,17 @@ none_from name (x ∷ xs) i e =
 pub none_named : (name : List ℕ) (xs : List Entry) → position (is_named name) xs ≡ None → NoneNamed name xs
 none_named name xs e = none_from name xs 0 (sym (position_from-zero (is_named name) xs) ∙ e)
 
-pub found_none : (name : List ℕ) (xs : List Entry) → NoneNamed name xs → found (map shown xs) name ≡ None
+pub found_none : (name : List ℕ) (xs : List Entry) → NoneNamed name xs → found (map held_file xs) name ≡ None
 found_none name [] none = refl
 found_none name (x ∷ xs) none = rw none.0 (found_none name xs none.1)
 
-pub put_none : (name bytes : List ℕ) (xs : List Entry) → NoneNamed name xs → put (map shown xs) name bytes ≡ map shown xs ++ record { name = name; bytes = bytes; faults = 0 } ∷ []
+pub put_none : (name bytes : List ℕ) (xs : List Entry) → NoneNamed name xs → put (map held_file xs) name bytes ≡ map held_file xs ++ record { name = name; bytes = bytes; faults = 0 } ∷ []
 put_none name bytes [] none = refl
-put_none name bytes (x ∷ xs) none = rw none.0 (ap (λ (l : List HeldFile). shown x ∷ l) (put_none name bytes xs none.1))
+put_none name bytes (x ∷ xs) none = rw none.0 (ap (λ (l : List HeldFile). held_file x ∷ l) (put_none name bytes xs none.1))
 
-pub count_none : (name : List ℕ) (xs : List Entry) → NoneNamed name xs → count_fault (map shown xs) name ≡ map shown xs
+pub count_none : (name : List ℕ) (xs : List Entry) → NoneNamed name xs → count_fault (map held_file xs) name ≡ map held_file xs
 count_none name [] none = refl
-count_none name (x ∷ xs) none = rw none.0 (ap (λ (l : List HeldFile). shown x ∷ l) (count_none name xs none.1))
+count_none name (x ∷ xs) none = rw none.0 (ap (λ (l : List HeldFile). held_file x ∷ l) (count_none name xs none.1))
 
 -- what the look-up of a name says of the entries
 pub is_first : (name : List ℕ) (seen xs : List Entry) (i : ℕ) (d : Entry) → seen ≡ xs → Some i ≡ position (is_named name) seen → IsFirst name xs i d
@@ -86,36 +86,36 @@ pub is_nowhere : (name : List ℕ) (seen xs : List Entry) → seen ≡ xs → No
 is_nowhere name seen xs same at = none_named name xs (ap (position (is_named name)) (sym same) ∙ sym at)
 
 -- a name's presence, by its place
-pub held_by_place : (name : List ℕ) (seen xs : List Entry) (at : Option ℕ) → seen ≡ xs → at ≡ position (is_named name) seen → is_some at ≡ is_held (map shown xs) name
+pub held_by_place : (name : List ℕ) (seen xs : List Entry) (at : Option ℕ) → seen ≡ xs → at ≡ position (is_named name) seen → is_some at ≡ is_held (map held_file xs) name
 held_by_place name seen xs None same at = rw (found_none name xs (is_nowhere name seen xs same at)) refl
 held_by_place name seen [] (Some i) same at = absurd (cc (same, at))
 held_by_place name seen (x ∷ xs) (Some i) same at = rw (found_first name (x ∷ xs) i x (is_first name seen (x ∷ xs) i x same at)) refl
 
 -- what a write to the first entry of a name leaves
-pub counted : (name : List ℕ) (xs : List Entry) (i : ℕ) (entry : Entry) (n : ℕ) (files : List HeldFile) → IsFirst name xs i entry → entry ≡ get_or xs i entry → n ≡ next_count entry.faults → map shown xs ≡ files
-    → map shown (set xs i (record entry { faults = n })) ≡ count_fault files name
+pub counted : (name : List ℕ) (xs : List Entry) (i : ℕ) (entry : Entry) (n : ℕ) (files : List HeldFile) → IsFirst name xs i entry → entry ≡ get_or xs i entry → n ≡ next_count entry.faults → map held_file xs ≡ files
+    → map held_file (set xs i (record entry { faults = n })) ≡ count_fault files name
 counted name xs i entry n files first at is all =
-    map-set shown xs i (record entry { faults = n })
-    ∙ ap (λ (k : ℕ). set (map shown xs) i (record (shown entry) { faults = k })) is
-    ∙ ap (λ (e : Entry). set (map shown xs) i (record (shown e) { faults = next_count e.faults })) at
+    map-set held_file xs i (record entry { faults = n })
+    ∙ ap (λ (k : ℕ). set (map held_file xs) i (record (held_file entry) { faults = k })) is
+    ∙ ap (λ (e : Entry). set (map held_file xs) i (record (held_file e) { faults = next_count e.faults })) at
     ∙ sym (count_first name xs i entry first)
     ∙ ap (λ (l : List HeldFile). count_fault l name) all
 
-pub changed : (name bytes : List ℕ) (xs : List Entry) (i : ℕ) (entry : Entry) (held : Vec ℕ Global) (files : List HeldFile) → IsFirst name xs i entry → entry ≡ get_or xs i entry → held.items ≡ bytes → map shown xs ≡ files
-    → map shown (set xs i (record entry { bytes = held })) ≡ put files name bytes
+pub changed : (name bytes : List ℕ) (xs : List Entry) (i : ℕ) (entry : Entry) (held : Vec ℕ Global) (files : List HeldFile) → IsFirst name xs i entry → entry ≡ get_or xs i entry → held.items ≡ bytes → map held_file xs ≡ files
+    → map held_file (set xs i (record entry { bytes = held })) ≡ put files name bytes
 changed name bytes xs i entry held files first at is all =
-    map-set shown xs i (record entry { bytes = held })
-    ∙ ap (λ (l : List ℕ). set (map shown xs) i (record (shown entry) { bytes = l })) is
-    ∙ ap (λ (e : Entry). set (map shown xs) i (record (shown e) { bytes = bytes })) at
+    map-set held_file xs i (record entry { bytes = held })
+    ∙ ap (λ (l : List ℕ). set (map held_file xs) i (record (held_file entry) { bytes = l })) is
+    ∙ ap (λ (e : Entry). set (map held_file xs) i (record (held_file e) { bytes = bytes })) at
     ∙ sym (put_first name bytes xs i entry first)
     ∙ ap (λ (l : List HeldFile). put l name bytes) all
 
 -- what a new entry at the end leaves
-pub added : (name bytes : List ℕ) (xs pushed : List Entry) (entry : Entry) (files : List HeldFile) → NoneNamed name xs → pushed ≡ xs ++ entry ∷ [] → shown entry ≡ record { name = name; bytes = bytes; faults = 0 } → map shown xs ≡ files
-    → map shown pushed ≡ put files name bytes
+pub added : (name bytes : List ℕ) (xs pushed : List Entry) (entry : Entry) (files : List HeldFile) → NoneNamed name xs → pushed ≡ xs ++ entry ∷ [] → held_file entry ≡ record { name = name; bytes = bytes; faults = 0 } → map held_file xs ≡ files
+    → map held_file pushed ≡ put files name bytes
 added name bytes xs pushed entry files none push is all =
-    ap (map shown) push
-    ∙ map-append shown xs (entry ∷ [])
-    ∙ ap (λ (file : HeldFile). map shown xs ++ file ∷ []) is
+    ap (map held_file) push
+    ∙ map-append held_file xs (entry ∷ [])
+    ∙ ap (λ (file : HeldFile). map held_file xs ++ file ∷ []) is
     ∙ sym (put_none name bytes xs none)
     ∙ ap (λ (l : List HeldFile). put l name bytes) all

@@ -18,6 +18,3 @@ pub use mem_sink::MemSink;
 pub use no_fault::{NoFaultFiles, NoFaultSink};
 pub use sink::Sink;
 pub use transfer::{LoadFault, load, send};
-
-#[cfg(test)]
-mod tests;

@@ -30,9 +30,9 @@ impl Model for Table {
 
     ghost Value = { List HeldFile };
 
-    ghost use Rattle.strip_io.specs.Shown.{shown};
+    ghost use Rattle.strip_io.specs.Shown.{held_file};
 
-    ghost view = { λ table. map shown table.entries.items };
+    ghost view = { λ table. map held_file table.entries.items };
 }
 
 // The place of a name.

@@ -1,7 +1,8 @@
 pub mod Bits
-pub mod Laws
+pub mod ByMembers
 pub mod Sums
 pub mod Members
 pub mod Sizes
 pub mod Totals
 pub mod Turns
+pub mod Below

@@ -7,7 +7,7 @@ use Rattle.std.proofs.lemmas.Bool.{cases_eq, ne_eqb, and_left, and_right, not_fr
 use Rattle.std.proofs.lemmas.List.Elements.{filter-append, filter_passes, All-filter, All-push, All-nil, All-weaker, All-contains, Contains-append_left, Contains-push}
 use Rattle.std.proofs.lemmas.List.Kept.{IsStrictlyIncreasing-filter}
 use Rattle.strip_mask.specs.Set.{IsSet, has, without, numbers_below, members}
-use Rattle.strip_mask.proofs.Laws.{has-without, has-empty, below_64}
+use Rattle.strip_mask.proofs.ByMembers.{has-without, has-empty, below_64}
 
 -- what a test keeps of one number more
 pub kept-more : (p : ℕ → Bool) (n : ℕ) → filter p (numbers_below (suc n)) ≡ filter p (numbers_below n) ++ cond (p n) (n ∷ []) []

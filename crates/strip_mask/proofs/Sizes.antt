@@ -8,7 +8,7 @@ use Rattle.std.proofs.lemmas.Bool.{and_right, false≢true, cases_lt, cases_Bool
 use Rattle.strip_mask.specs.Set.{IsSet, has, union, meet, minus, with, without, numbers_below, members, size, first}
 use Rattle.strip_mask.specs.Sums.{sum_below}
 use Rattle.strip_mask.proofs.Bits.{cases_bit, has_is}
-use Rattle.strip_mask.proofs.Laws.{has-union, has-meet, has_from_minus, minus_and_meet, has-with, has-without, below_64, empty_from, lowest_is, without_lowest}
+use Rattle.strip_mask.proofs.ByMembers.{has-union, has-meet, has_from_minus, minus_and_meet, has-with, has-without, below_64, empty_from, lowest_is, without_lowest}
 use Rattle.strip_mask.proofs.Sums.{sum_below-zero, sum_below-suc, sum_below-ext, sum_below-add, sum_below_mono, sum_below-same, sum_below-point, le_sum_below}
 use Rattle.strip_mask.proofs.Members.{kept-more, members_is, members-empty, members_begin}
 

@@ -1,6 +1,8 @@
 -- The laws of sums over the numbers below a limit.
-use Rattle.std.proofs.Common.{◌≡◌, ◌≢◌, ℕ, zero, suc, ◌+◌, ◌*◌, ◌<◌, ◌≤◌, sym, ap, ◌∙◌, inl, inr, arith, refl, add-one}
+use Rattle.std.proofs.Common.{◌≡◌, ◌≢◌, ℕ, zero, suc, ◌+◌, ◌*◌, ◌<◌, ◌≤◌, List, length, get_or, take, sum, slice_index, sym, ap, subst, ◌∙◌, inl, inr, arith, refl, add-one}
 use Rattle.std.proofs.lemmas.Bool.{cases_lt, cases_eq}
+use Rattle.std.proofs.lemmas.List.{get_or_past, take_all}
+use Rattle.std.proofs.lemmas.List.Sums.{sum_by_more}
 use Rattle.strip_mask.specs.Sums.{sum_below}
 
 -- nothing below 0
@@ -98,3 +100,22 @@ sum_below-swap (suc n) m f =
     sum_below-suc n (λ i. sum_below m (λ j. f i j)) ∙ ap (λ (x : ℕ). x + sum_below m (λ j. f n j)) (sum_below-swap n m f)
     ∙ sym (sum_below-add m (λ j. sum_below n (λ i. f i j)) (λ j. f n j))
     ∙ sum_below-ext m (λ j. sum_below n (λ i. f i j) + f n j) (λ j. sum_below (suc n) (λ i. f i j)) (λ j _. sym (sum_below-suc n (λ i. f i j)))
+
+-- the values of a list up to a place
+pub sum_below-take : (v : List ℕ) (n : ℕ) → sum_below n (slice_index v) ≡ sum (take n v)
+sum_below-take v zero = sum_below-zero (slice_index v)
+sum_below-take v (suc n) = sum_below-suc n (slice_index v) ∙ elim (cases_lt n (length v)) [
+  | inl within ↦ (let more : sum (take (n + 1) v) ≡ sum (take n v) + get_or v n 0 = sum_by_more (λ x. x) v n 0 within in
+      let rest : sum_below n (slice_index v) ≡ sum (take n v) = sum_below-take v n in
+      ap (λ (x : ℕ). x + slice_index v n) rest ∙ sym (subst (λ (i : ℕ). sum (take i v) ≡ sum (take n v) + get_or v n 0) (add-one n) more))
+  | inr past ↦ (let none : slice_index v n ≡ 0 = get_or_past v n 0 past in
+      let rest : sum_below n (slice_index v) ≡ sum (take n v) = sum_below-take v n in
+      let all : take n v ≡ v = take_all n v past in
+      let more : take (suc n) v ≡ v = take_all (suc n) v (omega arith) in
+      let same : sum (take (suc n) v) ≡ sum (take n v) = ap sum (more ∙ sym all) in
+      omega (arith, none, rest, same))
+]
+
+-- and all of them
+pub sum_below-slice : (v : List ℕ) → sum_below (length v) (slice_index v) ≡ sum v
+sum_below-slice v = sum_below-take v (length v) ∙ ap sum (take_all (length v) v (omega arith))

@@ -5,7 +5,7 @@ use Rattle.std.proofs.lemmas.List.Sums.{sum_by-append, sum_by-le}
 use Rattle.std.proofs.lemmas.List.{get_or_past}
 use Rattle.strip_mask.specs.Set.{IsSet, has, union, meet, minus, with, without, numbers_below, members, size, sum_over}
 use Rattle.strip_mask.specs.Sums.{sum_below}
-use Rattle.strip_mask.proofs.Laws.{has-union, has-meet, has_from_minus, minus_and_meet, has-with, has-without, below_64}
+use Rattle.strip_mask.proofs.ByMembers.{has-union, has-meet, has_from_minus, minus_and_meet, has-with, has-without, below_64}
 use Rattle.strip_mask.proofs.Sums.{sum_below-zero, sum_below-suc, sum_below-ext, sum_below-add, sum_below_mono, sum_below-past, sum_below-point}
 use Rattle.std.proofs.lemmas.Nat.{mul-le}
 use Rattle.strip_mask.proofs.Sizes.{size-le}

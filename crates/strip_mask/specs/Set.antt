@@ -1,5 +1,5 @@
 -- Finite sets of numbers below 64, as masks below 2^64: bit i stands for number i.
-use Rattle.std.specs.Prelude.{ℕ, zero, suc, ◌^◌, ◌<◌, Bool, ◌==◌, List, [], ◌∷◌, ◌++◌, length, filter, sum_by, slice_index, slice_get, Option, bit_and, bit_or, bit_xor}
+use Rattle.std.specs.Prelude.{◌≡◌, ℕ, zero, suc, ◌^◌, ◌<◌, Bool, true, ◌==◌, List, [], ◌∷◌, ◌++◌, length, filter, sum_by, slice_index, slice_get, Option, bit_and, bit_or, bit_xor}
 use Rattle.std.specs.Int.{bit_at}
 
 -- a mask of 64 bits
@@ -50,3 +50,12 @@ first set = slice_get (members set) 0
 -- the sum of the values at the numbers of the set
 unfoldable pub sum_over : List ℕ → ℕ → ℕ
 sum_over values set = sum_by (slice_index values) (members set)
+
+-- all numbers below n
+unfoldable pub full : ℕ → ℕ
+full zero = 0
+full (suc n) = with (full n) n
+
+-- a set of numbers below n
+abbrev pub LiesBelow : ℕ → ℕ → Type 0
+LiesBelow n set = (i : ℕ) → has set i ≡ true → i < n

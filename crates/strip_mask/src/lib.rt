@@ -1,9 +1,10 @@
 //! Sets of numbers below 64, kept as masks.
 #![tactic(auto)]
 
+pub mod laws;
 mod mask;
 
-pub use mask::{Mask, MaskIter, sets_are_by_members, sum_over};
+pub use mask::{Mask, MaskIter, sum_over};
 
 #[cfg(test)]
 mod tests {

@@ -2,9 +2,8 @@
 ghost use Rattle.std.specs.Prelude.{◌≡◌, ◌↔◌, ℕ, ◌^◌, ◌<◌, ◌≤◌, true, length, IfSome, IsTrue, Some};
 ghost use Rattle.std.specs.Iterator.{UpTo, YieldsFirst, item_count};
 ghost use Rattle.std.specs.Iterator.SizeHint.{IsWithinCount};
-ghost use Rattle.strip_mask.specs.Laws.{AddsItsValue, EmptyHasNone, HasLeastMember, MadeByMembers, MembersBelow64, MembersRise, NoMoreThanTheWhole, OneFewer, SameMembersSameSet, SumsAddUp};
 ghost use Rattle.strip_mask.specs.Iter.{rest_of};
-ghost use Rattle.strip_mask.specs.Set.{first, has, meet, members, minus, size, sum_over, union, with, without};
+ghost use Rattle.strip_mask.specs.Set.{LiesBelow, first, full, has, meet, members, minus, size, sum_over, union, with, without};
 
 /// A set of numbers below 64: bit `i` stands for number `i`. Each call but the turns of `iter` is a
 /// few instructions.
@@ -12,6 +11,26 @@ ghost use Rattle.strip_mask.specs.Set.{first, has, meet, members, minus, size, s
 pub struct Mask(pub u64);
 
 impl Mask {
+    /// The set of the numbers below `count`, which is at most 64. One turn for each.
+    pub fn below(count: u32) -> Mask
+        requires { count ≤ 64 }
+        ensures { result.0 ≡ full count }
+    {
+        let mut all = Mask(0);
+        for number in 0..count {
+            all = all.with(number);
+        }
+        all
+    }
+
+    /// Whether each number of the set is below `count`, which is at most 64.
+    pub fn lies_below(self, count: u32) -> bool
+        requires { count ≤ 64 }
+        ensures { IsTrue result ↔ LiesBelow count self.0 }
+    {
+        self.minus(Mask::below(count)).is_empty()
+    }
+
     /// Whether the set has the number, which is below 64.
     pub fn has(self, i: u32) -> bool
         requires { i < 64 }
@@ -148,17 +167,3 @@ pub fn sum_over(values: &[u64], m: Mask) -> u64
     }
     sum
 }
-
-/// Sets are told apart by their members alone, and sizes and sums follow the members.
-pub fn sets_are_by_members()
-    ensures same { SameMembersSameSet }
-    ensures made { MadeByMembers }
-    ensures fewer { OneFewer }
-    ensures adds { AddsItsValue }
-    ensures apart { SumsAddUp }
-    ensures part { NoMoreThanTheWhole }
-    ensures empty { EmptyHasNone }
-    ensures below { MembersBelow64 }
-    ensures least { HasLeastMember }
-    ensures rising { MembersRise }
-{}

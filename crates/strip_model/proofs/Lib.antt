@@ -1,6 +1,3 @@
-pub mod Sets
-pub mod Orders
-pub mod Pays
 pub mod Scenes
+pub mod Small
 pub mod Pairs
-pub mod Search

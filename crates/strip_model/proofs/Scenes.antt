@@ -29,14 +29,17 @@ pub rate_at : (actors : List Actor) (seen : List ActorData) (i : ℕ) (d : Actor
     → slice_index (map (λ actor. actor.rate) seen) i ≡ (get_or actors i d).rate
 rate_at = number_at actor_data (λ actor. actor.rate)
 
+pub hold_at : (actors : List Actor) (seen : List ActorData) (i : ℕ) (d : Actor) → map actor_data actors ≡ seen → i < length seen
+    → slice_index (map (λ actor. actor.hold) seen) i ≡ (get_or actors i d).hold
+hold_at = number_at actor_data (λ actor. actor.hold)
+
 pub few_days : (n : ℕ) (scenes : List Scene) (seen : List SceneData) (i : ℕ) (d : Scene) → map scene_data scenes ≡ seen → i < length seen
     → All (IsScene n) seen → (get_or scenes i d).days ≤ 99
 few_days n scenes seen i d same lt each =
     let is : IsScene n (scene_data (get_or scenes i d)) = subst (IsScene n) (mapped_at scene_data scenes seen i d same lt) (each i (scene_data d) lt) in
     is.days.1
 
-pub small_rate : (actors : List Actor) (seen : List ActorData) (i : ℕ) (d : Actor) → map actor_data actors ≡ seen → i < length seen
-    → All IsActor seen → (get_or actors i d).rate ≤ 1000000000
-small_rate actors seen i d same lt each =
-    let is : IsActor (actor_data (get_or actors i d)) = subst IsActor (mapped_at actor_data actors seen i d same lt) (each i (actor_data d) lt) in
-    is.rate
+-- an actor keeps the limits
+pub actor_is : (actors : List Actor) (seen : List ActorData) (i : ℕ) (d : Actor) → map actor_data actors ≡ seen → i < length seen
+    → All IsActor seen → IsActor (actor_data (get_or actors i d))
+actor_is actors seen i d same lt each = subst IsActor (mapped_at actor_data actors seen i d same lt) (each i (actor_data d) lt)

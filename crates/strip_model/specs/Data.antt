@@ -1,8 +1,11 @@
--- An instance as plain data: names as their bytes, casts as masks of actor numbers.
-use Rattle.std.specs.Prelude.{◌≡◌, ◌≢◌, ℕ, ◌≤◌, ◌<◌, true, List, length, All}
+-- An instance as plain data: names as their bytes, casts as sets of actor numbers.
+use Rattle.std.specs.Prelude.{◌≢◌, ℕ, ◌≤◌, ◌<◌, List, length, All}
 use Rattle.std.specs.List.{AllPairs}
-use Rattle.strip_model.specs.Set.{has}
-use Rattle.strip_model.specs.declared.limits.TheConstants.{MAX_SCENES, MAX_ACTORS, MAX_NAME, MAX_DAYS, MAX_RATE}
+use Rattle.strip_mask.specs.Set.{LiesBelow}
+use Rattle.strip_pay.specs.declared.pair.Pair.{Pair}
+use Rattle.strip_pay.specs.Pairs.{FitPairs}
+use Rattle.strip_pay.specs.declared.fitting.TheConstants.{MAX_SCENES}
+use Rattle.strip_model.specs.declared.limits.TheConstants.{MAX_ACTORS, MAX_NAME, MAX_DAYS, MAX_RATE}
 
 -- a scene: its name, how many days it is shot, and who works in it
 pub record SceneData : Type 0 where
@@ -10,15 +13,17 @@ pub record SceneData : Type 0 where
   pub days : ℕ
   pub cast : ℕ
 
--- an actor: the name, and the rate for a day
+-- an actor: the name, the rate for a day of work, and that for a day of waiting
 pub record ActorData : Type 0 where
   pub name : List ℕ
   pub rate : ℕ
+  pub hold : ℕ
 
--- the scenes and the actors, each numbered by its place
+-- the scenes and the actors, each numbered by its place, and which scenes come before which
 pub record InstanceData : Type 0 where
   pub scenes : List SceneData
   pub actors : List ActorData
+  pub pairs : List Pair
 
 -- a name within the limits
 abbrev pub IsName : List ℕ → Type 0
@@ -28,12 +33,13 @@ IsName name = (0 < length name) × (length name ≤ MAX_NAME)
 pub record IsScene (actors : ℕ) (scene : SceneData) : Type 0 where
   pub name : IsName scene.name
   pub days : (0 < scene.days) × (scene.days ≤ MAX_DAYS)
-  pub cast : (actor : ℕ) → has scene.cast actor ≡ true → actor < actors
+  pub cast : LiesBelow actors scene.cast
 
 -- an actor within the limits
 pub record IsActor (actor : ActorData) : Type 0 where
   pub name : IsName actor.name
   pub rate : actor.rate ≤ MAX_RATE
+  pub hold : actor.hold ≤ MAX_RATE
 
 -- an instance within the limits
 pub record IsInstance (inst : InstanceData) : Type 0 where
@@ -43,3 +49,4 @@ pub record IsInstance (inst : InstanceData) : Type 0 where
   pub actors : All IsActor inst.actors
   pub scene_names : AllPairs (λ a b. a.name ≢ b.name) inst.scenes
   pub actor_names : AllPairs (λ a b. a.name ≢ b.name) inst.actors
+  pub pairs : FitPairs (length inst.scenes) inst.pairs

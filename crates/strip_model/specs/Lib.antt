@@ -1,6 +1,3 @@
-pub mod Set
 pub mod Data
+pub mod Film
 pub mod Instance
-pub mod Order
-pub mod Pay
-pub mod Beginning

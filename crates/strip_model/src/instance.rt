@@ -1,20 +1,24 @@
 // An instance within the limits.
-ghost use Rattle.std.specs.Prelude.{◌≡◌, ◌≢◌, ◌↔◌, ◌≤◌, ◌<◌, ℕ, List, length, map, All, IsTrue, IsSome, IfSome};
+ghost use Rattle.std.specs.Prelude.{◌≡◌, ◌≢◌, ◌↔◌, ◌≤◌, ◌<◌, ℕ, List, [], length, map, All, IsTrue, IsSome, IfSome};
 ghost use Rattle.std.specs.List.{AllPairs};
+ghost use Rattle.strip_pay.specs.Pairs.{FitPairs};
 ghost use Rattle.strip_model.specs.Data.{IsInstance, IsScene, IsActor};
 ghost use Rattle.strip_model.specs.Instance.{scene_data, actor_data, instance_data};
 
-use crate::limits::{MAX_ACTORS, MAX_SCENES};
+use crate::limits::MAX_ACTORS;
 use crate::names::have_own_names;
 use crate::scene::{Actor, Scene, is_actor, is_scene};
 use std::marker::Model;
+use strip_pay::{MAX_SCENES, Pair, fit};
 
-/// The scenes and the actors of a film, each numbered by its place, within the limits. Contracts
-/// see it as plain lists: names as their bytes, a cast as a mask of actor numbers.
+/// The scenes and the actors of a film, each numbered by its place, and the pairs of scenes that
+/// have an order of their own, within the limits. Contracts see it as plain lists: names as their
+/// bytes, a cast as a set of actor numbers.
 #[derive(Debug, Drop)]
 pub struct Instance {
     scenes: Vec<Scene>,
     actors: Vec<Actor>,
+    pairs: Vec<Pair>,
 }
 
 impl Model for Instance {
@@ -24,22 +28,44 @@ impl Model for Instance {
 
     ghost use Rattle.strip_model.specs.Instance.{instance_data};
 
-    ghost view = { λ i. instance_data i.scenes.items i.actors.items };
+    ghost view = { λ i. instance_data i.scenes.items i.actors.items i.pairs.items };
 
-    ghost invariant = { λ i. IsInstance (instance_data i.scenes.items i.actors.items) };
+    ghost invariant = { λ i. IsInstance (instance_data i.scenes.items i.actors.items i.pairs.items) };
 }
 
 impl Instance {
-    /// The instance of these scenes and actors, where they keep the limits. It takes no memory.
+    /// The instance of these scenes and actors without pairs, where they keep the limits. It takes no
+    /// memory.
     pub fn of(scenes: Vec<Scene>, actors: Vec<Actor>) -> Option<Instance>
-        ensures limits { IsSome result ↔ IsInstance (instance_data scenes.items actors.items) }
-        ensures same { IfSome result (λ inst. inst ≡ instance_data scenes.items actors.items) }
+        ensures limits { IsSome result ↔ IsInstance (instance_data scenes.items actors.items []) }
+        ensures same { IfSome result (λ inst. inst ≡ instance_data scenes.items actors.items []) }
     {
-        if keeps_limits(&scenes, &actors) {
-            Some(Instance { scenes, actors })
-        } else {
-            None
+        if !keeps_limits(&scenes, &actors) {
+            return None;
         }
+        let pairs = Vec::new(*scenes.allocator());
+        Some(Instance {
+            scenes,
+            actors,
+            pairs,
+        })
+    }
+
+    /// Whether the instance can have these pairs: two different scenes of it each, no pair twice, and
+    /// no way along the pairs from a scene back to it. It takes no memory, and time with the square of
+    /// the number of pairs.
+    pub fn fits_pairs(&self, pairs: &[Pair]) -> bool
+        ensures { IsTrue result ↔ FitPairs (length self.now.scenes) pairs.now }
+    {
+        fit(pairs, self.scenes.len())
+    }
+
+    /// The same instance with these pairs, which it can have. It takes no memory.
+    pub fn with_pairs(self, pairs: Vec<Pair>) -> Instance
+        requires { FitPairs (length self.scenes) pairs.items }
+        ensures { result ≡ record self { pairs = pairs.items } }
+    {
+        Instance { pairs, ..self }
     }
 
     /// The scenes, in the order of their numbers.
@@ -49,6 +75,14 @@ impl Instance {
         ensures limits { IsInstance self.now }
     {
         &self.scenes
+    }
+
+    /// The pairs: of each, the first scene is shot before the other.
+    pub fn pairs(&self) -> &[Pair]
+        ensures pairs { result.now ≡ self.now.pairs }
+        ensures limits { IsInstance self.now }
+    {
+        &self.pairs
     }
 
     /// The actors, in the order of their numbers.
@@ -62,7 +96,7 @@ impl Instance {
 }
 
 fn keeps_limits(scenes: &[Scene], actors: &[Actor]) -> bool
-    ensures { IsTrue result ↔ IsInstance (instance_data scenes.now actors.now) }
+    ensures { IsTrue result ↔ IsInstance (instance_data scenes.now actors.now []) }
 {
     !scenes.is_empty()
         && scenes.len() <= MAX_SCENES

@@ -3,7 +3,7 @@ ghost use Rattle.std.specs.Prelude.{◌≡◌, ◌≢◌, ◌↔◌, ℕ, ◌<�
 ghost use Rattle.std.specs.List.{AllPairs};
 
 /// What has a name.
-pub(crate) trait Named {
+pub(crate) trait HasName {
     ghost name: { Self → List ℕ };
 
     fn name(&self) -> &str
@@ -11,7 +11,7 @@ pub(crate) trait Named {
 }
 
 /// Whether no two items share a name. It takes time with the square of their number.
-pub(crate) fn have_own_names<N: Named>(items: &[N]) -> bool
+pub(crate) fn have_own_names<N: HasName>(items: &[N]) -> bool
     ensures { IsTrue result ↔ AllPairs (λ a b. N.name a ≢ N.name b) items.now }
 {
     for (place, item) in items.iter().enumerate() {
@@ -22,7 +22,7 @@ pub(crate) fn have_own_names<N: Named>(items: &[N]) -> bool
     true
 }
 
-fn is_taken<N: Named>(items: &[N], name: &str) -> bool
+fn is_taken<N: HasName>(items: &[N], name: &str) -> bool
     ensures { IsTrue result ↔ Any (λ item. N.name item ≡ name.now) items.now }
 {
     items.iter().any(|item| item.name() == name)

@@ -1,11 +1,13 @@
 // Orders of an instance, and their pay.
-ghost use Rattle.std.specs.Prelude.{◌≡◌, ◌↔◌, ℕ, ◌*◌, ◌<◌, ◌≤◌, List, length, All, sum_by, count_by, slice_index, ◌==◌, IsTrue};
-ghost use Rattle.strip_model.specs.declared.limits.TheConstants.{MAX_DAYS, MAX_SCENES};
-ghost use Rattle.strip_model.specs.Order.{IsOrder};
-ghost use Rattle.strip_model.specs.Pay.{casts_of, days_of, pay_of, paid_days, from_first, to_last, works};
+ghost use Rattle.std.specs.Prelude.{◌≡◌, ◌↔◌, ℕ, ◌*◌, ◌<◌, ◌≤◌, List, length, All, sum_by, count_by, if◌then◌else◌, slice_index, ◌==◌, IsTrue};
+ghost use Rattle.strip_pay.specs.declared.fitting.TheConstants.{MAX_SCENES};
+ghost use Rattle.strip_pay.specs.Order.{IsOrder, Keeps};
+ghost use Rattle.strip_pay.specs.Pay.{pay_of, day_pay, from_first, span, to_last, works};
+ghost use Rattle.strip_model.specs.declared.limits.TheConstants.{MAX_DAYS, MAX_RATE};
+ghost use Rattle.strip_model.specs.Film.{film_of};
 
 use crate::instance::Instance;
-use crate::set::contains;
+use strip_mask::Mask;
 
 /// Whether the list has each scene number of the instance exactly once, and no other number. It
 /// takes no memory, and time with the square of the number of scenes.
@@ -33,42 +35,50 @@ fn have_each_once(order: &[u16], count: usize) -> bool
     true
 }
 
-pub(crate) fn times_in(order: &[u16], scene: usize) -> usize
+fn times_in(order: &[u16], scene: usize) -> usize
     ensures { result ≡ count_by (λ x. x == scene) order.now }
 {
     order.iter().filter(|x| **x as usize == scene).count()
 }
 
-/// What the order pays: for each actor his rate times the days of the scenes from his first to his
-/// last in the order, and nothing for an actor who works in none. It takes no memory, and time with
-/// the product of the numbers of scenes and actors.
+/// Whether the first scene of each pair stands in the list, and the other somewhere behind it. It
+/// takes no memory, and time with the product of the numbers of pairs and scenes.
+pub fn keeps_pairs(inst: &Instance, order: &[u16]) -> bool
+    ensures { IsTrue result ↔ Keeps inst.now.pairs order.now }
+{
+    strip_pay::keeps(inst.pairs(), order)
+}
+
+/// What the order pays: for each actor, for the scenes from his first in the order to his last, their
+/// days at his rate where he works and at his hold rate where he waits; and nothing for an actor who
+/// works in none. It takes no memory, and time with the product of the numbers of scenes and actors.
 pub fn pay(inst: &Instance, order: &[u16]) -> u64
     requires { IsOrder (length inst.now.scenes) order.now }
-    ensures { result ≡ pay_of inst.now order.now }
+    ensures { result ≡ pay_of (film_of inst.now) order.now }
 {
     let mut total = 0;
-    for (number, actor) in inst.actors().iter().enumerate() {
-        total += actor.rate * days_paid(inst, order, number);
+    for actor in 0..inst.actors().len() {
+        total += pay_of_actor(inst, order, actor);
     }
     total
 }
 
-/// The days of the scenes from the actor's first in the order to his last.
-fn days_paid(inst: &Instance, order: &[u16], actor: usize) -> u64
-    requires order { IsOrder (length inst.now.scenes) order.now }
+/// What the actor gets for the scenes from his first in the order to his last.
+fn pay_of_actor(inst: &Instance, order: &[u16], actor: usize) -> u64
+    requires order { All (λ scene. scene < length inst.now.scenes) order.now }
     requires short { length order.now ≤ MAX_SCENES }
     requires actor { actor < length inst.now.actors }
-    ensures days { result ≡ paid_days (casts_of inst.now) (days_of inst.now) order.now actor }
-    ensures small { result ≤ MAX_DAYS * MAX_SCENES }
+    ensures pay { result ≡ sum_by (day_pay (film_of inst.now) actor) (span (film_of inst.now) order.now actor) }
+    ensures small { result ≤ MAX_DAYS * MAX_RATE * MAX_SCENES }
 {
-    days_to_last(inst, from_first_scene(inst, order, actor), actor)
+    pay_to_last(inst, from_first_scene(inst, order, actor), actor)
 }
 
 /// The order from the actor's first scene on.
 fn from_first_scene<'a>(inst: &Instance, order: &'a [u16], actor: usize) -> &'a [u16]
     requires order { All (λ scene. scene < length inst.now.scenes) order.now }
     requires actor { actor < length inst.now.actors }
-    ensures { result.now ≡ from_first (works (casts_of inst.now) actor) order.now }
+    ensures { result.now ≡ from_first (works (film_of inst.now) actor) order.now }
 {
     for (place, &scene) in order.iter().enumerate() {
         if works_in(inst, actor, scene) {
@@ -78,20 +88,20 @@ fn from_first_scene<'a>(inst: &Instance, order: &'a [u16], actor: usize) -> &'a 
     &[]
 }
 
-/// The days of the scenes up to the actor's last in the order.
-fn days_to_last(inst: &Instance, order: &[u16], actor: usize) -> u64
+/// What the actor gets for the scenes up to his last in the order.
+fn pay_to_last(inst: &Instance, order: &[u16], actor: usize) -> u64
     requires order { All (λ scene. scene < length inst.now.scenes) order.now }
     requires short { length order.now ≤ MAX_SCENES }
     requires actor { actor < length inst.now.actors }
-    ensures days { result ≡ sum_by (slice_index (days_of inst.now)) (to_last (works (casts_of inst.now) actor) order.now) }
-    ensures small { result ≤ MAX_DAYS * length order.now }
+    ensures pay { result ≡ sum_by (day_pay (film_of inst.now) actor) (to_last (works (film_of inst.now) actor) order.now) }
+    ensures small { result ≤ MAX_DAYS * MAX_RATE * length order.now }
 {
-    let mut days = 0;
+    let mut pay = 0;
     let mut to_last = 0;
     for &scene in order {
-        days += days_in(inst, scene);
+        pay += day_pay(inst, actor, scene);
         if works_in(inst, actor, scene) {
-            to_last = days;
+            to_last = pay;
         }
     }
     to_last
@@ -100,15 +110,41 @@ fn days_to_last(inst: &Instance, order: &[u16], actor: usize) -> u64
 fn works_in(inst: &Instance, actor: usize, scene: u16) -> bool
     requires scene { scene < length inst.now.scenes }
     requires actor { actor < length inst.now.actors }
-    ensures { result ≡ works (casts_of inst.now) actor scene }
+    ensures { result ≡ works (film_of inst.now) actor scene }
 {
-    contains(inst.scenes()[scene as usize].cast, actor)
+    Mask(inst.scenes()[scene as usize].cast).has(actor as u32)
+}
+
+/// What the actor gets for a scene that he works in or waits through.
+fn day_pay(inst: &Instance, actor: usize, scene: u16) -> u64
+    requires scene { scene < length inst.now.scenes }
+    requires actor { actor < length inst.now.actors }
+    ensures pay { result ≡ day_pay (film_of inst.now) actor scene }
+    ensures small { result ≤ MAX_DAYS * MAX_RATE }
+{
+    days_in(inst, scene) * rate_in(inst, actor, scene)
 }
 
 fn days_in(inst: &Instance, scene: u16) -> u64
     requires { scene < length inst.now.scenes }
-    ensures days { result ≡ slice_index (days_of inst.now) scene }
+    ensures days { result ≡ slice_index (film_of inst.now).days scene }
     ensures small { result ≤ MAX_DAYS }
 {
     inst.scenes()[scene as usize].days
+}
+
+/// The actor's rate for a day of the scene.
+fn rate_in(inst: &Instance, actor: usize, scene: u16) -> u64
+    requires scene { scene < length inst.now.scenes }
+    requires actor { actor < length inst.now.actors }
+    ensures rate { result ≡ (if works (film_of inst.now) actor scene
+        then slice_index (film_of inst.now).rates actor else slice_index (film_of inst.now).holds actor) }
+    ensures small { result ≤ MAX_RATE }
+{
+    let known = &inst.actors()[actor];
+    if works_in(inst, actor, scene) {
+        known.rate
+    } else {
+        known.hold
+    }
 }

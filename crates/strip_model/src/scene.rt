@@ -5,8 +5,8 @@ ghost use Rattle.strip_model.specs.Data.{IsName, IsScene, IsActor};
 ghost use Rattle.strip_model.specs.Instance.{scene_data, actor_data};
 
 use crate::limits::{MAX_DAYS, MAX_NAME, MAX_RATE};
-use crate::names::Named;
-use crate::set::lies_below;
+use crate::names::HasName;
+use strip_mask::Mask;
 
 /// A scene of the film.
 #[derive(Debug, Drop)]
@@ -22,11 +22,13 @@ pub struct Scene {
 #[derive(Debug, Drop)]
 pub struct Actor {
     pub name: String,
-    /// The pay for a day, in units of money.
+    /// The pay for a day of work, in units of money.
     pub rate: u64,
+    /// The pay for a day of waiting between the first and the last day of work, in units of money.
+    pub hold: u64,
 }
 
-impl Named for Scene {
+impl HasName for Scene {
     ghost name = { λ scene. string_bytes scene.name };
 
     fn name(&self) -> &str {
@@ -34,7 +36,7 @@ impl Named for Scene {
     }
 }
 
-impl Named for Actor {
+impl HasName for Actor {
     ghost name = { λ actor. string_bytes actor.name };
 
     fn name(&self) -> &str {
@@ -56,12 +58,12 @@ pub(crate) fn is_scene(scene: &Scene, actors: usize) -> bool
     is_name(scene.name.as_str())
         && scene.days >= 1
         && scene.days <= MAX_DAYS
-        && lies_below(scene.cast, actors)
+        && Mask(scene.cast).lies_below(actors as u32)
 }
 
 /// Whether the actor keeps the limits.
 pub(crate) fn is_actor(actor: &Actor) -> bool
     ensures { IsTrue result ↔ IsActor (actor_data actor.now) }
 {
-    is_name(actor.name.as_str()) && actor.rate <= MAX_RATE
+    is_name(actor.name.as_str()) && actor.rate <= MAX_RATE && actor.hold <= MAX_RATE
 }

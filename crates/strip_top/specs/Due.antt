@@ -1,7 +1,9 @@
 -- What is due for the words and the files: a status and the text to print.
-use Rattle.std.specs.Prelude.{◌≡◌, ℕ, ◌≤◌, List, length, Option, Some, Ok}
+use Rattle.std.specs.Prelude.{◌≡◌, ℕ, ◌≤◌, List, [], length, Option, Some, Ok}
 use Rattle.strip_model.specs.Data.{InstanceData, IsInstance}
-use Rattle.strip_model.specs.Pay.{pay_of, IsFirstCheapest}
+use Rattle.strip_pay.specs.Pay.{pay_of}
+use Rattle.strip_model.specs.Film.{film_of}
+use Rattle.strip_exhaustive.specs.Cheapest.{IsFirstCheapest}
 use Rattle.strip_io.specs.Sink.{Took, TookFront}
 use Rattle.strip_instance.specs.Text.{SaysJust}
 use Rattle.strip_top.specs.declared.refusal.Refusal.{Refusal}
@@ -18,15 +20,16 @@ abbrev pub WhereTold : Option (List ℕ) → (List ℕ → Type 0) → Type 0
 WhereTold told P = (text : List ℕ) → told ≡ Some text → P text
 
 -- the printed text is the head rows of a cheapest order of the instance that the file's bytes say,
--- with its pay as cost and bound; no order of the instance pays less
+-- with its pay as cost and bound; no order of the instance pays less; it has no pairs, so every order keeps them
 pub record IsSolution (told : Option (List ℕ)) (printed : List ℕ) : Type 0 where
   pub inst : InstanceData
   pub order : List ℕ
   pub is_instance : IsInstance inst
   pub few : length inst.scenes ≤ MAX_CLASSES
+  pub no_pairs : inst.pairs ≡ []
   pub spelled : WhereTold told (λ text. (length text ≤ MAX_FILE) × SaysJust text (Ok inst))
-  pub cheapest : IsFirstCheapest inst order
-  pub rows : printed ≡ head_rows inst order (pay_of inst order)
+  pub cheapest : IsFirstCheapest (film_of inst) order
+  pub rows : printed ≡ head_rows inst order (pay_of (film_of inst) order)
 
 -- the printed text is the row of a refusal that the file's bytes meet with
 pub record IsRefusal (told : Option (List ℕ)) (printed : List ℕ) : Type 0 where

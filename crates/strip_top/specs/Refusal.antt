@@ -3,7 +3,7 @@ use Rattle.std.specs.Prelude.{◌≡◌, ◌≢◌, ℕ, ◌<◌, ◌≤◌, Lis
 use Rattle.std.specs.Fmt.{decimal}
 use Rattle.strip_model.specs.Data.{InstanceData}
 use Rattle.strip_instance.specs.declared.fault.InstanceFault.{InstanceFault}
-use Rattle.strip_instance.specs.declared.fault.InstanceFault.TheVariants.{Empty, BadHeader, NoRateRow, Width, BadName, DuplicateScene, DuplicateActor, BadDays, BadRate, BadMark, NoScene, TooManyScenes, TooManyActors, NotUtf8, Memory}
+use Rattle.strip_instance.specs.declared.fault.InstanceFault.TheVariants.{Empty, BadHeader, NoRateRow, Width, BadName, DuplicateScene, DuplicateActor, BadDays, BadRate, BadHold, BadMark, NoScene, TooManyScenes, TooManyActors, NotUtf8, Memory}
 use Rattle.strip_instance.specs.Text.{SaysJust}
 use Rattle.strip_top.specs.declared.refusal.Refusal.{Refusal}
 use Rattle.strip_top.specs.declared.refusal.Refusal.TheVariants.{Words, TooLong, Instance, TooManyClasses}
@@ -23,6 +23,7 @@ fault_name (DuplicateScene row) = codes "DuplicateScene"
 fault_name (DuplicateActor col) = codes "DuplicateActor"
 fault_name (BadDays row) = codes "BadDays"
 fault_name (BadRate col) = codes "BadRate"
+fault_name (BadHold col) = codes "BadHold"
 fault_name (BadMark row col) = codes "BadMark"
 fault_name NoScene = codes "NoScene"
 fault_name TooManyScenes = codes "TooManyScenes"
@@ -44,6 +45,7 @@ abbrev pub fault_column : InstanceFault → Option ℕ
 fault_column (BadName row col) = Some col
 fault_column (DuplicateActor col) = Some col
 fault_column (BadRate col) = Some col
+fault_column (BadHold col) = Some col
 fault_column (BadMark row col) = Some col
 fault_column (NotUtf8 row col) = Some col
 fault_column _ = None

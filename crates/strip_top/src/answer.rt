@@ -14,10 +14,11 @@ use crate::head::optimal_head;
 use crate::refusal::{MAX_CLASSES, MAX_FILE, Refusal};
 use crate::status::Status;
 use std::alloc::Global;
+use strip_exhaustive::cheapest_order;
+use strip_instance::laws::what_is_said_has_no_pairs;
 use strip_instance::{InstanceFault, read_instance};
 use strip_io::{Files, LoadFault, Memory, load};
 use strip_model::Instance;
-use strip_model::exhaustive::cheapest_order;
 use strip_words::{Job, WordsFault, job};
 
 /// The status to end with and the text to print before.
@@ -108,6 +109,7 @@ fn answer_instance(alloc: Global, inst: &Instance) -> Result<Answer, Memory>
     if classes > MAX_CLASSES {
         return refused(alloc, Refusal::TooManyClasses(classes));
     }
+    what_is_said_has_no_pairs();
     let best = cheapest_order(alloc, inst)?;
     let text = optimal_head(alloc, inst, &best)?;
     let status = Status::Solved;

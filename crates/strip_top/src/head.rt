@@ -6,9 +6,9 @@ ghost use Rattle.strip_top.specs.Head.{head_rows, order_row, scene_name};
 
 use csv::WriterBuilder;
 use std::alloc::Global;
+use strip_exhaustive::Cheapest;
 use strip_io::Memory;
 use strip_model::Instance;
-use strip_model::exhaustive::Cheapest;
 
 /// The five head rows of a plan whose order is optimal.
 pub(crate) fn optimal_head(

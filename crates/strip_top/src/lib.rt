@@ -10,6 +10,3 @@ mod status;
 pub use program::report;
 pub use refusal::{MAX_CLASSES, MAX_FILE, Refusal};
 pub use status::Status;
-
-#[cfg(test)]
-mod tests;

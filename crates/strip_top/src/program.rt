@@ -11,7 +11,7 @@ use crate::answer::{Answer, Stop, answer_words};
 use crate::status::Status;
 use std::alloc::Global;
 use strip_io::{Failed, Files, Sink, send};
-use strip_words::words_name_one_job;
+use strip_words::laws::words_name_one_job;
 
 /// Does all that the program does, and answers its exit status. It reads the file that the words
 /// ask to solve, prints an order of least pay, and takes all its memory before it writes. The

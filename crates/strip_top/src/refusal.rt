@@ -82,6 +82,7 @@ fn fault_name(fault: InstanceFault) -> &'static str
         InstanceFault::DuplicateActor { .. } => "DuplicateActor",
         InstanceFault::BadDays { .. } => "BadDays",
         InstanceFault::BadRate { .. } => "BadRate",
+        InstanceFault::BadHold { .. } => "BadHold",
         InstanceFault::BadMark { .. } => "BadMark",
         InstanceFault::NoScene => "NoScene",
         InstanceFault::TooManyScenes => "TooManyScenes",
@@ -112,6 +113,7 @@ fn fault_column(fault: InstanceFault) -> Option<u64>
         InstanceFault::BadName { col, .. }
         | InstanceFault::DuplicateActor { col }
         | InstanceFault::BadRate { col }
+        | InstanceFault::BadHold { col }
         | InstanceFault::BadMark { col, .. }
         | InstanceFault::NotUtf8 { col, .. } => Some(col),
         _ => None,

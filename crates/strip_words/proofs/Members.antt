@@ -1,31 +1,16 @@
 -- Membership of lists, and the test for it.
-use Rattle.std.proofs.Common.{◌≡◌, Bool, true, false, List, [], ◌∷◌, get_or, map, Contains, ◌⊎◌, inl, inr, refl, ap, subst, arith, bytes_eq}
+use Rattle.std.proofs.Common.{◌≡◌, Bool, true, false, List, [], ◌∷◌, get_or, map, Contains, inl, inr, refl, ap, subst, bytes_eq}
 use Rattle.std.proofs.lemmas.List.Folds.{Any-from_list_any, list_any_at}
-use Rattle.std.proofs.lemmas.List.Elements.{Contains-append_right, Contains-append_cases, Contains-push_cases}
 use Rattle.std.proofs.lemmas.Slice.Eq.{bytes_eq-Decides}
+use Rattle.strip_pay.proofs.Lists.{contains_none, contains_here, contains_later, contains_cases}
 use Rattle.strip_words.specs.Words.{Word}
 use Rattle.strip_words.specs.Reading.{is_one_of}
 
-pub contains_nil : {X : Type 0} (x : X) → ¬ Contains [] x
-contains_nil x there = omega (arith, there.1)
-
-pub contains_head : {X : Type 0} (x : X) (xs : List X) → Contains (x ∷ xs) x
-contains_head x xs = (0, omega arith, refl)
-
-pub contains_tail : {X : Type 0} (x y : X) (xs : List X) → Contains xs y → Contains (x ∷ xs) y
-contains_tail x y xs there = Contains-append_right (x ∷ []) xs y there
-
-pub contains_cases : {X : Type 0} (x y : X) (xs : List X) → Contains (x ∷ xs) y → (x ≡ y) ⊎ Contains xs y
-contains_cases x y xs there = elim (Contains-append_cases (x ∷ []) xs y there) [
-  | inl first ↦ elim (Contains-push_cases [] x y first) [ inl none ↦ absurd (contains_nil y none) | inr same ↦ inl same ]
-  | inr later ↦ inr later
-]
-
 pub contains_map : {X Y : Type 0} (f : X → Y) (xs : List X) (x : X) → Contains xs x → Contains (map f xs) (f x)
-contains_map f [] x there = absurd (contains_nil x there)
-contains_map f (y ∷ xs) x there = elim (contains_cases y x xs there) [
-  | inl same ↦ subst (λ z. Contains (f y ∷ map f xs) z) (ap f same) (contains_head (f y) (map f xs))
-  | inr later ↦ contains_tail (f y) (f x) (map f xs) (contains_map f xs x later)
+contains_map f [] x there = absurd (contains_none x there)
+contains_map f (y ∷ xs) x there = elim (contains_cases y xs x there) [
+  | inl same ↦ subst (λ z. Contains (f y ∷ map f xs) z) (ap f same) (contains_here (f y) (map f xs))
+  | inr later ↦ contains_later (f y) (map f xs) (f x) (contains_map f xs x later)
 ]
 
 -- the test finds what is there, and nothing else

@@ -1,12 +1,13 @@
 -- What items say, from the options that were given; and that words say one thing.
-use Rattle.std.proofs.Common.{◌≡◌, ◌≢◌, ℕ, Bool, true, false, Option, None, Some, List, [], ◌∷◌, Contains, inl, inr, refl, sym, ap, ap₂, ◌∙◌, subst, codes, true≢false}
+use Rattle.std.proofs.Common.{◌≡◌, ◌≢◌, ℕ, true, false, Option, None, Some, List, [], ◌∷◌, Contains, inl, inr, refl, sym, ap, ap₂, ◌∙◌, subst, codes, true≢false}
 use Rattle.std.proofs.lemmas.List.Elements.{All-contains, All-from_recursion}
 use Rattle.std.proofs.lemmas.Slice.Eq.{bytes_eq-Decides}
-use Rattle.strip_film.specs.declared.shared.Kind.{Kind}
+use Rattle.strip_pay.specs.declared.kind.Kind.{Kind}
 use Rattle.strip_words.specs.Words.{Word, Item, Operand, Joined, Apart, Flag, Gives, AreDistinct, IsNumber, options_in, operands_of}
-use Rattle.strip_words.specs.Solve.{solve, SolveData, IsChosen, IsChosenBound, Says, NameSolve}
+use Rattle.strip_words.specs.Solve.{solve, SolveData, IsChosen, IsChosenBound, SayJob, NameSolve}
 use Rattle.strip_words.specs.Reading.{GivenData, ReadingData, given_words, IsRead, IsGiven, IsChosenIn, IsBoundIn, IsJobOf, is_one_of}
-use Rattle.strip_words.proofs.Members.{contains_nil, contains_head, contains_tail, contains_cases, contains_map, one_of_yes}
+use Rattle.strip_pay.proofs.Lists.{contains_none, contains_here, contains_later, contains_cases, same_test}
+use Rattle.strip_words.proofs.Members.{contains_map, one_of_yes}
 use Rattle.strip_words.proofs.Marks.{IsTable, IsName}
 use Rattle.strip_words.proofs.Spelled.{given_in, names_in, read_from, read_once, reads_from}
 
@@ -17,27 +18,27 @@ gives_head : (name value : Word) (item : Item) (items : List Item) → Gives nam
 gives_head name value (Operand word) items gives = absurd gives
 gives_head name value (Joined option given) items gives =
     subst (λ o. Contains (record { name = option; value = Some given } ∷ given_in items) o) (ap₂ (λ n v. record { name = n; value = Some v }) gives.0 gives.1)
-    (contains_head (record { name = option; value = Some given }) (given_in items))
+    (contains_here (record { name = option; value = Some given }) (given_in items))
 gives_head name value (Apart option given) items gives =
     subst (λ o. Contains (record { name = option; value = Some given } ∷ given_in items) o) (ap₂ (λ n v. record { name = n; value = Some v }) gives.0 gives.1)
-    (contains_head (record { name = option; value = Some given }) (given_in items))
+    (contains_here (record { name = option; value = Some given }) (given_in items))
 gives_head name value (Flag option) items gives = absurd gives
 
 later_given : (name value : Word) (item : Item) (items : List Item) → IsGiven name value (given_in items) → IsGiven name value (given_in (item ∷ items))
 later_given name value (Operand word) items there = there
-later_given name value (Joined option given) items there = contains_tail (record { name = option; value = Some given }) (record { name = name; value = Some value }) (given_in items) there
-later_given name value (Apart option given) items there = contains_tail (record { name = option; value = Some given }) (record { name = name; value = Some value }) (given_in items) there
-later_given name value (Flag option) items there = contains_tail (record { name = option; value = None }) (record { name = name; value = Some value }) (given_in items) there
+later_given name value (Joined option given) items there = contains_later (record { name = option; value = Some given }) (given_in items) (record { name = name; value = Some value }) there
+later_given name value (Apart option given) items there = contains_later (record { name = option; value = Some given }) (given_in items) (record { name = name; value = Some value }) there
+later_given name value (Flag option) items there = contains_later (record { name = option; value = None }) (given_in items) (record { name = name; value = Some value }) there
 
 given_from : (name value : Word) (items : List Item) → SomeGives name value items → IsGiven name value (given_in items)
-given_from name value [] some = absurd (contains_nil some.0 some.1)
-given_from name value (item ∷ items) some = elim (contains_cases item some.0 items some.1) [
+given_from name value [] some = absurd (contains_none some.0 some.1)
+given_from name value (item ∷ items) some = elim (contains_cases item items some.0 some.1) [
   | inl same ↦ gives_head name value item items (subst (Gives name value) (sym same) some.2)
   | inr later ↦ later_given name value item items (given_from name value items (some.0, later, some.2))
 ]
 
 gives_later : (name value : Word) (item : Item) (items : List Item) → SomeGives name value items → SomeGives name value (item ∷ items)
-gives_later name value item items some = (some.0, contains_tail item some.0 items some.1, some.2)
+gives_later name value item items some = (some.0, contains_later item items some.0 some.1, some.2)
 
 abbrev value_in : GivenData → Word → Word
 value_in option other = elim option.value as (λ _. Word) [ None ↦ other | Some value ↦ value ]
@@ -46,17 +47,17 @@ not_a_value : {A : Type 0} (value : Word) → None ≡ Some value → A
 not_a_value value is = absurd (subst (λ o. elim o as (λ _. Type 0) [ None ↦ Unit {0} | Some v ↦ ⊥ ]) is tt)
 
 gives_from : (name value : Word) (items : List Item) → IsGiven name value (given_in items) → SomeGives name value items
-gives_from name value [] there = absurd (contains_nil (record { name = name; value = Some value }) there)
+gives_from name value [] there = absurd (contains_none (record { name = name; value = Some value }) there)
 gives_from name value (Operand word ∷ items) there = gives_later name value (Operand word) items (gives_from name value items there)
-gives_from name value (Joined option given ∷ items) there = elim (contains_cases (record { name = option; value = Some given }) (record { name = name; value = Some value }) (given_in items) there) [
-  | inl same ↦ (Joined option given, contains_head (Joined option given) items, (ap (λ o. o.name) same, ap (λ o. value_in o []) same))
+gives_from name value (Joined option given ∷ items) there = elim (contains_cases (record { name = option; value = Some given }) (given_in items) (record { name = name; value = Some value }) there) [
+  | inl same ↦ (Joined option given, contains_here (Joined option given) items, (ap (λ o. o.name) same, ap (λ o. value_in o []) same))
   | inr later ↦ gives_later name value (Joined option given) items (gives_from name value items later)
 ]
-gives_from name value (Apart option given ∷ items) there = elim (contains_cases (record { name = option; value = Some given }) (record { name = name; value = Some value }) (given_in items) there) [
-  | inl same ↦ (Apart option given, contains_head (Apart option given) items, (ap (λ o. o.name) same, ap (λ o. value_in o []) same))
+gives_from name value (Apart option given ∷ items) there = elim (contains_cases (record { name = option; value = Some given }) (given_in items) (record { name = name; value = Some value }) there) [
+  | inl same ↦ (Apart option given, contains_here (Apart option given) items, (ap (λ o. o.name) same, ap (λ o. value_in o []) same))
   | inr later ↦ gives_later name value (Apart option given) items (gives_from name value items later)
 ]
-gives_from name value (Flag option ∷ items) there = elim (contains_cases (record { name = option; value = None }) (record { name = name; value = Some value }) (given_in items) there) [
+gives_from name value (Flag option ∷ items) there = elim (contains_cases (record { name = option; value = None }) (given_in items) (record { name = name; value = Some value }) there) [
   | inl same ↦ not_a_value value (ap (λ o. o.value) same)
   | inr later ↦ gives_later name value (Flag option) items (gives_from name value items later)
 ]
@@ -86,7 +87,7 @@ bound_from items kind (inr (inl plain)) = inr (inl (gives_from (codes "--bounds"
 bound_from items kind (inr (inr pairs)) = inr (inr (gives_from (codes "--bounds") (codes "pairs") items pairs.0, pairs.1))
 
 -- items say a job just where what was read does
-job_from_says : (items : List Item) (rest : Option (List Word)) (job : SolveData) → Says items rest job
+job_from_says : (items : List Item) (rest : Option (List Word)) (job : SolveData) → SayJob items rest job
     → IsJobOf (record { operands = operands_of items rest; given = given_in items }) job
 job_from_says items rest job says = record {
   file = says.file;
@@ -98,7 +99,7 @@ job_from_says items rest job says = record {
 }
 
 says_from_job : (items : List Item) (rest : Option (List Word)) (job : SolveData)
-    → IsJobOf (record { operands = operands_of items rest; given = given_in items }) job → Says items rest job
+    → IsJobOf (record { operands = operands_of items rest; given = given_in items }) job → SayJob items rest job
 says_from_job items rest job is = record {
   file = is.file;
   workers = chosen_from (codes "--workers") 1 64 1 items job.workers is.workers;
@@ -151,13 +152,13 @@ read_from_names words job names = record {
 
 -- where each option is given at most once, a name has one value
 pub given_once : (given : List GivenData) (a b : GivenData) → AreDistinct (given_words given) → Contains given a → Contains given b → a.name ≡ b.name → a ≡ b
-given_once [] a b distinct one other same = absurd (contains_nil a one)
-given_once (x ∷ given) a b distinct one other same = elim (contains_cases x a given one) [
-  | inl first ↦ elim (contains_cases x b given other) [
+given_once [] a b distinct one other same = absurd (contains_none a one)
+given_once (x ∷ given) a b distinct one other same = elim (contains_cases x given a one) [
+  | inl first ↦ elim (contains_cases x given b other) [
     | inl second ↦ sym first ∙ second
     | inr later ↦ absurd (distinct.0 (subst (Contains (given_words given)) (sym same ∙ ap (λ o. o.name) (sym first)) (contains_map (λ o. o.name) given b later)))
   ]
-  | inr later ↦ elim (contains_cases x b given other) [
+  | inr later ↦ elim (contains_cases x given b other) [
     | inl second ↦ absurd (distinct.0 (subst (Contains (given_words given)) (same ∙ ap (λ o. o.name) (sym second)) (contains_map (λ o. o.name) given a later)))
     | inr after ↦ given_once given a b distinct.1 later after same
   ]
@@ -199,11 +200,6 @@ bound_once given a b distinct (inr (inl one)) (inr (inl other)) = one.1 ∙ sym 
 bound_once given a b distinct (inr (inr one)) (inr (inr other)) = one.1 ∙ sym other.1
 bound_once given a b distinct (inr (inl one)) (inr (inr other)) = plain_pairs (codes "plain") refl (given_value_once given bounds (codes "plain") (codes "pairs") distinct one.0 other.0)
 bound_once given a b distinct (inr (inr one)) (inr (inl other)) = plain_pairs (codes "plain") refl (given_value_once given bounds (codes "plain") (codes "pairs") distinct other.0 one.0)
-
-pub same_test : (a b : Bool) → (a ≡ true → b ≡ true) → (b ≡ true → a ≡ true) → a ≡ b
-same_test true b there back = sym (there refl)
-same_test false true there back = back refl
-same_test false false there back = refl
 
 abbrev head_of : Word → List Word → Word
 head_of other [] = other

@@ -7,7 +7,8 @@ use Rattle.strip_words.specs.declared.reader.Given.{Given}
 use Rattle.strip_words.specs.Words.{Word, Command, AreDistinct}
 use Rattle.strip_words.specs.Reading.{State, is_one_of, given_words, run, step_on}
 use Rattle.strip_words.specs.Shown.{texts, strs, option_data, given_data, given_names}
-use Rattle.strip_words.proofs.Members.{contains_head, contains_tail, one_of_yes}
+use Rattle.strip_pay.proofs.Lists.{contains_here, contains_later}
+use Rattle.strip_words.proofs.Members.{one_of_yes}
 
 pub any_named : (name : Word) (given : List Given) → list_any (λ option. bytes_eq option.name.now name) given ≡ is_one_of (given_names given) name
 any_named name [] = refl
@@ -81,12 +82,12 @@ find_data name (first ∷ given) option is = by (find_data name given option) (b
         → Contains (given_data (first ∷ given)) (option_data option) × (option.name.now ≡ name)
     by later true found is =
         let same : first ≡ option = ap (λ (o : Option Given). elim o as (λ _. Given) [ None ↦ first | Some y ↦ y ]) is in (
-          subst (λ o. Contains (given_data (first ∷ given)) (option_data o)) same (contains_head (option_data first) (given_data given)),
+          subst (λ o. Contains (given_data (first ∷ given)) (option_data o)) same (contains_here (option_data first) (given_data given)),
           subst (λ o. o.name.now ≡ name) same ((bytes_eq-Decides first.name.now name).0 found),
         )
     by later false other is =
         let rest = later is in
-        (contains_tail (option_data first) (option_data option) (given_data given) rest.0, rest.1)
+        (contains_later (option_data first) (given_data given) (option_data option) rest.0, rest.1)
 
 pub find_none : (name : Word) (given : List Given) → find (λ o. bytes_eq o.name.now name) given ≡ None → ¬ Contains (given_names given) name
 find_none name given is there =

@@ -3,8 +3,8 @@ use Rattle.std.specs.Prelude.{◌≡◌, ◌≢◌, ◌↔◌, ℕ, ◌⊎◌, B
 use Rattle.std.specs.List.{list_any, position_or_len, before_first, after_first}
 use Rattle.strip_words.specs.Words.{Word, Command, AreDistinct, IsNumber}
 use Rattle.strip_words.specs.Solve.{SolveData}
-use Rattle.strip_film.specs.declared.shared.Kind.{Kind}
-use Rattle.strip_film.specs.declared.shared.Kind.TheVariants.{Plain, Pairs}
+use Rattle.strip_pay.specs.declared.kind.Kind.{Kind}
+use Rattle.strip_pay.specs.declared.kind.Kind.TheVariants.{Plain, Pairs}
 
 -- an option that was given, with its value where it has one
 pub record GivenData : Type 0 where
@@ -109,7 +109,7 @@ abbrev pub given_words : List GivenData → List Word
 given_words given = map (λ option. option.name) given
 
 -- each option at most once, and as many operands as the command has, none of them empty
-pub record IsComplete (command : Command) (reading : ReadingData) : Type 0 where
+pub record HasAll (command : Command) (reading : ReadingData) : Type 0 where
   pub once : AreDistinct (given_words reading.given)
   pub count : length reading.operands ≡ command.operands
   pub filled : All (λ word. word ≢ []) reading.operands
@@ -119,7 +119,7 @@ pub record IsRead (command : Command) (words : List Word) (reading : ReadingData
   pub rest : List Word
   pub begins : words ≡ command.word ∷ rest
   pub read : finish (run command rest (Some start)) ≡ Some reading
-  pub complete : IsComplete command reading
+  pub complete : HasAll command reading
 
 -- the option is among these with this value
 abbrev pub IsGiven : Word → Word → List GivenData → Type 0

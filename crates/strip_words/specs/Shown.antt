@@ -63,8 +63,8 @@ mark_data Name = NameMark
 mark_data (Joined name value) = JoinedMark name.now value.now
 
 -- the job to solve, with its file as bytes
-abbrev pub shown : SolveJob → SolveData
-shown job = record {
+abbrev pub solve_data : SolveJob → SolveData
+solve_data job = record {
   file = string_bytes job.file;
   workers = job.workers;
   nodes = job.nodes;
@@ -75,4 +75,4 @@ shown job = record {
 
 -- the words name this job
 abbrev pub NamesJob : List Word → Job → Type 0
-NamesJob words (Solve job) = NameSolve words (shown job)
+NamesJob words (Solve job) = NameSolve words (solve_data job)

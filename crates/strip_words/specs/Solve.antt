@@ -1,8 +1,8 @@
 -- The words of `solve`, and the job that they name.
 use Rattle.std.specs.Prelude.{◌≡◌, ◌↔◌, ℕ, ◌⊎◌, Bool, true, Option, List, [], ◌∷◌, Contains, codes}
 use Rattle.strip_words.specs.Words.{Word, Command, Item, IsSpelled, IsNumber, Gives, options_in, operands_of}
-use Rattle.strip_film.specs.declared.shared.Kind.{Kind}
-use Rattle.strip_film.specs.declared.shared.Kind.TheVariants.{Plain, Pairs}
+use Rattle.strip_pay.specs.declared.kind.Kind.{Kind}
+use Rattle.strip_pay.specs.declared.kind.Kind.TheVariants.{Plain, Pairs}
 
 abbrev pub solve : Command
 solve = record {
@@ -35,7 +35,7 @@ IsChosenBound items kind =
     ⊎ (((item : Item) × Contains items item × Gives (codes "--bounds") (codes "pairs") item) × (kind ≡ Pairs))
 
 -- the items and what follows them say this job
-pub record Says (items : List Item) (rest : Option (List Word)) (job : SolveData) : Type 0 where
+pub record SayJob (items : List Item) (rest : Option (List Word)) (job : SolveData) : Type 0 where
   pub file : operands_of items rest ≡ job.file ∷ []
   pub workers : IsChosen (codes "--workers") 1 64 1 items job.workers
   pub nodes : IsChosen (codes "--nodes") 1 16777216 1000000 items job.nodes
@@ -45,4 +45,4 @@ pub record Says (items : List Item) (rest : Option (List Word)) (job : SolveData
 
 -- the words name this job to solve
 abbrev pub NameSolve : List Word → SolveData → Type 0
-NameSolve words job = (items : List Item) × (rest : Option (List Word)) × IsSpelled solve words items rest × Says items rest job
+NameSolve words job = (items : List Item) × (rest : Option (List Word)) × IsSpelled solve words items rest × SayJob items rest job

@@ -1,6 +1,6 @@
 // Jobs.
 
-use strip_film::Kind;
+use strip_pay::Kind;
 
 /// What to do, as the command words name it.
 #[derive(Drop)]

@@ -4,7 +4,7 @@ ghost use Rattle.strip_words.specs.declared.fault.WordsFault.TheVariants.{BadWor
 ghost use Rattle.strip_words.specs.Words.{AreDistinct};
 ghost use Rattle.strip_words.specs.Reading.{IsChosenIn, IsBoundIn, IsJobOf};
 ghost use Rattle.strip_words.specs.Solve.{SolveData, NameSolve};
-ghost use Rattle.strip_words.specs.Shown.{NamesJob, texts, given_names, given_data, option_data, reading_data, shown};
+ghost use Rattle.strip_words.specs.Shown.{NamesJob, texts, given_names, given_data, option_data, reading_data, solve_data};
 
 use crate::WordsFault;
 use crate::command::SOLVE;
@@ -12,7 +12,7 @@ use crate::jobs::{Job, SolveJob};
 use crate::number::number_of;
 use crate::reader::{Given, Reading, is_given, read};
 use std::alloc::Global;
-use strip_film::Kind;
+use strip_pay::Kind;
 
 /// The job that the words name, the program's own name not among them. `BadWords` where they name
 /// none, and `Memory` where memory runs out.
@@ -27,7 +27,7 @@ pub fn job(alloc: Global, words: &[String]) -> Result<Job, WordsFault>
 
 fn solve_job(alloc: Global, reading: &Reading) -> Result<SolveJob, WordsFault>
     requires { AreDistinct (given_names reading.now.given.items) }
-    ensures ok { IfOk result (λ job. IsJobOf (reading_data reading.now) (shown job)) }
+    ensures ok { IfOk result (λ job. IsJobOf (reading_data reading.now) (solve_data job)) }
     ensures bad { IfErr result (λ e. e ≡ NoJob → (job : SolveData) → ¬ IsJobOf (reading_data reading.now) job) }
 {
     let [file] = reading.operands.as_slice() else {

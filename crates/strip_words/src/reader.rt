@@ -2,7 +2,7 @@
 ghost use Rattle.std.specs.Prelude.{◌≡◌, ◌≢◌, ◌↔◌, [], All, Some, None, IsTrue, IfOk, IfErr, Contains, codes, bytes_eq, ◌||◌, option_map};
 ghost use Rattle.strip_words.specs.declared.fault.WordsFault.TheVariants.{BadWords as NoJob};
 ghost use Rattle.strip_words.specs.Words.{AreDistinct};
-ghost use Rattle.strip_words.specs.Reading.{ReadingData, IsRead, IsComplete, joined, is_one_of, is_plain, mark, step_awaits, step_item, run, finish, start};
+ghost use Rattle.strip_words.specs.Reading.{ReadingData, IsRead, HasAll, joined, is_one_of, is_plain, mark, step_awaits, step_item, run, finish, start};
 ghost use Rattle.strip_words.specs.Shown.{command_data, reading_data, mark_data, awaits_data, state_data, given_names, strs, texts};
 
 use crate::WordsFault;
@@ -56,15 +56,15 @@ pub(crate) fn read<'w>(
         return Err(WordsFault::BadWords);
     }
     let reading = read_items(alloc, command, rest)?;
-    if is_complete(command, &reading) {
+    if has_all(command, &reading) {
         Ok(reading)
     } else {
         Err(WordsFault::BadWords)
     }
 }
 
-fn is_complete(command: &Command, reading: &Reading) -> bool
-    ensures { IsTrue result ↔ IsComplete (command_data command.now) (reading_data reading.now) }
+fn has_all(command: &Command, reading: &Reading) -> bool
+    ensures { IsTrue result ↔ HasAll (command_data command.now) (reading_data reading.now) }
 {
     let operands = reading.operands.as_slice();
     operands.len() == command.operands

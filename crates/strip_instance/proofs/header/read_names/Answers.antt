@@ -1,5 +1,6 @@
 use Rattle.std.proofs.Common.{length, arith, sym, ◌∙◌}
-use Rattle.strip_instance.specs.Faults.{actor_fields, actor_name_checks, header_checks, is_header}
+use Rattle.strip_instance.specs.Parts.{actor_fields}
+use Rattle.strip_instance.specs.Faults.{actor_name_checks, header_checks, is_header}
 use Rattle.strip_instance.specs.Checks.{below}
 use Rattle.strip_instance.specs.Shown.{row_data}
 use Rattle.strip_instance.specs.declared.fault.InstanceFault.TheVariants.{BadHeader}

@@ -2,7 +2,8 @@ use Rattle.std.proofs.Common.{◌≡◌, ◌≤◌, None, take}
 use Rattle.indexmap.specs.IndexSet.{keys}
 use Rattle.strip_model.specs.declared.limits.TheConstants.{MAX_ACTORS}
 use Rattle.strip_instance.specs.Checks.{first_fault, below}
-use Rattle.strip_instance.specs.Faults.{actor_fields, actor_name_checks}
+use Rattle.strip_instance.specs.Parts.{actor_fields}
+use Rattle.strip_instance.specs.Faults.{actor_name_checks}
 use Rattle.strip_instance.specs.Shown.{row_data, strs}
 use Rattle.strip_instance.proofs.header.read_names.Given as goal
 

@@ -7,7 +7,8 @@ use Rattle.strip_instance.specs.declared.fault.InstanceFault.{InstanceFault}
 use Rattle.strip_instance.specs.declared.fault.InstanceFault.TheVariants.{Memory}
 use Rattle.strip_instance.specs.Field.{trimmed}
 use Rattle.strip_instance.specs.Checks.{Makes}
-use Rattle.strip_instance.specs.Faults.{Row, all_checks}
+use Rattle.strip_instance.specs.Parts.{Row, parts_of}
+use Rattle.strip_instance.specs.Faults.{all_checks}
 use Rattle.strip_instance.specs.Shown.{row_data, rows_data}
 use Rattle.strip_instance.specs.Text.{HasRows, Says, SaysJust, instance_of, reading_of}
 use Rattle.strip_instance.proofs.Alone.{says_alone}
@@ -23,7 +24,7 @@ says_just : (text : List ℕ) (reading : Result InstanceData InstanceFault) → 
 says_just text reading said = record { said = said; alone = λ other there. says_alone text other reading there said }
 
 says_instance : (text : List ℕ) (rows : List Row) (read : Result InstanceData InstanceFault) → HasRows text rows
-    → Makes (all_checks rows) read → IfOk read (λ inst. inst ≡ instance_of rows) → IfOk read (λ inst. SaysJust text (Ok inst))
+    → Makes (all_checks rows) read → IfOk read (λ inst. inst ≡ instance_of (parts_of rows)) → IfOk read (λ inst. SaysJust text (Ok inst))
 says_instance text rows (Ok inst) has makes same = says_just text (Ok inst) (rows, has, ap Ok same ∙ sym (ap (reading_of rows) makes))
 says_instance text rows (Err fault) has makes same = tt
 

@@ -1,5 +1,6 @@
-use Rattle.std.proofs.Common.{length, ◌<◌, arith, sym, ◌∙◌}
-use Rattle.strip_instance.specs.Faults.{actor_fields, mark_check, mark_checks}
+use Rattle.std.proofs.Common.{length, ◌<◌, arith, ap, sym, ◌∙◌}
+use Rattle.strip_instance.specs.Parts.{actor_fields}
+use Rattle.strip_instance.specs.Faults.{mark_check, mark_checks}
 use Rattle.strip_instance.specs.Shown.{row_data}
 use Rattle.strip_instance.proofs.Making.{makes-at, makes-handed_on, below-more}
 use Rattle.strip_instance.proofs.Marks.{cast-joined, cast-kept}
@@ -20,7 +21,7 @@ loop-actor-preserved c =
     record {
       pass = below-more c.loop-actor.actor (mark_check c.args.number row) c.loop-actor.invariant.pass c.in_ok-read_mark.ensures.makes;
       cast = elim c.if-branch.branch [
-        | then-branch w ↦ w.cast-is ∙ cast-joined (actor_fields row) c.loop-actor.cast c.loop-actor.actor within (omega (arith, within, c.requires)) (sym c.in_ok-read_mark.ensures.mark ∙ w.if-branch.true) c.loop-actor.invariant.cast
-        | else-branch w ↦ w.cast-is ∙ cast-kept (actor_fields row) c.loop-actor.cast c.loop-actor.actor within (sym c.in_ok-read_mark.ensures.mark ∙ w.if-branch.false) c.loop-actor.invariant.cast
+        | then-branch w ↦ ap (λ mask. mask.0) w.cast-is ∙ w.with-cast.ensures ∙ cast-joined (actor_fields row) c.loop-actor.cast.0 c.loop-actor.actor within (sym c.in_ok-read_mark.ensures.mark ∙ w.if-branch.true) c.loop-actor.invariant.cast
+        | else-branch w ↦ ap (λ mask. mask.0) w.cast-is ∙ cast-kept (actor_fields row) c.loop-actor.cast.0 c.loop-actor.actor within (sym c.in_ok-read_mark.ensures.mark ∙ w.if-branch.false) c.loop-actor.invariant.cast
       ];
     }

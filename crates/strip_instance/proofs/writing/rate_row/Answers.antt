@@ -1,13 +1,14 @@
-use Rattle.std.proofs.Common.{◌≡◌, ◌∷◌, [], take, map, codes, arith, sym, ap, ◌∙◌}
+use Rattle.std.proofs.Common.{◌≡◌, ◌∷◌, [], take, map, arith, sym, ap, ◌∙◌}
 use Rattle.std.specs.Fmt.{decimal}
 use Rattle.std.proofs.lemmas.List.{take_all}
 use Rattle.std.proofs.lemmas.Simd.{map-map}
 use Rattle.strip_model.specs.Instance.{actor_data}
+use Rattle.strip_instance.specs.Shown.{rate_of, rate_word}
 use Rattle.strip_instance.proofs.writing.rate_row.Goals as goal
 
 pub returns : goal.returns
 returns c =
     let actors = c.args.actors.now in
     let all : take c.loop-actor.actor-index actors ≡ actors = take_all c.loop-actor.actor-index actors (omega arith) in
-    c.loop-actor.invariant.fields ∙ ap (λ list. codes "rate" ∷ [] ∷ map (λ actor. decimal actor.rate) list) all
-    ∙ ap (λ rates. codes "rate" ∷ [] ∷ rates) (sym (map-map (λ actor. decimal actor.rate) actor_data actors))
+    c.loop-actor.invariant.fields ∙ ap (λ list. rate_word c.args.kind ∷ [] ∷ map (λ actor. decimal (rate_of c.args.kind (actor_data actor))) list) all
+    ∙ ap (λ rates. rate_word c.args.kind ∷ [] ∷ rates) (sym (map-map (λ actor. decimal (rate_of c.args.kind actor)) actor_data actors))

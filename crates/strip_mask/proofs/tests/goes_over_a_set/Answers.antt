@@ -1,6 +1,6 @@
 use Rattle.std.proofs.Common.{lit<}
 use Rattle.strip_mask.specs.Set.{has, members, numbers_below, sum_over}
-use Rattle.strip_mask.proofs.Laws.{below_width}
+use Rattle.strip_mask.proofs.ByMembers.{below_width}
 use Rattle.strip_mask.proofs.tests.goes_over_a_set.Goals as goal
 
 pub sum_over-requires-clause-within : goal.sum_over-requires-clause-within

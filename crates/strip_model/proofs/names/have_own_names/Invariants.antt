@@ -3,4 +3,4 @@ use Rattle.std.specs.List.{AllPairs}
 use Rattle.strip_model.proofs.names.have_own_names.Given as goal
 
 abbrev pub invariant-loop-place : goal.invariant-loop-place
-invariant-loop-place g l = AllPairs (λ a b. g.N.Named.name a ≢ g.N.Named.name b) (take l.place l.items)
+invariant-loop-place g l = AllPairs (λ a b. g.N.HasName.name a ≢ g.N.HasName.name b) (take l.place l.items)

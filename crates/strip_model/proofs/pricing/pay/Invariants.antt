@@ -1,10 +1,12 @@
-use Rattle.std.proofs.Common.{◌≡◌, ◌*◌, ◌≤◌, slice_index}
-use Rattle.strip_model.specs.Pay.{casts_of, days_of, rates_of, paid_days, sum_below}
+use Rattle.std.proofs.Common.{◌≡◌, ◌*◌, ◌≤◌, sum_by}
+use Rattle.strip_mask.specs.Sums.{sum_below}
+use Rattle.strip_pay.specs.Pay.{day_pay, span}
+use Rattle.strip_model.specs.Film.{film_of}
 use Rattle.strip_model.proofs.pricing.pay.Given as goal
 
-abbrev pub invariant-loop-number : goal.invariant-loop-number
-invariant-loop-number l = record {
-  total : l.total ≡ sum_below l.number
-      (λ actor. slice_index (rates_of l.inst) actor * paid_days (casts_of l.inst) (days_of l.inst) l.order actor);
-  small : l.total ≤ l.number * (1000000000 * (99 * 200));
+abbrev pub invariant-loop-actor : goal.invariant-loop-actor
+invariant-loop-actor l = record {
+  total : l.total ≡ sum_below l.actor
+      (λ actor. sum_by (day_pay (film_of l.inst) actor) (span (film_of l.inst) l.order actor));
+  small : l.total ≤ l.actor * 19800000000000;
 }

@@ -2,7 +2,7 @@ use Rattle.std.proofs.Common.{sym, ◌∙◌, subst}
 use Rattle.strip_words.specs.Words.{AreDistinct}
 use Rattle.strip_words.specs.Solve.{solve}
 use Rattle.strip_words.specs.Reading.{IsJobOf}
-use Rattle.strip_words.specs.Shown.{texts, shown, reading_data}
+use Rattle.strip_words.specs.Shown.{texts, solve_data, reading_data}
 use Rattle.strip_words.proofs.Spelled.{read_once}
 use Rattle.strip_words.proofs.Sayings.{names_from_read, read_from_names}
 use Rattle.strip_words.proofs.Shows.{err_from, names_data}
@@ -23,4 +23,4 @@ returns-in_err-job-clause-bad c = err_from c.from_residual-in_err-job.result _ _
     c.in_err-job.ensures.bad (sym given ∙ is) job (subst (λ r. IsJobOf r job) same has.says))
 
 pub returns-clause-named : goal.returns-clause-named
-returns-clause-named c = names_from_read (texts c.args.words.now) (reading_data c.in_ok-reading.reading) (shown c.in_ok-job.job) c.in_ok-reading.ensures.ok c.in_ok-job.ensures.ok
+returns-clause-named c = names_from_read (texts c.args.words.now) (reading_data c.in_ok-reading.reading) (solve_data c.in_ok-job.job) c.in_ok-reading.ensures.ok c.in_ok-job.ensures.ok

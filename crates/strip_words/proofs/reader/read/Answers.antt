@@ -9,10 +9,10 @@ not_false : (b : Bool) → not b ≡ false → b ≡ true
 not_false true is = refl
 not_false false is = absurd (true≢false is)
 
-pub returns-then-is_complete-clause-ok : goal.returns-then-is_complete-clause-ok
-returns-then-is_complete-clause-ok c = record {
+pub returns-then-has_all-clause-ok : goal.returns-then-has_all-clause-ok
+returns-then-has_all-clause-ok c = record {
   rest = texts (take (length c.args.words.now - 1) (drop 1 c.args.words.now));
   begins = texts_cut c.args.words.now c.word-item.result c.in-len1-up.len_at_least c.word-item.is ∙ ap (λ (w : Word). w ∷ texts (take (length c.args.words.now - 1) (drop 1 c.args.words.now))) (sym c.as_str.ensures.value ∙ (bytes_eq-Decides c.as_str.result.now c.args.command.now.word.now).0 (not_false _ (sym c.ne.ensures ∙ c.if-ne.false)));
   read = c.in_ok-reading.ensures.ok;
-  complete = c.is_complete.ensures.0 c.if-is_complete.true;
+  complete = c.has_all.ensures.0 c.if-has_all.true;
 }

@@ -1,5 +1,5 @@
 use Rattle.std.proofs.Common.{arith}
-use Rattle.strip_mask.proofs.Laws.{minus_by_not}
+use Rattle.strip_mask.proofs.ByMembers.{minus_by_not}
 use Rattle.strip_mask.proofs.mask.Mask.minus.Goals as goal
 
 pub returns : goal.returns

@@ -1,7 +1,7 @@
 use Rattle.std.proofs.Common.{ℕ, ◌^◌, ◌-◌, ◌∙◌, ap, bit_and, arith}
 use Rattle.std.proofs.lemmas.Nat.{one_shl, pow_below}
 use Rattle.strip_mask.specs.Set.{without}
-use Rattle.strip_mask.proofs.Laws.{minus_by_not}
+use Rattle.strip_mask.proofs.ByMembers.{minus_by_not}
 use Rattle.strip_mask.proofs.mask.Mask.without.Goals as goal
 
 pub returns : goal.returns

@@ -1,0 +1,46 @@
+// The two kinds of rates: for a day of work, and for a day of waiting.
+ghost use Rattle.std.specs.Prelude.{◌≡◌};
+ghost use Rattle.strip_model.specs.Instance.{actor_data};
+ghost use Rattle.strip_instance.specs.Shown.{rate_fault, rate_of, rate_word};
+
+use crate::fault::InstanceFault;
+use strip_model::Actor;
+
+/// What a row of rates is about.
+#[derive(Clone, Copy)]
+pub(crate) enum RateKind {
+    Work,
+    Wait,
+}
+
+impl RateKind {
+    /// The word that the row begins with.
+    pub(crate) fn word(self) -> &'static [u8]
+        ensures { result.now ≡ rate_word self }
+    {
+        match self {
+            RateKind::Work => b"rate",
+            RateKind::Wait => b"hold",
+        }
+    }
+
+    /// The fault of a column that is no rate.
+    pub(crate) fn fault(self, col: u64) -> InstanceFault
+        ensures { result ≡ rate_fault self col }
+    {
+        match self {
+            RateKind::Work => InstanceFault::BadRate { col },
+            RateKind::Wait => InstanceFault::BadHold { col },
+        }
+    }
+
+    /// The actor's rate for a day, in units of money.
+    pub(crate) fn of(self, actor: &Actor) -> u64
+        ensures { result ≡ rate_of self (actor_data actor.now) }
+    {
+        match self {
+            RateKind::Work => actor.rate,
+            RateKind::Wait => actor.hold,
+        }
+    }
+}

@@ -1,0 +1,9 @@
+pub mod Lists
+pub mod Counts
+pub mod Chains
+pub mod Before
+pub mod Ahead
+pub mod Marks
+pub mod Spans
+pub mod Pays
+pub mod Rows

@@ -1,0 +1,61 @@
+-- Worked rows of the definitions, by computation.
+use Rattle.std.proofs.Common.{◌≡◌, ℕ, [], ◌∷◌, List, refl, inl, inr, arith}
+use Rattle.strip_mask.specs.Set.{has}
+use Rattle.strip_mask.specs.Sums.{sum_below}
+use Rattle.strip_pay.specs.declared.pair.Pair.{Pair}
+use Rattle.strip_pay.specs.Film.{FilmData}
+use Rattle.strip_pay.specs.Order.{StandsBefore}
+use Rattle.strip_pay.specs.Pairs.{HasCycle}
+use Rattle.strip_pay.specs.Pay.{span, pay_of}
+
+-- three scenes of two actors each, one day each, at these rates
+abbrev triangle : List ℕ → List ℕ → FilmData
+triangle rates holds = record { casts = 3 ∷ 6 ∷ 5 ∷ []; days = 1 ∷ 1 ∷ 1 ∷ []; rates = rates; holds = holds; pairs = [] }
+
+rising : pay_of (triangle (1 ∷ 2 ∷ 3 ∷ []) (1 ∷ 2 ∷ 3 ∷ [])) (0 ∷ 1 ∷ 2 ∷ []) ≡ 13
+unfolding has sum_below
+rising = refl
+
+last_two_turned : pay_of (triangle (1 ∷ 2 ∷ 3 ∷ []) (1 ∷ 2 ∷ 3 ∷ [])) (0 ∷ 2 ∷ 1 ∷ []) ≡ 14
+unfolding has sum_below
+last_two_turned = refl
+
+-- the second actor waits for a day at his hold rate of 1
+held_for_less : pay_of (triangle (1 ∷ 2 ∷ 3 ∷ []) (5 ∷ 1 ∷ 4 ∷ [])) (0 ∷ 2 ∷ 1 ∷ []) ≡ 13
+unfolding has sum_below
+held_for_less = refl
+
+-- only days of waiting are paid
+waiting_alone : pay_of (triangle (0 ∷ 0 ∷ 0 ∷ []) (1 ∷ 1 ∷ 1 ∷ [])) (0 ∷ 1 ∷ 2 ∷ []) ≡ 1
+unfolding has sum_below
+waiting_alone = refl
+
+-- one actor in each of two scenes, and both in the third
+abbrev shared : FilmData
+shared = record { casts = 1 ∷ 2 ∷ 3 ∷ []; days = 1 ∷ 1 ∷ 1 ∷ []; rates = 10 ∷ 20 ∷ []; holds = 10 ∷ 20 ∷ []; pairs = [] }
+
+shared_between : pay_of shared (0 ∷ 2 ∷ 1 ∷ []) ≡ 60
+unfolding has sum_below
+shared_between = refl
+
+shared_last : pay_of shared (0 ∷ 1 ∷ 2 ∷ []) ≡ 70
+unfolding has sum_below
+shared_last = refl
+
+span_of_first : span shared (0 ∷ 1 ∷ 2 ∷ []) 0 ≡ 0 ∷ 1 ∷ 2 ∷ []
+unfolding has
+span_of_first = refl
+
+span_of_second : span shared (0 ∷ 1 ∷ 2 ∷ []) 1 ≡ 1 ∷ 2 ∷ []
+unfolding has
+span_of_second = refl
+
+-- pairs that lead round come back
+abbrev ring : List Pair
+ring = record { first = 0; then = 1 } ∷ record { first = 1; then = 2 } ∷ record { first = 2; then = 0 } ∷ []
+
+ring_returns : HasCycle ring
+ring_returns = record { scene = 0; between = 1 ∷ 2 ∷ []; returns = ((0, omega arith, refl), ((1, omega arith, refl), ((2, omega arith, refl), tt))) }
+
+stands : StandsBefore 2 1 (0 ∷ 2 ∷ 1 ∷ [])
+stands = inr (inl (refl, (0, omega arith, refl)))

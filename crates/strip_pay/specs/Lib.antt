@@ -1,0 +1,4 @@
+pub mod Film
+pub mod Order
+pub mod Pairs
+pub mod Pay

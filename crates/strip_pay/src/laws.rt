@@ -1,0 +1,56 @@
+//! Laws of the definitions. Each function does nothing: its contract is the law.
+ghost use Rattle.std.specs.Prelude.{◌≡◌, ◌⊎◌, ℕ, ◌*◌, ◌+◌, ◌^◌, ◌<◌, ◌≤◌, Bool, true, false, List, All, length, reverse, sum, sum_by, count_by, ◌==◌};
+ghost use Rattle.std.specs.List.Sorted.{IsPermutation};
+ghost use Rattle.strip_mask.specs.Sums.{sum_below};
+ghost use Rattle.strip_pay.specs.declared.pair.Pair.{Pair};
+ghost use Rattle.strip_pay.specs.Film.{FilmData};
+ghost use Rattle.strip_pay.specs.Order.{IsBefore, IsOrder, Keeps};
+ghost use Rattle.strip_pay.specs.Pairs.{HasCycle, Precedes};
+ghost use Rattle.strip_pay.specs.Pay.{pay_of};
+
+/// An order of n scenes has n numbers, and the orders of n scenes are the permutations of one of them.
+pub fn orders_are_permutations()
+    ensures length { (n : ℕ) (order : List ℕ) → IsOrder n order → length order ≡ n }
+    ensures permuted { (n : ℕ) (a b : List ℕ) → IsOrder n a → IsOrder n b → IsPermutation a b }
+    ensures stays { (n : ℕ) (a b : List ℕ) → IsOrder n a → IsPermutation a b → IsOrder n b }
+{}
+
+/// The sum of the values of a list's numbers is that of how often each stands in it, and so that of
+/// all numbers below n along an order.
+pub fn sums_are_by_counts()
+    ensures counts { (n : ℕ) (f : ℕ → ℕ) (xs : List ℕ) → All (λ x. x < n) xs
+        → sum_by f xs ≡ sum_below n (λ i. count_by (λ x. x == i) xs * f i) }
+    ensures order { (n : ℕ) (f : ℕ → ℕ) (order : List ℕ) → IsOrder n order → sum_by f order ≡ sum_below n f }
+{}
+
+/// The reverse of an order is an order and pays the same.
+pub fn the_reverse_pays_the_same()
+    ensures order { (n : ℕ) (order : List ℕ) → IsOrder n order → IsOrder n (reverse order) }
+    ensures pay { (film : FilmData) (order : List ℕ) → pay_of film (reverse order) ≡ pay_of film order }
+{}
+
+/// An order pays at most all days at the rates and hold rates of all actors; so within the limits of
+/// instances and films a pay is below 2^63.
+pub fn pays_stay_small()
+    ensures most { (film : FilmData) (order : List ℕ) → length film.holds ≡ length film.rates → IsOrder (length film.days) order
+        → pay_of film order ≤ sum film.days * (sum film.rates + sum film.holds) }
+    ensures small { (film : FilmData) (order : List ℕ) → length film.holds ≡ length film.rates → IsOrder (length film.days) order
+        → sum film.days ≤ 19800 → sum film.rates ≤ 64000000000 → sum film.holds ≤ 64000000000
+        → pay_of film order < 2 ^ 63 }
+{}
+
+/// Which of two lists comes first is a total order.
+pub fn lists_are_in_order()
+    ensures total { (a b : List ℕ) → IsBefore a b ⊎ ((a ≡ b) ⊎ IsBefore b a) }
+    ensures once { (a : List ℕ) → ¬ IsBefore a a }
+    ensures transitive { (a b c : List ℕ) → IsBefore a b → IsBefore b c → IsBefore a c }
+{}
+
+/// What a cycle means: no order keeps pairs that have one; and where there is none, each set of scenes
+/// that isn't empty has one that no pair puts behind another of the set.
+pub fn cycles_can_not_be_kept()
+    ensures kept { (n : ℕ) (pairs : List Pair) (order : List ℕ) → IsOrder n order → Keeps pairs order → ¬ HasCycle pairs }
+    ensures first { (n : ℕ) (pairs : List Pair) (inside : ℕ → Bool) (x : ℕ) → ¬ HasCycle pairs
+        → ((y : ℕ) → inside y ≡ true → y < n) → inside x ≡ true
+        → (scene : ℕ) × (inside scene ≡ true) × ((first : ℕ) → Precedes pairs first scene → inside first ≡ false) }
+{}

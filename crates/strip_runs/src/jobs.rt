@@ -1,0 +1,148 @@
+// Word lists and the jobs that they name, worked by hand from the rules of the words.
+use std::alloc::{AllocError, Global};
+use std::test::Fail;
+use strip_pay::Kind;
+use strip_words::{Job, WordsFault, job};
+
+const BAD: [&[&str]; 49] = [
+    &[],
+    &["solve"],
+    &["Solve", "f"],
+    &["check", "f", "p"],
+    &["f", "solve"],
+    &["solve", "a", "b"],
+    &["solve", ""],
+    &["solve", "f", ""],
+    &["solve", "--"],
+    &["solve", "--", ""],
+    &["solve", "f", "--", "g"],
+    &["solve", "--", "f", "--proof"],
+    &["solve", "--", "f", "--"],
+    &["--proof", "solve", "f"],
+    &["solve", "f", "-n", "5"],
+    &["solve", "f", "---"],
+    &["solve", "f", "--workers", "0"],
+    &["solve", "f", "--workers", "65"],
+    &["solve", "f", "--workers=0"],
+    &["solve", "f", "--nodes", "0"],
+    &["solve", "f", "--nodes", "-1"],
+    &["solve", "f", "--nodes=-1"],
+    &["solve", "f", "--nodes", "-"],
+    &["solve", "f", "--nodes", "5", "--nodes", "5"],
+    &["solve", "f", "--nodes=5", "--nodes", "5"],
+    &["solve", "f", "--nodes=5", "--proof", "--nodes=5"],
+    &["solve", "f", "--nodes="],
+    &["solve", "f", "--nodes", ""],
+    &["solve", "f", "--nodes"],
+    &["solve", "f", "--nodes", "--proof"],
+    &["solve", "f", "--nodes", "--", "5"],
+    &["solve", "f", "--nodes", "16777217"],
+    &["solve", "f", "--nodes", "4294967297"],
+    &["solve", "f", "--nodes", "18446744073709551617"],
+    &["solve", "f", "--nodes", "5a"],
+    &["solve", "f", "--nodes", "+5"],
+    &["solve", "f", "--nodes", "5 "],
+    &["solve", "f", "--nodes==5"],
+    &["solve", "f", "--Nodes", "5"],
+    &["solve", "f", "--node", "5"],
+    &["solve", "f", "--nodesx=5"],
+    &["solve", "f", "--bound", "pairs"],
+    &["solve", "f", "--bounds", "both"],
+    &["solve", "f", "--bounds=Plain"],
+    &["solve", "f", "--table", "63"],
+    &["solve", "f", "--table", "4194305"],
+    &["solve", "f", "--proof=yes"],
+    &["solve", "f", "--proof="],
+    &["solve", "f", "--proof", "--proof"],
+];
+
+const FILES: [(&[&str], &str); 6] = [
+    (&["solve", "f"], "f"),
+    (&["solve", "-"], "-"),
+    (&["solve", "--", "f"], "f"),
+    (&["solve", "--", "--nodes"], "--nodes"),
+    (&["solve", "--", "--"], "--"),
+    (&["solve", "f", "--"], "f"),
+];
+
+struct Row {
+    words: &'static [&'static str],
+    workers: u32,
+    nodes: u32,
+    table: u32,
+    kind: Kind,
+    proof: bool,
+}
+
+const PAIRS: Kind = Kind::Pairs;
+
+const PLAIN: Kind = Kind::Plain;
+
+#[rattlefmt::skip]
+const ROWS: [Row; 16] = [
+    Row { words: &["solve", "--workers", "64", "f"], workers: 64, nodes: 1_000_000, table: 65_536, kind: PAIRS, proof: false },
+    Row { words: &["solve", "f", "--workers=1"], workers: 1, nodes: 1_000_000, table: 65_536, kind: PAIRS, proof: false },
+    Row { words: &["solve", "--nodes=5", "f"], workers: 1, nodes: 5, table: 65_536, kind: PAIRS, proof: false },
+    Row { words: &["solve", "f", "--nodes", "007"], workers: 1, nodes: 7, table: 65_536, kind: PAIRS, proof: false },
+    Row { words: &["solve", "f", "--nodes", "1"], workers: 1, nodes: 1, table: 65_536, kind: PAIRS, proof: false },
+    Row { words: &["solve", "f", "--nodes", "16777216"], workers: 1, nodes: 16_777_216, table: 65_536, kind: PAIRS, proof: false },
+    Row { words: &["solve", "f", "--nodes", "000000000000000000000000000001"], workers: 1, nodes: 1, table: 65_536, kind: PAIRS, proof: false },
+    Row { words: &["solve", "f", "--table", "64"], workers: 1, nodes: 1_000_000, table: 64, kind: PAIRS, proof: false },
+    Row { words: &["solve", "f", "--table", "4194304"], workers: 1, nodes: 1_000_000, table: 4_194_304, kind: PAIRS, proof: false },
+    Row { words: &["solve", "f", "--bounds", "plain"], workers: 1, nodes: 1_000_000, table: 65_536, kind: PLAIN, proof: false },
+    Row { words: &["solve", "f", "--bounds=plain"], workers: 1, nodes: 1_000_000, table: 65_536, kind: PLAIN, proof: false },
+    Row { words: &["solve", "f", "--bounds=pairs"], workers: 1, nodes: 1_000_000, table: 65_536, kind: PAIRS, proof: false },
+    Row { words: &["solve", "f", "--bounds", "pairs"], workers: 1, nodes: 1_000_000, table: 65_536, kind: PAIRS, proof: false },
+    Row { words: &["solve", "f", "--proof"], workers: 1, nodes: 1_000_000, table: 65_536, kind: PAIRS, proof: true },
+    Row { words: &["solve", "--proof", "--", "f"], workers: 1, nodes: 1_000_000, table: 65_536, kind: PAIRS, proof: true },
+    Row { words: &["solve", "--workers=3", "--nodes", "4", "f", "--table=99", "--bounds", "plain", "--proof"], workers: 3, nodes: 4, table: 99, kind: PLAIN, proof: true },
+];
+
+fn words_of(alloc: Global, words: &[&str]) -> Result<Vec<String>, AllocError> {
+    let mut list = Vec::new(alloc);
+    for word in words {
+        let word = String::from_str(alloc, word)?;
+        list.push(word)?;
+    }
+    Ok(list)
+}
+
+#[test]
+fn words_that_name_no_job(rt: HostRuntime) -> Result<(), Fail> {
+    let alloc = rt.alloc();
+    for words in &BAD {
+        let words = words_of(alloc, words)?;
+        let fault = job(alloc, &words).err();
+        assert_eq!(rt; fault, Some(WordsFault::BadWords));
+    }
+    Ok(())
+}
+
+#[test]
+fn the_file(rt: HostRuntime) -> Result<(), Fail> {
+    let alloc = rt.alloc();
+    for (words, file) in &FILES {
+        let words = words_of(alloc, words)?;
+        let Job::Solve(job) = job(alloc, &words)?;
+        assert_eq!(rt; job.file.as_str(), *file);
+        assert_eq!(rt; (job.workers, job.nodes, job.table), (1, 1_000_000, 65_536));
+        assert_eq!(rt; (job.kind, job.proof), (Kind::Pairs, false));
+    }
+    Ok(())
+}
+
+#[test]
+fn the_options(rt: HostRuntime) -> Result<(), Fail> {
+    let alloc = rt.alloc();
+    for row in &ROWS {
+        let words = words_of(alloc, row.words)?;
+        let Job::Solve(job) = job(alloc, &words)?;
+        assert_eq!(rt; job.file.as_str(), "f");
+        assert_eq!(rt;
+            (job.workers, job.nodes, job.table),
+            (row.workers, row.nodes, row.table)
+        );
+        assert_eq!(rt; (job.kind, job.proof), (row.kind, row.proof));
+    }
+    Ok(())
+}

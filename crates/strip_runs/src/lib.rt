@@ -1,0 +1,28 @@
+//! Tests: whole runs of the program over files and sinks in memory, what it prints and how it ends;
+//! instance texts; words and jobs; films, their paths and their cheapest orders; files and sinks.
+#![tactic(auto)]
+
+#[cfg(test)]
+mod exports;
+#[cfg(test)]
+mod faults;
+#[cfg(test)]
+mod films;
+#[cfg(test)]
+mod jobs;
+#[cfg(test)]
+mod kept;
+#[cfg(test)]
+mod paths;
+#[cfg(test)]
+mod refusals;
+#[cfg(test)]
+mod runs;
+#[cfg(test)]
+mod text_faults;
+#[cfg(test)]
+mod texts;
+#[cfg(test)]
+mod transfers;
+#[cfg(test)]
+mod words;

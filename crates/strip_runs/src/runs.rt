@@ -1,0 +1,125 @@
+// Runs over one file, `film.csv`, and what they print.
+use std::alloc::{AllocError, Global};
+use std::process::Abort;
+use std::test::Fail;
+use strip_io::{Files, MemFiles, MemSink, NoFaultFiles};
+use strip_top::report;
+
+pub(crate) const TRIANGLE: &str = "scene,days,a,b,c\nrate,,1,2,3\n\
+    s1,1,x,x,.\ns2,1,.,x,x\ns3,1,x,.,x\n";
+
+pub(crate) const TRIANGLE_SOLVED: &str =
+    "status,optimal\ncost,13\nbound,13\nlines,0\norder,s1,s2,s3\n";
+
+pub(crate) const SOLVE: [&str; 2] = ["solve", "film.csv"];
+
+pub(crate) fn texts(alloc: Global, words: &[&str]) -> Result<Vec<String>, AllocError> {
+    let mut all = Vec::new(alloc);
+    for word in words {
+        all.push(String::from_str(alloc, word)?)?;
+    }
+    Ok(all)
+}
+
+/// Runs the words over these files, and checks the exit status and the printed text.
+pub(crate) fn check_over<F: Files>(
+    rt: &(impl Abort + AllocGlobal),
+    words: &[&str],
+    files: &mut F,
+    status: u8,
+    printed: &str,
+) -> Result<(), Fail> {
+    let alloc = rt.alloc();
+    let words = texts(alloc, words)?;
+    let mut out = MemSink::new(alloc, 4096, 4096, &[])?;
+    assert_eq!(rt; report(alloc, &words, files, &mut out), status);
+    assert_eq!(rt; out.taken(), printed.as_bytes());
+    Ok(())
+}
+
+/// Runs the words where `film.csv` has this text.
+pub(crate) fn check(
+    rt: &(impl Abort + AllocGlobal),
+    words: &[&str],
+    film: &[u8],
+    status: u8,
+    printed: &str,
+) -> Result<(), Fail> {
+    let mut files = MemFiles::new(rt.alloc(), &[])?;
+    files.add("film.csv", film)?;
+    check_over(rt, words, &mut files, status, printed)
+}
+
+/// What is printed for a film that is solved.
+pub(crate) fn solved(alloc: Global, pay: &str, order: &str) -> Result<String, AllocError> {
+    format!(in alloc; "status,optimal\ncost,{pay}\nbound,{pay}\nlines,0\norder,{order}\n")
+}
+
+// A film, its least pay, and the first order that costs it.
+const WORKED: [(&str, &str, &str); 10] = [
+    (TRIANGLE, "13", "s1,s2,s3"),
+    (
+        "scene,days,a1,a2\nrate,,10,20\ns1,1,x,.\ns2,1,.,x\ns3,1,x,x\n",
+        "60",
+        "s1,s3,s2",
+    ),
+    ("scene,days,a\nrate,,100\ns1,2,x\n", "200", "s1"),
+    // two scenes of one cast apart in the file
+    (
+        "scene,days,a,b,c\nrate,,1,2,3\ns1,1,x,x,.\ns2,1,.,x,x\ns3,1,x,.,x\ns4,1,x,x,.\n",
+        "16",
+        "s1,s4,s2,s3",
+    ),
+    (
+        "scene,days,a,c\nrate,,5,7\ns1,1,x,x\ns2,1,x,.\ns3,1,x,x\n",
+        "29",
+        "s1,s3,s2",
+    ),
+    // one actor is paid nothing, and another works nowhere
+    (
+        "scene,days,a,z,y\nrate,,10,0,5\ns1,1,x,x,.\ns2,1,x,.,.\ns3,1,.,x,.\n",
+        "20",
+        "s1,s2,s3",
+    ),
+    // days of waiting cost another rate
+    (
+        "scene,days,a,b,c\nrate,,1,2,3\nhold,,5,1,4\ns1,1,x,x,.\ns2,1,.,x,x\ns3,1,x,.,x\n",
+        "13",
+        "s1,s3,s2",
+    ),
+    (
+        "scene,days,a,b,c\nrate,,0,0,0\nhold,,1,1,1\ns1,1,x,x,.\ns2,1,.,x,x\ns3,1,x,.,x\n",
+        "1",
+        "s1,s2,s3",
+    ),
+    (
+        "scene,days,a,b,c\nrate,,1,2,3\nhold,,1,2,3\ns1,1,x,x,.\ns2,1,.,x,x\ns3,1,x,.,x\n",
+        "13",
+        "s1,s2,s3",
+    ),
+    (
+        "scene,days,a,b,c\r\nrate,each,1,2,3\r\n HOLD ,waiting, 05 ,1,4\r\n\
+            s1,1,x,x,.\r\ns2,1,.,x,x\r\ns3,1,x,.,x\r\n",
+        "13",
+        "s1,s3,s2",
+    ),
+];
+
+#[test]
+fn worked_films_are_solved(rt: HostRuntime) -> Result<(), Fail> {
+    for (film, pay, order) in &WORKED {
+        let printed = solved(rt.alloc(), pay, order)?;
+        check(&rt, &SOLVE, film.as_bytes(), 0, printed.as_str())?;
+    }
+    Ok(())
+}
+
+#[test]
+fn files_that_never_fail_are_solved(rt: HostRuntime) -> Result<(), Fail> {
+    let mut files = NoFaultFiles::new(rt.alloc());
+    files.add("film.csv", TRIANGLE.as_bytes())?;
+    check_over(&rt, &SOLVE, &mut files, 0, TRIANGLE_SOLVED)?;
+    // A name that was never added is an empty file there, which is no film.
+    let words = ["solve", "other.csv"];
+    check_over(&rt, &words, &mut files, 5, "error,Empty,,\n")
+}
