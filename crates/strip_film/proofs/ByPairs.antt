@@ -1,17 +1,17 @@
 -- Which scenes of a set are ready, by the pairs.
-use Rattle.std.proofs.Common.{◌≡◌, ◌≢◌, ◌↔◌, ℕ, ◌<◌, Bool, true, false, cond, not, ◌&&◌, ◌||◌, eqb, List, [], ◌∷◌, length, IsTrue, Contains, fold, inl, inr, refl, sym, ap, ◌∙◌, subst}
+use Rattle.std.proofs.Common.{◌≡◌, ◌≢◌, ◌↔◌, ℕ, ◌<◌, Bool, true, false, cond, not, ◌&&◌, ◌||◌, eqb, List, [], ◌∷◌, IsTrue, Contains, fold, inl, inr, refl, sym, ap, ◌∙◌, subst}
 use Rattle.std.specs.List.{list_any}
 use Rattle.std.proofs.Math.Bool.{and-true, or_assoc, or_comm, or-false}
 use Rattle.std.proofs.lemmas.Bool.{cases_Bool, and_left, and_right, and_parts, eqb-true, eq-eqb}
-use Rattle.strip_mask.specs.Set.{has, with, meet, minus}
-use Rattle.strip_mask.proofs.ByMembers.{has-with, has-meet, has-minus, has-empty, has_from_minus, empty_from, same_has, some_member}
-use Rattle.strip_mask.proofs.Below.{and_true, is_set_below}
+use Rattle.strip_mask.specs.Set.{IsSet, has, with, meet, minus}
+use Rattle.strip_mask.proofs.ByMembers.{has-with, has-meet, has-minus, has-empty, has_from_minus, empty_from, same_has, some_member, below_64}
+use Rattle.strip_mask.proofs.Below.{and_true}
 use Rattle.strip_pay.specs.declared.pair.Pair.{Pair}
 use Rattle.strip_pay.specs.Film.{FilmData}
 use Rattle.strip_pay.specs.Pairs.{Precedes}
 use Rattle.strip_pay.proofs.Chains.{some_first}
 use Rattle.strip_pay.proofs.Lists.{any_from, any_is}
-use Rattle.strip_film.specs.Film.{IsFilm, LiesIn}
+use Rattle.strip_film.specs.Film.{IsFilm}
 use Rattle.strip_film.specs.Shoot.{behind, ready}
 use Rattle.strip_film.specs.Located.{IsReady}
 
@@ -114,8 +114,8 @@ ready_decides film set scene row met false tells there is decides = elim (cases_
 ]
 
 -- a set of a film's scenes that isn't empty has a ready scene
-pub some_ready : (film : FilmData) (set : ℕ) → IsFilm film → LiesIn film set → set ≢ 0 → (scene : ℕ) × (has (ready film set) scene ≡ true)
-some_ready film set is lies some =
-    let member : (i : ℕ) × (i < 64) × (has set i ≡ true) = some_member set (is_set_below (length film.casts) set is.scene_count.1 lies) some in
-    let first = some_first film.pairs (length film.casts) (has set) lies is.pairs.no_cycle member.0 member.2 in
+pub some_ready : (film : FilmData) (set : ℕ) → IsFilm film → IsSet set → set ≢ 0 → (scene : ℕ) × (has (ready film set) scene ≡ true)
+some_ready film set is set_is some =
+    let member : (i : ℕ) × (i < 64) × (has set i ≡ true) = some_member set set_is some in
+    let first = some_first film.pairs 64 (has set) (λ x there. below_64 set x set_is there) is.pairs.no_cycle member.0 member.2 in
     (first.0, is_ready film set first.0 (record { member = first.1; first = first.2 }))

@@ -1,14 +1,13 @@
 -- A least tail exists.
-use Rattle.std.proofs.Common.{◌≡◌, ◌≢◌, ℕ, zero, suc, ◌+◌, ◌≤◌, true, List, [], ◌∷◌, length, Contains, inl, inr, refl, sym, ap, ◌∙◌, subst, arith}
+use Rattle.std.proofs.Common.{◌≡◌, ◌≢◌, ℕ, zero, suc, ◌+◌, ◌≤◌, true, List, [], ◌∷◌, Contains, inl, inr, refl, sym, ap, ◌∙◌, subst, arith}
 use Rattle.std.proofs.lemmas.Bool.{cases_lt}
 use Rattle.strip_mask.specs.Set.{IsSet, has, without, members, size}
-use Rattle.strip_mask.proofs.ByMembers.{IsSet-minus}
-use Rattle.strip_mask.proofs.Below.{is_set_below, LiesBelow-without}
+use Rattle.strip_mask.proofs.ByMembers.{IsSet-minus, IsSet-without}
 use Rattle.strip_mask.proofs.Members.{Contains-members, has_from_members}
 use Rattle.strip_mask.proofs.Sizes.{size-without, size-empty, empty_from_size}
 use Rattle.strip_pay.specs.Film.{FilmData}
 use Rattle.strip_pay.proofs.Lists.{contains_cases, contains_here, contains_later, contains_none}
-use Rattle.strip_film.specs.Film.{IsFilm, LiesIn}
+use Rattle.strip_film.specs.Film.{IsFilm}
 use Rattle.strip_film.specs.Shoot.{behind, ready, step_cost}
 use Rattle.strip_film.specs.Finish.{EachOnce, steps_cost, IsAtMostFinish, IsFinish, BeginsLeast}
 use Rattle.strip_film.proofs.Lists.{ready_there}
@@ -87,18 +86,15 @@ nothing_to_finish : (film : FilmData) (set : ℕ) → set ≡ 0 → IsFinish fil
 nothing_to_finish film set none = record { attained = ([], (tt, none), refl); least = λ scenes each. omega arith }
 
 module _ (film : FilmData) (is : IsFilm film) where
-  is_set : (set : ℕ) → LiesIn film set → IsSet set
-  is_set set lies = is_set_below (length film.casts) set is.scene_count.1 lies
-
-  finish_of_size : (n set : ℕ) → LiesIn film set → size set ≡ n → (cost : ℕ) × IsFinish film set cost
-  finish_of_size zero set lies count = (0, nothing_to_finish film set (empty_from_size set (is_set set lies) count))
-  finish_of_size (suc n) set lies count =
+  finish_of_size : (n set : ℕ) → IsSet set → size set ≡ n → (cost : ℕ) × IsFinish film set cost
+  finish_of_size zero set set_is count = (0, nothing_to_finish film set (empty_from_size set set_is count))
+  finish_of_size (suc n) set set_is count =
       let some : set ≢ 0 = λ none. let e : size set ≡ 0 = ap size none ∙ size-empty in omega (arith, e) in
-      let one : (scene : ℕ) × (has (ready film set) scene ≡ true) = some_ready film set is lies some in
-      let ready_set : IsSet (ready film set) = IsSet-minus set (behind film.pairs set) (is_set set lies) in
+      let one : (scene : ℕ) × (has (ready film set) scene ≡ true) = some_ready film set is set_is some in
+      let ready_set : IsSet (ready film set) = IsSet-minus set (behind film.pairs set) set_is in
       let least : (first : FirstStep film set) × IsLeastOf film set first (one.0 ∷ members (ready film set))
-      = least_among film set (λ scene there. finish_of_size n (without set scene) (LiesBelow-without (length film.casts) set scene lies)
-      (omega (arith, size-without set scene (is_set set lies) (ready_there film set scene there))))
+      = least_among film set (λ scene there. finish_of_size n (without set scene) (IsSet-without set scene set_is)
+      (omega (arith, size-without set scene set_is (ready_there film set scene there))))
       one.0 (members (ready film set)) (λ x among. elim (contains_cases one.0 (members (ready film set)) x among) [
         | inl same ↦ subst (λ (i : ℕ). has (ready film set) i ≡ true) same one.1
         | inr in_members ↦ has_from_members (ready film set) x in_members
@@ -109,14 +105,14 @@ module _ (film : FilmData) (is : IsFilm film) where
             least.1,
       )
 
-  -- every set of the film's scenes has a cost of finishing
-  pub finish_exists : (set : ℕ) → LiesIn film set → (cost : ℕ) × IsFinish film set cost
-  finish_exists set lies = finish_of_size (size set) set lies refl
+  -- every set of scenes has a cost of finishing
+  pub finish_exists : (set : ℕ) → IsSet set → (cost : ℕ) × IsFinish film set cost
+  finish_exists set set_is = finish_of_size (size set) set set_is refl
 
   -- one of the ready scenes of a set that isn't empty begins a least tail
-  pub some_begins_least : (set : ℕ) → LiesIn film set → set ≢ 0 → (scene : ℕ) × (has (ready film set) scene ≡ true) × BeginsLeast film set scene
-  some_begins_least set lies some =
-      let finish = finish_exists set lies in
+  pub some_begins_least : (set : ℕ) → IsSet set → set ≢ 0 → (scene : ℕ) × (has (ready film set) scene ≡ true) × BeginsLeast film set scene
+  some_begins_least set set_is some =
+      let finish = finish_exists set set_is in
       begins finish.0 finish.1.attained.0 finish.1.attained.1 finish.1.attained.2 finish.1.least
     where
       begins : (cost : ℕ) (scenes : List ℕ) → EachOnce film set scenes → steps_cost film set scenes ≡ cost → IsAtMostFinish film set cost

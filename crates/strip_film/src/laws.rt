@@ -28,9 +28,9 @@ pub fn ready_scenes_are_by_pairs()
     ensures none { (film : FilmData) (set : ℕ) → film.pairs ≡ [] → ready film set ≡ set }
 {}
 
-/// Every set of a film's scenes that isn't empty has a ready scene, since its pairs have no cycle.
+/// Every set of scenes that isn't empty has a ready scene, since a film's pairs have no cycle.
 pub fn each_set_has_a_ready_scene()
-    ensures { (film : FilmData) (set : ℕ) → IsFilm film → LiesIn film set → set ≢ 0
+    ensures { (film : FilmData) (set : ℕ) → IsFilm film → IsSet set → set ≢ 0
         → (scene : ℕ) × (has (ready film set) scene ≡ true) }
 {}
 
@@ -54,9 +54,9 @@ pub fn finishing_everything_is_the_optimum()
         → IsFinish film (all_scenes film) cost ↔ IsOptimum film cost }
 {}
 
-/// Every set of a film's scenes has a cost of finishing it: some list has the least tail.
+/// Every set of scenes has a cost of finishing it: some list has the least tail.
 pub fn a_least_tail_exists()
-    ensures { (film : FilmData) (set : ℕ) → IsFilm film → LiesIn film set → (cost : ℕ) × IsFinish film set cost }
+    ensures { (film : FilmData) (set : ℕ) → IsFilm film → IsSet set → (cost : ℕ) × IsFinish film set cost }
 {}
 
 /// Where each ready scene of a set may be shot first, some first begins a least tail.
