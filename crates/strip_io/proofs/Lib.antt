@@ -1,5 +1,6 @@
+mod Changes
 mod Counts
-mod Faults
 pub mod Names
 mod Pieces
 mod Places
+mod Streams

@@ -1,12 +1,13 @@
 -- Which names are held, and with what bytes, after a name was put.
 use Rattle.std.proofs.Common.{◌≡◌, ◌≢◌, ℕ, ◌+◌, ◌<◌, Some, ◌↔◌, Bool, true, false, ◌||◌, List, [], ◌∷◌, ◌++◌, length, get_or, take, map, string_bytes, String, Global, IsTrue, inl, inr, refl, sym, ◌∙◌, ap, subst}
 use Rattle.std.specs.List.{Contains}
+use Rattle.std.specs.Option.{option_map, unwrap_or}
 use Rattle.std.specs.Str.{bytes_eq}
 use Rattle.std.proofs.lemmas.Bool.{cases_Bool, or_cases}
 use Rattle.std.proofs.lemmas.List.{map_more}
 use Rattle.std.proofs.lemmas.List.Elements.{Contains-append_left, Contains-push, Contains-push_cases}
 use Rattle.std.proofs.lemmas.Slice.Eq.{bytes_eq-Decides}
-use Rattle.strip_io.specs.Held.{HeldFile, is_held, bytes_of, faults_of, put}
+use Rattle.strip_io.specs.Held.{HeldFile, found, is_held, bytes_of, faults_of, came_of, put}
 
 or_true : (b : Bool) → (b || true) ≡ true
 or_true true = refl
@@ -32,21 +33,29 @@ held_put (file ∷ files) word bytes name = elim (cases_Bool (bytes_eq file.name
 ]
 
 -- putting a name changes no count
-pub faults_put : (files : List HeldFile) (word bytes name : List ℕ) → faults_of (put files word bytes) name ≡ faults_of files name
-faults_put [] word bytes name = elim (cases_Bool (bytes_eq word name)) [
-  | inl is ↦ rw is refl
+counts_put : (count : HeldFile → ℕ) → ((name bytes : List ℕ) → count (record { name = name; bytes = bytes; faults = 0; came = 0 }) ≡ 0)
+    → ((file : HeldFile) (bytes : List ℕ) → count (record file { bytes = bytes }) ≡ count file)
+    → (files : List HeldFile) (word bytes name : List ℕ) → unwrap_or (option_map count (found (put files word bytes) name)) 0 ≡ unwrap_or (option_map count (found files name)) 0
+counts_put count none same [] word bytes name = elim (cases_Bool (bytes_eq word name)) [
+  | inl is ↦ rw is (none word bytes)
   | inr other ↦ rw other refl
 ]
-faults_put (file ∷ files) word bytes name = elim (cases_Bool (bytes_eq file.name word)) [
+counts_put count none same (file ∷ files) word bytes name = elim (cases_Bool (bytes_eq file.name word)) [
   | inl is ↦ rw is (elim (cases_Bool (bytes_eq file.name name)) [
-    | inl here ↦ rw here refl
+    | inl here ↦ rw here (same file bytes)
     | inr other ↦ rw other refl
   ])
   | inr apart ↦ rw apart (elim (cases_Bool (bytes_eq file.name name)) [
     | inl here ↦ rw here refl
-    | inr other ↦ rw other (faults_put files word bytes name)
+    | inr other ↦ rw other (counts_put count none same files word bytes name)
   ])
 ]
+
+pub faults_put : (files : List HeldFile) (word bytes name : List ℕ) → faults_of (put files word bytes) name ≡ faults_of files name
+faults_put files word bytes name = counts_put (λ (file : HeldFile). file.faults) (λ w b. refl) (λ file b. refl) files word bytes name
+
+pub came_put : (files : List HeldFile) (word bytes name : List ℕ) → came_of (put files word bytes) name ≡ came_of files name
+came_put files word bytes name = counts_put (λ (file : HeldFile). file.came) (λ w b. refl) (λ file b. refl) files word bytes name
 
 pub held_more : (files : List HeldFile) (seen : List (List ℕ)) (word bytes : List ℕ) → ((name : List ℕ) → IsTrue (is_held files name) ↔ Contains seen name)
     → (name : List ℕ) → IsTrue (is_held (put files word bytes) name) ↔ Contains (seen ++ word ∷ []) name

@@ -2,25 +2,11 @@
 use Rattle.std.proofs.Common.{◌≡◌, ℕ, ◌+◌, ◌<◌, ◌≤◌, List, ◌++◌, length, take, drop, Option, Some, None, Result, Ok, Err, IfOk, OnErr, sym, ◌∙◌, ap, subst, arith, append_assoc, length-append, length-drop}
 use Rattle.std.specs.Option.{option_map}
 use Rattle.std.proofs.Math.Seq.{take-append_seam}
-use Rattle.std.proofs.lemmas.List.{append-nil, length-take, take-append-drop, drop-drop, drop_all, take_all, take-take, take-append-le}
+use Rattle.std.proofs.lemmas.List.{append-nil, take-append-drop, drop-drop, drop_all, take_all, take-take, take-append-le}
 use Rattle.strip_io.specs.Files.{CopiesFrom}
 use Rattle.strip_io.specs.Sink.{Took, TookFront}
 
--- a copied piece lies in the text
-pub piece_within : (text : List ℕ) (at n : ℕ) (into : List ℕ) → at ≤ length text → n ≤ length into → CopiesFrom text at n into → at + n ≤ length text
-piece_within text at n into place within copied =
-    let same = ap length copied.bytes in
-    let drops = length-drop at text in
-    let front = length-take n into in
-    let back = length-take n (drop at text) in
-    omega arith
-
 -- what was read so far, and what is left
-pub all_within : (all text : List ℕ) (at : ℕ) → length all ≡ at → all ++ drop at text ≡ text → at ≤ length text
-all_within all text at size read =
-    let sizes = sym (length-append all (drop at text)) ∙ ap length read in
-    omega arith
-
 pub read_more : (all text into : List ℕ) (at n : ℕ) → all ++ drop at text ≡ text → CopiesFrom text at n into → (all ++ take n into) ++ drop (at + n) text ≡ text
 read_more all text into at n read copied =
     append_assoc all (take n into) (drop (at + n) text)

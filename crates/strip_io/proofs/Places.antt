@@ -7,7 +7,7 @@ use Rattle.std.specs.Option.{is_some}
 use Rattle.std.proofs.lemmas.List.Quantifiers.{position-Some}
 use Rattle.std.proofs.lemmas.List.{map-set, map-append}
 use Rattle.std.proofs.lemmas.Iterator.Adapters.{position_from-zero}
-use Rattle.strip_io.specs.Held.{HeldFile, found, is_held, put, count_fault, next_count}
+use Rattle.strip_io.specs.Held.{HeldFile, found, is_held, put, change}
 use Rattle.strip_io.specs.Shown.{held_file}
 use Rattle.strip_io.specs.declared.table.Entry.{Entry}
 
@@ -39,12 +39,12 @@ put_first name bytes (x ∷ xs) zero d first = rw first.here refl
 put_first name bytes (x ∷ xs) (suc i) d first =
     rw (first.before zero (omega arith)) (ap (λ (l : List HeldFile). held_file x ∷ l) (put_first name bytes xs i d (later name x xs i d first)))
 
-pub count_first : (name : List ℕ) (xs : List Entry) (i : ℕ) (d : Entry) → IsFirst name xs i d
-    → count_fault (map held_file xs) name ≡ set (map held_file xs) i (record (held_file (get_or xs i d)) { faults = next_count (get_or xs i d).faults })
-count_first name [] i d first = absurd (let h = first.within in omega arith)
-count_first name (x ∷ xs) zero d first = rw first.here refl
-count_first name (x ∷ xs) (suc i) d first =
-    rw (first.before zero (omega arith)) (ap (λ (l : List HeldFile). held_file x ∷ l) (count_first name xs i d (later name x xs i d first)))
+pub change_first : (how : HeldFile → HeldFile) (name : List ℕ) (xs : List Entry) (i : ℕ) (d : Entry) → IsFirst name xs i d
+    → change how (map held_file xs) name ≡ set (map held_file xs) i (how (held_file (get_or xs i d)))
+change_first how name [] i d first = absurd (let h = first.within in omega arith)
+change_first how name (x ∷ xs) zero d first = rw first.here refl
+change_first how name (x ∷ xs) (suc i) d first =
+    rw (first.before zero (omega arith)) (ap (λ (l : List HeldFile). held_file x ∷ l) (change_first how name xs i d (later name x xs i d first)))
 
 -- no entry has the name
 abbrev pub NoneNamed : List ℕ → List Entry → Type 0
@@ -68,13 +68,13 @@ pub found_none : (name : List ℕ) (xs : List Entry) → NoneNamed name xs → f
 found_none name [] none = refl
 found_none name (x ∷ xs) none = rw none.0 (found_none name xs none.1)
 
-pub put_none : (name bytes : List ℕ) (xs : List Entry) → NoneNamed name xs → put (map held_file xs) name bytes ≡ map held_file xs ++ record { name = name; bytes = bytes; faults = 0 } ∷ []
+pub put_none : (name bytes : List ℕ) (xs : List Entry) → NoneNamed name xs → put (map held_file xs) name bytes ≡ map held_file xs ++ record { name = name; bytes = bytes; faults = 0; came = 0 } ∷ []
 put_none name bytes [] none = refl
 put_none name bytes (x ∷ xs) none = rw none.0 (ap (λ (l : List HeldFile). held_file x ∷ l) (put_none name bytes xs none.1))
 
-pub count_none : (name : List ℕ) (xs : List Entry) → NoneNamed name xs → count_fault (map held_file xs) name ≡ map held_file xs
-count_none name [] none = refl
-count_none name (x ∷ xs) none = rw none.0 (ap (λ (l : List HeldFile). held_file x ∷ l) (count_none name xs none.1))
+pub change_none : (how : HeldFile → HeldFile) (name : List ℕ) (xs : List Entry) → NoneNamed name xs → change how (map held_file xs) name ≡ map held_file xs
+change_none how name [] none = refl
+change_none how name (x ∷ xs) none = rw none.0 (ap (λ (l : List HeldFile). held_file x ∷ l) (change_none how name xs none.1))
 
 -- what the look-up of a name says of the entries
 pub is_first : (name : List ℕ) (seen xs : List Entry) (i : ℕ) (d : Entry) → seen ≡ xs → Some i ≡ position (is_named name) seen → IsFirst name xs i d
@@ -92,14 +92,14 @@ held_by_place name seen [] (Some i) same at = absurd (cc (same, at))
 held_by_place name seen (x ∷ xs) (Some i) same at = rw (found_first name (x ∷ xs) i x (is_first name seen (x ∷ xs) i x same at)) refl
 
 -- what a write to the first entry of a name leaves
-pub counted : (name : List ℕ) (xs : List Entry) (i : ℕ) (entry : Entry) (n : ℕ) (files : List HeldFile) → IsFirst name xs i entry → entry ≡ get_or xs i entry → n ≡ next_count entry.faults → map held_file xs ≡ files
-    → map held_file (set xs i (record entry { faults = n })) ≡ count_fault files name
-counted name xs i entry n files first at is all =
-    map-set held_file xs i (record entry { faults = n })
-    ∙ ap (λ (k : ℕ). set (map held_file xs) i (record (held_file entry) { faults = k })) is
-    ∙ ap (λ (e : Entry). set (map held_file xs) i (record (held_file e) { faults = next_count e.faults })) at
-    ∙ sym (count_first name xs i entry first)
-    ∙ ap (λ (l : List HeldFile). count_fault l name) all
+pub altered : (how : HeldFile → HeldFile) (name : List ℕ) (xs : List Entry) (i : ℕ) (entry after : Entry) (files : List HeldFile) → IsFirst name xs i entry → entry ≡ get_or xs i entry → held_file after ≡ how (held_file entry) → map held_file xs ≡ files
+    → map held_file (set xs i after) ≡ change how files name
+altered how name xs i entry after files first at is all =
+    map-set held_file xs i after
+    ∙ ap (λ (file : HeldFile). set (map held_file xs) i file) is
+    ∙ ap (λ (e : Entry). set (map held_file xs) i (how (held_file e))) at
+    ∙ sym (change_first how name xs i entry first)
+    ∙ ap (λ (l : List HeldFile). change how l name) all
 
 pub changed : (name bytes : List ℕ) (xs : List Entry) (i : ℕ) (entry : Entry) (held : Vec ℕ Global) (files : List HeldFile) → IsFirst name xs i entry → entry ≡ get_or xs i entry → held.items ≡ bytes → map held_file xs ≡ files
     → map held_file (set xs i (record entry { bytes = held })) ≡ put files name bytes
@@ -111,7 +111,7 @@ changed name bytes xs i entry held files first at is all =
     ∙ ap (λ (l : List HeldFile). put l name bytes) all
 
 -- what a new entry at the end leaves
-pub added : (name bytes : List ℕ) (xs pushed : List Entry) (entry : Entry) (files : List HeldFile) → NoneNamed name xs → pushed ≡ xs ++ entry ∷ [] → held_file entry ≡ record { name = name; bytes = bytes; faults = 0 } → map held_file xs ≡ files
+pub added : (name bytes : List ℕ) (xs pushed : List Entry) (entry : Entry) (files : List HeldFile) → NoneNamed name xs → pushed ≡ xs ++ entry ∷ [] → held_file entry ≡ record { name = name; bytes = bytes; faults = 0; came = 0 } → map held_file xs ≡ files
     → map held_file pushed ≡ put files name bytes
 added name bytes xs pushed entry files none push is all =
     ap (map held_file) push

@@ -1,4 +1,4 @@
--- Counts of faults, which never fall.
+-- Counts of faults, and of the bytes that reads gave.
 use Rattle.std.specs.Prelude.{◌≡◌, ◌≢◌, ℕ, ◌+◌, ◌-◌, ◌^◌, ◌≤◌, min, Bool, false, ◌⊎◌, List}
 
 -- the count rose, or stands at the end of its type, where no rise can be told
@@ -13,3 +13,12 @@ pub record CountsOnly (name : List ℕ) (before now : List ℕ → ℕ) : Type 0
 -- a read of the name failed: its count rose, or the name isn't held
 abbrev pub ReadFailed : List ℕ → (List ℕ → Bool) → (List ℕ → ℕ) → (List ℕ → ℕ) → Type 0
 ReadFailed name held before now = Rose (before name) (now name) ⊎ (held name ≡ false)
+
+-- n bytes of this name came, by a count that stands at the end of its type, and of every other name none
+pub record CameOnly (name : List ℕ) (n : ℕ) (before now : List ℕ → ℕ) : Type 0 where
+  pub here : now name ≡ min (before name + n) (2 ^ 64 - 1)
+  pub others : (other : List ℕ) → other ≢ name → now other ≡ before other
+
+-- n bytes came at least, or the count stands at the end of its type, where no more can be told
+abbrev pub CameAtLeast : ℕ → ℕ → ℕ → Type 0
+CameAtLeast n before now = min (before + n) (2 ^ 64 - 1) ≤ now

@@ -3,6 +3,7 @@
 
 mod files;
 mod host;
+pub mod laws;
 mod mem_files;
 mod mem_sink;
 mod no_fault;
@@ -12,7 +13,7 @@ mod tally;
 mod transfer;
 
 pub use files::{Failed, Files, Memory};
-pub use host::{HostFiles, HostSink};
+pub use host::{HostFiles, HostSink, read_at};
 pub use mem_files::MemFiles;
 pub use mem_sink::MemSink;
 pub use no_fault::{NoFaultFiles, NoFaultSink};

@@ -1,8 +1,8 @@
 // Files in memory, which fail at chosen reads.
-ghost use Rattle.std.specs.Prelude.{◌≡◌, ◌≢◌, ◌⊎◌, ◌↔◌, ℕ, ◌-◌, ◌^◌, ◌<◌, ◌≤◌, min, false, List, [], length, Some, IfOk, OnOk, OnErr, IsErr, Contains};
-ghost use Rattle.strip_io.specs.Counts.{CountsOnly, ReadFailed};
+ghost use Rattle.std.specs.Prelude.{◌≡◌, ◌≢◌, ◌⊎◌, ◌↔◌, ℕ, ◌+◌, ◌-◌, ◌^◌, ◌<◌, ◌≤◌, min, false, List, [], length, Some, IfOk, OnOk, OnErr, IsErr, Contains};
+ghost use Rattle.strip_io.specs.Counts.{CameOnly, CountsOnly, ReadFailed};
 ghost use Rattle.strip_io.specs.Files.{CopiesFrom};
-ghost use Rattle.strip_io.specs.Held.{bytes_of, count_fault, faults_of, is_held, next_count, put};
+ghost use Rattle.strip_io.specs.Held.{bytes_of, came_of, count_came, count_fault, faults_of, is_held, next_count, put};
 
 use crate::table::{Table, copy_from};
 use crate::tally::next_count;
@@ -39,15 +39,16 @@ impl MemFiles {
         })
     }
 
-    /// Holds these bytes under the name, in place of those that it had. A new name begins with no
-    /// faults, and a held one keeps its count.
-    #[tactic(auto, using(crate::proofs::Names::bytes_put, crate::proofs::Names::bytes_put_other, crate::proofs::Names::faults_put))]
+    /// Holds these bytes under the name, in place of those that it had. A new name begins with counts
+    /// of 0, and a held one keeps its own.
+    #[tactic(auto, using(crate::proofs::Names::bytes_put, crate::proofs::Names::bytes_put_other, crate::proofs::Names::faults_put, crate::proofs::Names::came_put))]
     pub fn add(&mut self, name: &str, bytes: &[u8]) -> Result<(), Memory>
         ensures ok { OnOk result (self.new ≡ record self.old { files = put self.old.files name.now bytes.now }) }
         ensures told { OnOk result (bytes_of self.new.files name.now ≡ Some bytes.now) }
         ensures others { OnOk result ((other : List ℕ) → other ≢ name.now
             → bytes_of self.new.files other ≡ bytes_of self.old.files other) }
         ensures counts { OnOk result ((other : List ℕ) → faults_of self.new.files other ≡ faults_of self.old.files other) }
+        ensures came { OnOk result ((other : List ℕ) → came_of self.new.files other ≡ came_of self.old.files other) }
         ensures err { OnErr result (self.new ≡ self.old) }
     {
         self.files.put(name, bytes)
@@ -61,6 +62,10 @@ impl Files for MemFiles {
 
     ghost faults = { λ m. faults_of m.files };
 
+    ghost came = { λ m. came_of m.files };
+
+    ghost reads = { λ m. m.calls };
+
     fn read(&mut self, name: &str, at: u64, into: &mut [u8]) -> Result<usize, Failed>
         requires room { 0 < length into.old }
         requires place { at ≤ 2 ^ 31 }
@@ -72,6 +77,10 @@ impl Files for MemFiles {
         ensures held { is_held self.new.files ≡ is_held self.old.files }
         ensures told { bytes_of self.new.files ≡ bytes_of self.old.files }
         ensures counts { CountsOnly name.now (faults_of self.old.files) (faults_of self.new.files) }
+        ensures unfailed { OnOk result (faults_of self.new.files ≡ faults_of self.old.files) }
+        ensures came { IfOk result (λ n. CameOnly name.now n (came_of self.old.files) (came_of self.new.files)) }
+        ensures none_came { OnErr result (came_of self.new.files ≡ came_of self.old.files) }
+        ensures one_read { self.new.calls ≤ self.old.calls + 1 }
 
         // It fails at the listed calls and at names that aren't held, and nowhere else.
         ensures fails { IsErr result ↔ (Contains self.old.failing (next_count self.old.calls)
@@ -79,7 +88,7 @@ impl Files for MemFiles {
         ensures exact { IfOk result (λ n. (text : List ℕ) → bytes_of self.old.files name.now ≡ Some text
             → n ≡ min (length into.old) (length text - at)) }
 
-        ensures ok { OnOk result (self.new.files ≡ self.old.files) }
+        ensures ok { IfOk result (λ n. self.new.files ≡ count_came self.old.files name.now n) }
         ensures err { OnErr result (self.new.files ≡ count_fault self.old.files name.now) }
         ensures calls { self.new.calls ≡ next_count self.old.calls }
         ensures failing { self.new.failing ≡ self.old.failing }
@@ -89,9 +98,11 @@ impl Files for MemFiles {
             self.files.count_fault(name);
             return Err(Failed);
         }
-        match self.files.bytes(name) {
-            Some(text) => Ok(copy_from(text, at as usize, into)),
-            None => Err(Failed),
-        }
+        let Some(text) = self.files.bytes(name) else {
+            return Err(Failed);
+        };
+        let count = copy_from(text, at as usize, into);
+        self.files.count_came(name, count);
+        Ok(count)
     }
 }

@@ -1,5 +1,5 @@
 // A sink in memory, which fails at chosen writes.
-ghost use Rattle.std.specs.Prelude.{◌≡◌, ◌⊎◌, ◌↔◌, ◌+◌, ◌-◌, ◌<◌, ◌≤◌, min, [], ◌++◌, length, take, Some, IfOk, OnErr, IsErr, Contains};
+ghost use Rattle.std.specs.Prelude.{◌≡◌, ◌⊎◌, ◌↔◌, ◌+◌, ◌-◌, ◌<◌, ◌≤◌, min, [], ◌++◌, length, take, Some, IfOk, OnOk, OnErr, IsErr, Contains};
 ghost use Rattle.strip_io.specs.Counts.{Rose};
 ghost use Rattle.strip_io.specs.Held.{next_count};
 ghost use Rattle.strip_io.specs.Sink.{Took};
@@ -70,6 +70,7 @@ impl Sink for MemSink {
         ensures cause { OnErr result (Rose self.old.faults self.new.faults) }
         ensures failed { OnErr result (Some self.new.taken ≡ Some self.old.taken) }
         ensures later { self.old.faults ≤ self.new.faults }
+        ensures unfailed { OnOk result (self.new.faults ≡ self.old.faults) }
 
         // It fails at the listed calls and where the room is used up, and nowhere else.
         ensures fails { IsErr result ↔ (Contains self.old.failing (next_count self.old.calls)

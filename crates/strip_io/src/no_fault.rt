@@ -1,8 +1,9 @@
 // Files and a sink that never fail.
 ghost use Rattle.std.specs.Prelude.{◌≡◌, ◌≢◌, ℕ, ◌+◌, ◌-◌, ◌^◌, ◌<◌, ◌≤◌, min, true, List, [], length, Some, None, Ok, IfOk, OnOk, OnErr};
 ghost use Rattle.std.specs.Option.{unwrap_or};
+ghost use Rattle.strip_io.specs.Counts.{CameOnly};
 ghost use Rattle.strip_io.specs.Files.{CopiesFrom};
-ghost use Rattle.strip_io.specs.Held.{bytes_of, put};
+ghost use Rattle.strip_io.specs.Held.{bytes_of, bytes_or_empty, came_of, count_came, put};
 
 use crate::table::{Table, copy_from};
 use crate::{Failed, Files, Memory, Sink};
@@ -49,9 +50,11 @@ impl NoFaultFiles {
 impl Files for NoFaultFiles {
     ghost holds = { λ _ _. true };
 
-    ghost bytes = { λ f name. Some (unwrap_or (bytes_of f name) []) };
+    ghost bytes = { λ f. bytes_or_empty f };
 
     ghost faults = { λ _ _. 0 };
+
+    ghost came = { λ f. came_of f };
 
     fn read(&mut self, name: &str, at: u64, into: &mut [u8]) -> Result<usize, Failed>
         requires room { 0 < length into.old }
@@ -60,10 +63,14 @@ impl Files for NoFaultFiles {
         ensures within { IfOk result (λ n. n ≤ length into.new) }
         ensures copied { IfOk result (λ n. CopiesFrom (unwrap_or (bytes_of self.old name.now) []) at n into.new) }
         ensures exact { result ≡ Ok (min (length into.old) (length (unwrap_or (bytes_of self.old name.now) []) - at)) }
-        ensures same { self.new ≡ self.old }
+        ensures told { bytes_or_empty self.new ≡ bytes_or_empty self.old }
+        ensures came { IfOk result (λ n. CameOnly name.now n (came_of self.old) (came_of self.new)) }
+        ensures counted { IfOk result (λ n. self.new ≡ count_came self.old name.now n) }
     {
         let text = self.files.bytes(name).unwrap_or(&[]);
-        Ok(copy_from(text, at as usize, into))
+        let count = copy_from(text, at as usize, into);
+        self.files.count_came(name, count);
+        Ok(count)
     }
 }
 

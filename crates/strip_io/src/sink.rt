@@ -1,5 +1,5 @@
 // A sink for text, as the program sees it.
-ghost use Rattle.std.specs.Prelude.{◌≡◌, ℕ, ◌<◌, ◌≤◌, List, length, take, Option, IfOk, OnErr};
+ghost use Rattle.std.specs.Prelude.{◌≡◌, ℕ, ◌<◌, ◌≤◌, List, length, take, Option, IfOk, OnOk, OnErr};
 ghost use Rattle.strip_io.specs.Counts.{Rose};
 ghost use Rattle.strip_io.specs.Sink.{Took};
 
@@ -24,5 +24,8 @@ pub trait Sink {
         ensures cause { OnErr result (Rose (faults self.old) (faults self.new)) }
         ensures failed { OnErr result (taken self.new ≡ taken self.old) }
 
-        ensures later { faults self.old ≤ faults self.new };
+        ensures later { faults self.old ≤ faults self.new }
+
+        // A write that answers Ok hides no fault.
+        ensures unfailed { OnOk result (faults self.new ≡ faults self.old) };
 }

@@ -3,7 +3,7 @@ ghost use Rattle.std.specs.Prelude.{◌≡◌, ◌-◌, min, List, [], length, t
 ghost use Rattle.std.specs.List.{position};
 ghost use Rattle.std.specs.Option.{option_copied};
 ghost use Rattle.std.specs.Str.{bytes_eq};
-ghost use Rattle.strip_io.specs.Held.{bytes_of, count_fault, is_held, put};
+ghost use Rattle.strip_io.specs.Held.{bytes_of, count_came, count_fault, is_held, put};
 
 use crate::Memory;
 use crate::tally::next_count;
@@ -15,9 +15,10 @@ struct Entry {
     name: String,
     bytes: Vec<u8>,
     faults: u64,
+    came: u64,
 }
 
-// Names, each with its bytes and the count of its faults.
+// Names, each with its bytes, and with counts of its faults and of the bytes that reads gave.
 #[derive(Drop)]
 pub(crate) struct Table {
     alloc: Global,
@@ -79,6 +80,7 @@ impl Table {
             name,
             bytes,
             faults: 0,
+            came: 0,
         })?;
         Ok(())
     }
@@ -89,6 +91,15 @@ impl Table {
         if let Some(place) = place(&self.entries, name) {
             let entry = &mut self.entries[place];
             entry.faults = next_count(entry.faults);
+        }
+    }
+
+    pub(crate) fn count_came(&mut self, name: &str, count: usize)
+        ensures { self.new ≡ count_came self.old name.now count }
+    {
+        if let Some(place) = place(&self.entries, name) {
+            let entry = &mut self.entries[place];
+            entry.came = entry.came.saturating_add(count as u64);
         }
     }
 }

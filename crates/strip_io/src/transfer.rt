@@ -1,7 +1,7 @@
 // Whole files and whole texts.
-ghost use Rattle.std.specs.Prelude.{◌≡◌, ℕ, ◌^◌, ◌<◌, ◌≤◌, List, length, vec_len, Some, Err, IfOk, OnOk, OnErr};
+ghost use Rattle.std.specs.Prelude.{◌≡◌, ◌≢◌, ℕ, ◌+◌, ◌^◌, ◌<◌, ◌≤◌, List, length, vec_len, Some, Err, IfOk, OnOk, OnErr};
 ghost use Rattle.strip_io.specs.declared.transfer.LoadFault.TheVariants.{Read, Memory as OutOfMemory};
-ghost use Rattle.strip_io.specs.Counts.{CountsOnly, ReadFailed, Rose};
+ghost use Rattle.strip_io.specs.Counts.{CameAtLeast, CameOnly, CountsOnly, ReadFailed, Rose};
 ghost use Rattle.strip_io.specs.Sink.{Took, TookFront};
 
 use crate::{Failed, Files, Sink};
@@ -37,6 +37,10 @@ impl From<Failed> for LoadFault {
 }
 
 impl fmt::Display for LoadFault {
+    ghost use Rattle.strip_io.specs.Load.{fault_text};
+
+    ghost output = { λ fault. Some (fault_text fault) };
+
     fn fmt<W: fmt::Write>(&self, f: &mut fmt::Formatter<W>) -> fmt::Result {
         f.write_str(match self {
             LoadFault::Read => "a file couldn't be read",
@@ -51,8 +55,8 @@ impl Error for LoadFault {}
 /// How many bytes are asked for at once.
 const PIECE: usize = 4096;
 
-/// The bytes of a name, read to its end. At most `limit` of them are kept; it takes at most
-/// `limit + 1` reads.
+/// The bytes of a name, read to its end by at most `limit + 1` reads. At most `limit` of them are
+/// kept. No read that failed is tried again.
 pub fn load<F: Files>(
     alloc: Global,
     files: &mut F,
@@ -72,6 +76,14 @@ pub fn load<F: Files>(
     ensures held { F.holds files.new ≡ F.holds files.old }
     ensures told { F.bytes files.new ≡ F.bytes files.old }
     ensures counts { CountsOnly name.now (F.faults files.old) (F.faults files.new) }
+    ensures unfailed { result ≢ Err LoadFault.Read → F.faults files.new ≡ F.faults files.old }
+
+    // What came in this call, also where no bytes are told: as many bytes as it answers, or too many.
+    ensures came { IfOk result (λ v. CameOnly name.now (vec_len v) (F.came files.old) (F.came files.new)) }
+    ensures too_many { result ≡ Err LoadFault.TooLong
+        → CameAtLeast (limit + 1) (F.came files.old name.now) (F.came files.new name.now) }
+    ensures reads { F.reads files.new ≤ F.reads files.old + (limit + 1) }
+    ensures none_else { (other : List ℕ) → other ≢ name.now → F.came files.new other ≡ F.came files.old other }
 {
     let mut all = Vec::new(alloc);
     let mut piece = vec![in alloc; 0; PIECE]?;
@@ -94,6 +106,7 @@ pub fn send<S: Sink>(out: &mut S, text: &[u8]) -> Result<(), Failed>
     ensures cause { OnErr result (Rose (S.faults out.old) (S.faults out.new)) }
     ensures front { OnErr result (TookFront (S.taken out.old) (S.taken out.new) text.now) }
     ensures later { S.faults out.old ≤ S.faults out.new }
+    ensures unfailed { OnOk result (S.faults out.new ≡ S.faults out.old) }
 {
     let mut rest = text;
     while !rest.is_empty() {

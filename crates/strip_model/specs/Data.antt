@@ -4,8 +4,6 @@ use Rattle.std.specs.List.{AllPairs}
 use Rattle.strip_mask.specs.Set.{LiesBelow}
 use Rattle.strip_pay.specs.declared.pair.Pair.{Pair}
 use Rattle.strip_pay.specs.Pairs.{FitPairs}
-use Rattle.strip_pay.specs.declared.fitting.TheConstants.{MAX_SCENES}
-use Rattle.strip_model.specs.declared.limits.TheConstants.{MAX_ACTORS, MAX_NAME, MAX_DAYS, MAX_RATE}
 
 -- a scene: its name, how many days it is shot, and who works in it
 pub record SceneData : Type 0 where
@@ -27,24 +25,24 @@ pub record InstanceData : Type 0 where
 
 -- a name within the limits
 abbrev pub IsName : List ℕ → Type 0
-IsName name = (0 < length name) × (length name ≤ MAX_NAME)
+IsName name = (0 < length name) × (length name ≤ 64)
 
 -- a scene within the limits, where there are this many actors
 pub record IsScene (actors : ℕ) (scene : SceneData) : Type 0 where
   pub name : IsName scene.name
-  pub days : (0 < scene.days) × (scene.days ≤ MAX_DAYS)
+  pub days : (0 < scene.days) × (scene.days ≤ 99)
   pub cast : LiesBelow actors scene.cast
 
 -- an actor within the limits
 pub record IsActor (actor : ActorData) : Type 0 where
   pub name : IsName actor.name
-  pub rate : actor.rate ≤ MAX_RATE
-  pub hold : actor.hold ≤ MAX_RATE
+  pub rate : actor.rate ≤ 1_000_000_000
+  pub hold : actor.hold ≤ 1_000_000_000
 
 -- an instance within the limits
 pub record IsInstance (inst : InstanceData) : Type 0 where
-  pub scene_count : (0 < length inst.scenes) × (length inst.scenes ≤ MAX_SCENES)
-  pub actor_count : length inst.actors ≤ MAX_ACTORS
+  pub scene_count : (0 < length inst.scenes) × (length inst.scenes ≤ 200)
+  pub actor_count : length inst.actors ≤ 64
   pub scenes : All (IsScene (length inst.actors)) inst.scenes
   pub actors : All IsActor inst.actors
   pub scene_names : AllPairs (λ a b. a.name ≢ b.name) inst.scenes

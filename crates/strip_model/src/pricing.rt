@@ -1,9 +1,7 @@
 // Orders of an instance, and their pay.
 ghost use Rattle.std.specs.Prelude.{◌≡◌, ◌↔◌, ℕ, ◌*◌, ◌<◌, ◌≤◌, List, length, All, sum_by, count_by, if◌then◌else◌, slice_index, ◌==◌, IsTrue};
-ghost use Rattle.strip_pay.specs.declared.fitting.TheConstants.{MAX_SCENES};
 ghost use Rattle.strip_pay.specs.Order.{IsOrder, Keeps};
 ghost use Rattle.strip_pay.specs.Pay.{pay_of, day_pay, from_first, span, to_last, works};
-ghost use Rattle.strip_model.specs.declared.limits.TheConstants.{MAX_DAYS, MAX_RATE};
 ghost use Rattle.strip_model.specs.Film.{film_of};
 
 use crate::instance::Instance;
@@ -66,10 +64,10 @@ pub fn pay(inst: &Instance, order: &[u16]) -> u64
 /// What the actor gets for the scenes from his first in the order to his last.
 fn pay_of_actor(inst: &Instance, order: &[u16], actor: usize) -> u64
     requires order { All (λ scene. scene < length inst.now.scenes) order.now }
-    requires short { length order.now ≤ MAX_SCENES }
+    requires short { length order.now ≤ 200 }
     requires actor { actor < length inst.now.actors }
     ensures pay { result ≡ sum_by (day_pay (film_of inst.now) actor) (span (film_of inst.now) order.now actor) }
-    ensures small { result ≤ MAX_DAYS * MAX_RATE * MAX_SCENES }
+    ensures small { result ≤ 99 * 1_000_000_000 * 200 }
 {
     pay_to_last(inst, from_first_scene(inst, order, actor), actor)
 }
@@ -91,10 +89,10 @@ fn from_first_scene<'a>(inst: &Instance, order: &'a [u16], actor: usize) -> &'a 
 /// What the actor gets for the scenes up to his last in the order.
 fn pay_to_last(inst: &Instance, order: &[u16], actor: usize) -> u64
     requires order { All (λ scene. scene < length inst.now.scenes) order.now }
-    requires short { length order.now ≤ MAX_SCENES }
+    requires short { length order.now ≤ 200 }
     requires actor { actor < length inst.now.actors }
     ensures pay { result ≡ sum_by (day_pay (film_of inst.now) actor) (to_last (works (film_of inst.now) actor) order.now) }
-    ensures small { result ≤ MAX_DAYS * MAX_RATE * length order.now }
+    ensures small { result ≤ 99 * 1_000_000_000 * length order.now }
 {
     let mut pay = 0;
     let mut to_last = 0;
@@ -120,7 +118,7 @@ fn day_pay(inst: &Instance, actor: usize, scene: u16) -> u64
     requires scene { scene < length inst.now.scenes }
     requires actor { actor < length inst.now.actors }
     ensures pay { result ≡ day_pay (film_of inst.now) actor scene }
-    ensures small { result ≤ MAX_DAYS * MAX_RATE }
+    ensures small { result ≤ 99 * 1_000_000_000 }
 {
     days_in(inst, scene) * rate_in(inst, actor, scene)
 }
@@ -128,7 +126,7 @@ fn day_pay(inst: &Instance, actor: usize, scene: u16) -> u64
 fn days_in(inst: &Instance, scene: u16) -> u64
     requires { scene < length inst.now.scenes }
     ensures days { result ≡ slice_index (film_of inst.now).days scene }
-    ensures small { result ≤ MAX_DAYS }
+    ensures small { result ≤ 99 }
 {
     inst.scenes()[scene as usize].days
 }
@@ -139,7 +137,7 @@ fn rate_in(inst: &Instance, actor: usize, scene: u16) -> u64
     requires actor { actor < length inst.now.actors }
     ensures rate { result ≡ (if works (film_of inst.now) actor scene
         then slice_index (film_of inst.now).rates actor else slice_index (film_of inst.now).holds actor) }
-    ensures small { result ≤ MAX_RATE }
+    ensures small { result ≤ 1_000_000_000 }
 {
     let known = &inst.actors()[actor];
     if works_in(inst, actor, scene) {

@@ -1,7 +1,8 @@
 use Rattle.std.proofs.Common.{◌≡◌, ℕ, ◌+◌, ◌≤◌, List, ◌++◌, vec_len, length, take, ◌∙◌, ap, subst, refl, arith, rules}
 use Rattle.std.proofs.lemmas.List.{length-take-le}
+use Rattle.strip_io.specs.Counts.{CameOnly}
 use Rattle.strip_io.specs.Files.{CopiesFrom}
-use Rattle.strip_io.proofs.Counts.{counts_on, counts_stay, failed_since}
+use Rattle.strip_io.proofs.Counts.{counts_on, counts_stay, failed_since, none_so_far, came_all, came_more}
 use Rattle.strip_io.proofs.Pieces.{buffer_front, read_more, read_whole}
 use Rattle.strip_io.proofs.transfer.load.Goals as goal
 
@@ -10,6 +11,9 @@ loop-turn-init g c = record {
   held = refl;
   told = refl;
   counts = counts_stay c.args.name.now (g.F.Files.faults c.args.files.now);
+  unfailed = refl;
+  came = none_so_far c.args.name.now _ (g.F.Files.came c.args.files.now) c.new-all.ensures.len;
+  reads = omega arith;
   name = refl;
   limit = refl;
   short = omega arith;
@@ -47,6 +51,9 @@ loop-turn-preserved g c =
       held = c.read.ensures.held ∙ c.loop-turn.invariant.held;
       told = c.read.ensures.told ∙ c.loop-turn.invariant.told;
       counts = counts_on _ _ _ _ c.loop-turn.invariant.counts c.read.ensures.counts;
+      unfailed = c.in_ok-count.ensures.unfailed ∙ c.loop-turn.invariant.unfailed;
+      came = rw reached (came_more _ _ _ _ _ _ c.loop-turn.invariant.came c.in_ok-count.ensures.came);
+      reads = omega (arith, c.loop-turn.invariant.reads, c.read.ensures.one_read);
       name = refl;
       limit = refl;
       short = omega arith;
@@ -58,3 +65,8 @@ loop-turn-preserved g c =
           rw (items, written, reached)
           (read_more c.loop-turn.all.items text c.read.new.into (vec_len c.loop-turn.all) c.in_ok-count.count (c.loop-turn.invariant.read text told) copied);
     }
+
+pub returns-then-count-eq0-clause-came : goal.returns-then-count-eq0-clause-came
+returns-then-count-eq0-clause-came g c =
+    let all = came_all _ _ _ _ _ _ c.loop-turn.invariant.came c.in_ok-count.ensures.came in
+    subst (λ (n : ℕ). CameOnly c.args.name.now n (g.F.Files.came c.args.files.now) (g.F.Files.came c.read.new.self)) (omega arith) all

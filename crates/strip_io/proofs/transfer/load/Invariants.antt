@@ -1,5 +1,6 @@
-use Rattle.std.proofs.Common.{◌≡◌, ℕ, ◌≤◌, List, ◌++◌, drop, vec_len, Some}
+use Rattle.std.proofs.Common.{◌≡◌, ℕ, ◌+◌, ◌≤◌, List, ◌++◌, drop, vec_len, Some}
 use Rattle.strip_io.specs.Counts.{CountsOnly}
+use Rattle.strip_io.proofs.Counts.{CameSoFar}
 use Rattle.strip_io.proofs.transfer.load.Given as goal
 
 abbrev pub invariant-loop-turn : goal.invariant-loop-turn
@@ -7,6 +8,9 @@ invariant-loop-turn g l = record {
   held : g.F.Files.holds l.files ≡ g.F.Files.holds l.fn.files;
   told : g.F.Files.bytes l.files ≡ g.F.Files.bytes l.fn.files;
   counts : CountsOnly l.fn.name (g.F.Files.faults l.fn.files) (g.F.Files.faults l.files);
+  unfailed : g.F.Files.faults l.files ≡ g.F.Files.faults l.fn.files;
+  came : CameSoFar l.fn.name (vec_len l.all) (g.F.Files.came l.fn.files) (g.F.Files.came l.files);
+  reads : g.F.Files.reads l.files ≤ g.F.Files.reads l.fn.files + l._turn;
   name : l.name ≡ l.fn.name;
   limit : l.limit ≡ l.fn.limit;
   short : vec_len l.all ≤ l.fn.limit;

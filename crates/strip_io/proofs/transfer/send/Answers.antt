@@ -13,7 +13,7 @@ loop-rest-preserved g c =
     let parts = c.loop-rest.invariant.parts in
     let n = c.in_ok-count.count in
     record {
-      later = omega (arith, c.loop-rest.invariant.later, c.write.ensures.later);
+      unfailed = c.in_ok-count.ensures.unfailed ∙ c.loop-rest.invariant.unfailed;
       parts = (
         parts.0 ++ take n c.loop-rest.rest.now,
         parts_more parts.0 c.loop-rest.rest.now _ n _ parts.1 (omega arith),

@@ -1,10 +1,10 @@
-use Rattle.std.proofs.Common.{◌≡◌, ℕ, ◌≤◌, List, ◌++◌, length}
+use Rattle.std.proofs.Common.{◌≡◌, ℕ, List, ◌++◌, length}
 use Rattle.strip_io.specs.Sink.{Took}
 use Rattle.strip_io.proofs.transfer.send.Given as goal
 
 abbrev pub invariant-loop-rest : goal.invariant-loop-rest
 invariant-loop-rest g l = record {
-  later : g.S.Sink.faults l.fn.out ≤ g.S.Sink.faults l.out;
+  unfailed : g.S.Sink.faults l.out ≡ g.S.Sink.faults l.fn.out;
   parts : (sent : List ℕ) × (sent ++ l.rest ≡ l.fn.text) × Took (g.S.Sink.taken l.fn.out) (g.S.Sink.taken l.out) sent;
 }
 

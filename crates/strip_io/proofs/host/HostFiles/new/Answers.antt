@@ -2,7 +2,7 @@ use Rattle.std.proofs.Common.{◌≡◌, ℕ, ◌<◌, ◌↔◌, List, [], leng
 use Rattle.std.specs.List.{Contains}
 use Rattle.std.proofs.lemmas.List.{take_all}
 use Rattle.strip_io.specs.Held.{is_held, put}
-use Rattle.strip_io.proofs.Names.{held_more, faults_put, words_more}
+use Rattle.strip_io.proofs.Names.{held_more, faults_put, came_put, words_more}
 use Rattle.strip_io.proofs.host.HostFiles.new.Goals as goal
 
 pub loop-word-preserved : goal.loop-word-preserved
@@ -18,6 +18,7 @@ loop-word-preserved g c =
     record {
       held = λ name. rw after (subst (λ (l : List (List ℕ)). IsTrue (is_held (put c.loop-word.table word []) name) ↔ Contains l name) more (held_more c.loop-word.table seen word [] c.loop-word.invariant.held name));
       unfailed = λ name. rw after (faults_put c.loop-word.table word [] name ∙ c.loop-word.invariant.unfailed name);
+      none_came = λ name. rw after (came_put c.loop-word.table word [] name ∙ c.loop-word.invariant.none_came name);
     }
 
 pub returns-clause-words : goal.returns-clause-words

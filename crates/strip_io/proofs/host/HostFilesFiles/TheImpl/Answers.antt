@@ -1,4 +1,4 @@
-use Rattle.std.proofs.Common.{◌≡◌, ℕ, List, None, Some, refl}
+use Rattle.std.proofs.Common.{◌≡◌, ℕ, List, None, Some, refl, arith}
 use Rattle.strip_io.specs.Files.{CopiesFrom}
 use Rattle.strip_io.proofs.Pieces.{if_ok}
 use Rattle.strip_io.proofs.host.HostFilesFiles.TheImpl.Goals as goal
@@ -12,4 +12,8 @@ read-tells g c = record {
   held = c.ensures.held;
   told = refl;
   counts = c.ensures.counts;
+  unfailed = c.ensures.unfailed;
+  came = c.ensures.came;
+  none_came = c.ensures.none_came;
+  one_read = omega arith;
 }

@@ -12,4 +12,4 @@ pub returns-clause-ok : goal.returns-clause-ok
 returns-clause-ok c =
     let none = is_nowhere c.args.name.now c.deref.result.now c.self.inside.entries.items c.deref.ensures.value c.in_default.ensures in
     added c.args.name.now c.args.bytes.now c.self.inside.entries.items c.push.new.self.items _ _ none c.in_ok-push.ensures.items
-    (λ i. record { name = c.in_ok-name.ensures.ok i; bytes = c.in_ok-bytes.ensures.items i; faults = 0 }) c.self.view_is
+    (λ i. record { name = c.in_ok-name.ensures.ok i; bytes = c.in_ok-bytes.ensures.items i; faults = 0; came = 0 }) c.self.view_is
