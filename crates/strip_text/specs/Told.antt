@@ -1,0 +1,12 @@
+-- What a fault tells.
+use Rattle.std.specs.Prelude.{ℕ, List, Option}
+use Rattle.strip_text.specs.declared.told.Told.{Told}
+
+-- a fault's name, and the one or two numbers that say where or how many
+pub record ToldData : Type 0 where
+  pub name : List ℕ
+  pub first : Option ℕ
+  pub second : Option ℕ
+
+abbrev pub told_data : Told → ToldData
+told_data told = record { name = told.name.now; first = told.first; second = told.second }
