@@ -1,5 +1,9 @@
+pub mod Results
 pub mod Members
-pub mod Marks
+pub mod Names
+pub mod Cuts
 pub mod Spelled
-pub mod Sayings
+pub mod Given
 pub mod Shows
+pub mod Solving
+pub mod OneJob

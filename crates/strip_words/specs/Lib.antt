@@ -1,4 +1,7 @@
 pub mod Words
+pub mod Options
+pub mod Reader
 pub mod Solve
-pub mod Reading
+pub mod Jobs
+pub mod Fault
 pub mod Shown

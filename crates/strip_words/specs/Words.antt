@@ -1,5 +1,6 @@
 -- What a list of command words spells, each word as its bytes: a command, items, and perhaps `--` and further operands.
-use Rattle.std.specs.Prelude.{◌≡◌, ◌≢◌, ℕ, ◌+◌, ◌*◌, ◌-◌, ◌≤◌, ◌⊎◌, Option, None, Some, List, [], ◌∷◌, ◌++◌, length, All, codes, flat_map, Contains}
+use Rattle.std.specs.Prelude.{◌≡◌, ◌≢◌, ℕ, ◌⊎◌, Option, None, Some, List, [], ◌∷◌, ◌++◌, length, All, codes, flat_map, Contains}
+use Rattle.std.specs.List.{filter_map}
 
 abbrev pub Word : Type 0
 Word = List ℕ
@@ -43,23 +44,30 @@ BelongsTo command (Joined name value) = Contains command.valued name × IsPlain 
 BelongsTo command (Apart name value) = Contains command.valued name × IsPlain value
 BelongsTo command (Flag name) = Contains command.flags name
 
--- the operands among the items, and all of them
-abbrev pub operands_in : List Item → List Word
-operands_in [] = []
-operands_in (Operand word ∷ items) = word ∷ operands_in items
-operands_in (_ ∷ items) = operands_in items
+abbrev pub operand_of : Item → Option Word
+operand_of (Operand word) = Some word
+operand_of (Joined name value) = None
+operand_of (Apart name value) = None
+operand_of (Flag name) = None
 
+abbrev pub option_of : Item → Option Word
+option_of (Operand word) = None
+option_of (Joined name value) = Some name
+option_of (Apart name value) = Some name
+option_of (Flag name) = Some name
+
+-- the operands behind `--`
+abbrev pub operands_behind : Option (List Word) → List Word
+operands_behind None = []
+operands_behind (Some words) = words
+
+-- the operands, among the items and behind them
 abbrev pub operands_of : List Item → Option (List Word) → List Word
-operands_of items None = operands_in items
-operands_of items (Some words) = operands_in items ++ words
+operands_of items rest = filter_map operand_of items ++ operands_behind rest
 
 -- the names of the options among the items
 abbrev pub options_in : List Item → List Word
-options_in [] = []
-options_in (Operand word ∷ items) = options_in items
-options_in (Joined name value ∷ items) = name ∷ options_in items
-options_in (Apart name value ∷ items) = name ∷ options_in items
-options_in (Flag name ∷ items) = name ∷ options_in items
+options_in items = filter_map option_of items
 
 -- the list has no word twice
 abbrev pub AreDistinct : List Word → Type 0
@@ -73,22 +81,3 @@ pub record IsSpelled (command : Command) (words : List Word) (items : List Item)
   pub once : AreDistinct (options_in items)
   pub count : length (operands_of items rest) ≡ command.operands
   pub filled : All (λ word. word ≢ []) (operands_of items rest)
-
--- the item gives the option this value
-abbrev pub Gives : Word → Word → Item → Type 0
-Gives name value (Operand word) = ⊥
-Gives name value (Joined option given) = (option ≡ name) × (given ≡ value)
-Gives name value (Apart option given) = (option ≡ name) × (given ≡ value)
-Gives name value (Flag option) = ⊥
-
--- the number of these digits, read on from a number
-abbrev pub number_from : ℕ → Word → ℕ
-number_from n [] = n
-number_from n (digit ∷ digits) = number_from (n * 10 + (digit - 48)) digits
-
--- one or more digits, a number within these ends
-pub record IsNumber (least most : ℕ) (word : Word) (n : ℕ) : Type 0 where
-  pub some : word ≢ []
-  pub digits : All (λ byte. (48 ≤ byte) × (byte ≤ 57)) word
-  pub value : n ≡ number_from 0 word
-  pub within : (least ≤ n) × (n ≤ most)

@@ -1,17 +1,58 @@
-// The commands, a row for each.
+// Commands and their options, as records.
 
-/// A command: its word, how many operands it has, its options that have a value, and those that
-/// have none.
+/// A command: its word, how many operands it has, and its options.
 pub(crate) struct Command {
     pub(crate) word: &'static str,
     pub(crate) operands: usize,
-    pub(crate) valued: &'static [&'static str],
-    pub(crate) flags: &'static [&'static str],
+    pub(crate) options: &'static [CommandOption],
 }
 
-pub(crate) const SOLVE: Command = Command {
-    word: "solve",
-    operands: 1,
-    valued: &["--workers", "--nodes", "--table", "--bounds"],
-    flags: &["--proof"],
-};
+/// An option of a command. A flag has no value.
+pub(crate) enum CommandOption {
+    Number(NumberOption),
+    Choice(ChoiceOption),
+    Flag(&'static str),
+}
+
+/// An option whose value is a number within two ends.
+#[derive(Clone, Copy)]
+pub(crate) struct NumberOption {
+    pub(crate) name: &'static str,
+    pub(crate) least: u64,
+    pub(crate) most: u64,
+    pub(crate) default: u64,
+}
+
+/// An option whose value is one of a few words.
+#[derive(Clone, Copy)]
+pub(crate) struct ChoiceOption {
+    pub(crate) name: &'static str,
+    pub(crate) choices: &'static [&'static str],
+    pub(crate) default: &'static str,
+}
+
+impl Command {
+    ghost use Rattle.std.specs.Prelude.{◌↔◌, IsTrue, Contains};
+    ghost use Rattle.strip_words.specs.Shown.{command_data};
+
+    /// Whether this is the name of an option that has a value.
+    pub(crate) fn has_valued(&self, name: &str) -> bool
+        ensures { IsTrue result ↔ Contains (command_data self.now).valued name.now }
+    {
+        self.options.iter().any(|option| match option {
+            CommandOption::Number(option) => option.name == name,
+            CommandOption::Choice(option) => option.name == name,
+            CommandOption::Flag(_) => false,
+        })
+    }
+
+    /// Whether this is the name of an option that has no value.
+    pub(crate) fn has_flag(&self, name: &str) -> bool
+        ensures { IsTrue result ↔ Contains (command_data self.now).flags name.now }
+    {
+        self.options.iter().any(|option| match option {
+            CommandOption::Flag(flag) => *flag == name,
+            _ => false,
+        })
+    }
+}

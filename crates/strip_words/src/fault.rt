@@ -32,6 +32,11 @@ impl<T: Drop> From<AllocFailed<T>> for WordsFault {
 }
 
 impl fmt::Display for WordsFault {
+    ghost use Rattle.std.specs.Prelude.{Some};
+    ghost use Rattle.strip_words.specs.Fault.{fault_text};
+
+    ghost output = { λ fault. Some (fault_text fault) };
+
     fn fmt<W: fmt::Write>(&self, f: &mut fmt::Formatter<W>) -> fmt::Result {
         f.write_str(match self {
             WordsFault::BadWords => "the words name no job",

@@ -3,12 +3,16 @@
 
 mod command;
 mod fault;
+mod item;
 mod jobs;
 pub mod laws;
 mod naming;
 mod number;
+mod options;
 mod reader;
+mod solve;
 
 pub use fault::WordsFault;
-pub use jobs::{Job, SolveJob};
+pub use jobs::Job;
 pub use naming::job;
+pub use solve::SolveJob;

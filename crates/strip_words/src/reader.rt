@@ -1,98 +1,102 @@
-// The words behind a command, read one by one.
-ghost use Rattle.std.specs.Prelude.{◌≡◌, ◌≢◌, ◌↔◌, [], All, Some, None, IsTrue, IfOk, IfErr, Contains, codes, bytes_eq, ◌||◌, option_map};
+// The words behind a command, read as items.
+ghost use Rattle.std.specs.Prelude.{◌≡◌, ◌≢◌, ◌↔◌, ◌⊎◌, ◌++◌, [], ◌∷◌, List, Option, All, IsTrue, IfOk, IfErr, Contains, codes};
 ghost use Rattle.strip_words.specs.declared.fault.WordsFault.TheVariants.{BadWords as NoJob};
-ghost use Rattle.strip_words.specs.Words.{AreDistinct};
-ghost use Rattle.strip_words.specs.Reading.{ReadingData, IsRead, HasAll, joined, is_one_of, is_plain, mark, step_awaits, step_item, run, finish, start};
-ghost use Rattle.strip_words.specs.Shown.{command_data, reading_data, mark_data, awaits_data, state_data, given_names, strs, texts};
+ghost use Rattle.strip_words.specs.Words.{Word, Item as ItemData, Joined as AJoined, IsPlain, BelongsTo, IsSpelled, AreDistinct, options_in, operand_of, operands_of};
+ghost use Rattle.std.specs.List.{filter_map};
+ghost use Rattle.strip_words.specs.Reader.{Begins, Spells, has_names};
+ghost use Rattle.strip_words.specs.Shown.{texts, strs, command_data, item_data, items_data, rest_data};
 
 use crate::WordsFault;
 use crate::command::Command;
-use std::alloc::Global;
+use crate::item::Item;
+use std::alloc::{AllocError, Global};
 
-/// An option that was given, with its value where it has one.
-#[derive(Drop)]
-pub(crate) struct Given<'w> {
-    pub(crate) name: &'w str,
-    pub(crate) value: Option<&'w str>,
-}
-
-/// What the words behind a command say.
+/// The items behind a command's word, and the words behind `--` where it stands there.
 #[derive(Drop)]
 pub(crate) struct Reading<'w> {
-    pub(crate) operands: Vec<&'w str>,
-    pub(crate) given: Vec<Given<'w>>,
+    pub(crate) items: Vec<Item<'w>>,
+    pub(crate) rest: Option<&'w [String]>,
 }
 
-/// What the next word has to be.
-#[derive(Clone, Copy)]
-enum Awaits<'w> {
-    Item,
-    ValueOf(&'w str),
-    Operand,
-}
-
-/// What a word is where an item may stand.
-enum Mark<'w> {
-    End,
-    Operand,
-    Flag,
-    Name,
-    Joined(&'w str, &'w str),
-}
-
-/// What the words say, where they are words of this command.
+/// What the words spell, where they are words of this command.
 pub(crate) fn read<'w>(
     alloc: Global,
     command: &Command,
     words: &'w [String],
 ) -> Result<Reading<'w>, WordsFault>
-    ensures ok { IfOk result (λ reading. IsRead (command_data command.now) (texts words.now) (reading_data reading)) }
-    ensures bad { IfErr result (λ e. e ≡ NoJob → (reading : ReadingData) → ¬ IsRead (command_data command.now) (texts words.now) reading) }
+    requires { IsTrue (has_names (command_data command.now)) }
+    ensures ok { IfOk result (λ reading. IsSpelled (command_data command.now) (texts words.now) (items_data reading.items.items) (rest_data reading.rest)) }
+    ensures bad { IfErr result (λ e. e ≡ NoJob → (items : List ItemData) (rest : Option (List Word)) → ¬ IsSpelled (command_data command.now) (texts words.now) items rest) }
 {
-    let [word, rest @ ..] = words else {
+    let [word, later @ ..] = words else {
         return Err(WordsFault::BadWords);
     };
     if word.as_str() != command.word {
         return Err(WordsFault::BadWords);
     }
-    let reading = read_items(alloc, command, rest)?;
-    if has_all(command, &reading) {
+    let reading = read_items(alloc, command, later)?;
+    let operands = reading.operands(alloc)?;
+    if operands.len() == command.operands
+        && are_filled(operands.as_slice())
+        && are_distinct(reading.items.as_slice())
+    {
         Ok(reading)
     } else {
         Err(WordsFault::BadWords)
     }
 }
 
-fn has_all(command: &Command, reading: &Reading) -> bool
-    ensures { IsTrue result ↔ HasAll (command_data command.now) (reading_data reading.now) }
+impl<'w> Reading<'w> {
+    /// The operands among the items and behind `--`.
+    pub(crate) fn operands(&self, alloc: Global) -> Result<Vec<&'w str>, AllocError>
+        ensures { IfOk result (λ words. strs words.items ≡ operands_of (items_data self.now.items.items) (rest_data self.now.rest)) }
+    {
+        let mut operands = operands_in(alloc, self.items.as_slice())?;
+        for word in self.rest.unwrap_or(&[]) {
+            operands.push(word.as_str())?;
+        }
+        Ok(operands)
+    }
+}
+
+fn operands_in<'w>(alloc: Global, items: &[Item<'w>]) -> Result<Vec<&'w str>, AllocError>
+    ensures { IfOk result (λ words. strs words.items ≡ filter_map operand_of (items_data items.now)) }
 {
-    let operands = reading.operands.as_slice();
-    operands.len() == command.operands
-        && are_distinct(reading.given.as_slice())
-        && are_filled(operands)
+    let mut operands = Vec::new(alloc);
+    for item in items {
+        if let Some(word) = item.operand() {
+            operands.push(word)?;
+        }
+    }
+    Ok(operands)
 }
 
 fn are_filled(words: &[&str]) -> bool
-    ensures { IsTrue result ↔ All (λ word. word.now ≢ []) words.now }
+    ensures { IsTrue result ↔ All (λ word. word ≢ []) (strs words.now) }
 {
     words.iter().all(|word| !word.is_empty())
 }
 
-fn are_distinct(given: &[Given]) -> bool
-    ensures { IsTrue result ↔ AreDistinct (given_names given.now) }
+/// Whether no option stands twice among the items.
+fn are_distinct(items: &[Item]) -> bool
+    ensures { IsTrue result ↔ AreDistinct (options_in (items_data items.now)) }
 {
-    for index in 0..given.len() {
-        if is_given(&given[index + 1..], given[index].name) {
+    let mut later = items;
+    while let [item, behind @ ..] = later {
+        if let Some(name) = item.option()
+            && has_option(behind, name)
+        {
             return false;
         }
+        later = behind;
     }
     true
 }
 
-pub(crate) fn is_given(given: &[Given], name: &str) -> bool
-    ensures { IsTrue result ↔ Contains (given_names given.now) name.now }
+fn has_option(items: &[Item], name: &str) -> bool
+    ensures { IsTrue result ↔ Contains (options_in (items_data items.now)) name.now }
 {
-    given.iter().any(|option| option.name == name)
+    items.iter().any(|item| item.option() == Some(name))
 }
 
 fn read_items<'w>(
@@ -100,115 +104,80 @@ fn read_items<'w>(
     command: &Command,
     words: &'w [String],
 ) -> Result<Reading<'w>, WordsFault>
-    ensures ok { IfOk result (λ reading. finish (run (command_data command.now) (texts words.now) (Some start)) ≡ Some (reading_data reading)) }
-    ensures bad { IfErr result (λ e. e ≡ NoJob → finish (run (command_data command.now) (texts words.now) (Some start)) ≡ None) }
+    requires { IsTrue (has_names (command_data command.now)) }
+    ensures ok { IfOk result (λ reading. Spells (command_data command.now) (texts words.now) (items_data reading.items.items) (rest_data reading.rest)) }
+    ensures bad { IfErr result (λ e. e ≡ NoJob → (items : List ItemData) (rest : Option (List Word)) → ¬ Spells (command_data command.now) (texts words.now) items rest) }
 {
-    let mut reading = Reading {
-        operands: Vec::new(alloc),
-        given: Vec::new(alloc),
-    };
-    let mut awaits = Awaits::Item;
-    for word in words {
-        awaits = take_word(command, &mut reading, awaits, word.as_str())?;
+    let mut items = Vec::new(alloc);
+    let mut later = words;
+    while let [word, behind @ ..] = later {
+        let word = word.as_str();
+        if word == "--" {
+            let rest = Some(behind);
+            return Ok(Reading { items, rest });
+        }
+        let (item, behind) = first_item(command, word, behind)?;
+        items.push(item)?;
+        later = behind;
     }
-    match awaits {
-        Awaits::ValueOf(_) => Err(WordsFault::BadWords),
-        _ => Ok(reading),
-    }
+    Ok(Reading { items, rest: None })
 }
 
-fn take_word<'w>(
+/// The item that begins with this word, and the words behind it.
+fn first_item<'w>(
     command: &Command,
-    reading: &mut Reading<'w>,
-    awaits: Awaits<'w>,
     word: &'w str,
-) -> Result<Awaits<'w>, WordsFault>
-    ensures ok { IfOk result (λ next. step_awaits (command_data command.now) (reading_data reading.old) (awaits_data awaits.entry) word.now ≡ Some (state_data reading.new next)) }
-    ensures bad { IfErr result (λ e. e ≡ NoJob → step_awaits (command_data command.now) (reading_data reading.old) (awaits_data awaits.entry) word.now ≡ None) }
+    later: &'w [String],
+) -> Result<(Item<'w>, &'w [String]), WordsFault>
+    requires { IsTrue (has_names (command_data command.now)) }
+    ensures ok { IfOk result (λ first. Begins (command_data command.now) (word.now ∷ texts later.now) (item_data first.0) (texts first.1.now)) }
+    ensures bad { IfErr result (λ e. (item : ItemData) (behind : List Word) → ¬ Begins (command_data command.now) (word.now ∷ texts later.now) item behind) }
 {
-    match awaits {
-        Awaits::Item => take_item(command, reading, word),
-        Awaits::ValueOf(name) => {
-            if !is_plain(word) {
-                return Err(WordsFault::BadWords);
-            }
-            let value = Some(word);
-            reading.given.push(Given { name, value })?;
-            Ok(Awaits::Item)
-        }
-        Awaits::Operand => {
-            reading.operands.push(word)?;
-            Ok(Awaits::Operand)
-        }
-    }
-}
-
-fn take_item<'w>(
-    command: &Command,
-    reading: &mut Reading<'w>,
-    word: &'w str,
-) -> Result<Awaits<'w>, WordsFault>
-    ensures ok { IfOk result (λ next. step_item (command_data command.now) (reading_data reading.old) word.now ≡ Some (state_data reading.new next)) }
-    ensures bad { IfErr result (λ e. e ≡ NoJob → step_item (command_data command.now) (reading_data reading.old) word.now ≡ None) }
-{
-    match mark_of(command, word) {
-        None => return Err(WordsFault::BadWords),
-        Some(Mark::End) => return Ok(Awaits::Operand),
-        Some(Mark::Name) => return Ok(Awaits::ValueOf(word)),
-        Some(Mark::Operand) => reading.operands.push(word)?,
-        Some(Mark::Flag) => {
-            let value = None;
-            reading.given.push(Given { name: word, value })?;
-        }
-        Some(Mark::Joined(name, value)) => {
-            let value = Some(value);
-            reading.given.push(Given { name, value })?;
-        }
-    }
-    Ok(Awaits::Item)
-}
-
-fn mark_of<'w>(command: &Command, word: &'w str) -> Option<Mark<'w>>
-    ensures { option_map mark_data result ≡ mark (command_data command.now) word.now }
-{
-    if word == "--" {
-        Some(Mark::End)
-    } else if is_operand(word) {
-        Some(Mark::Operand)
-    } else if is_one_of(command.flags, word) {
-        Some(Mark::Flag)
-    } else if is_one_of(command.valued, word) {
-        Some(Mark::Name)
+    if is_operand(word) {
+        Ok((Item::Operand(word), later))
+    } else if command.has_flag(word) {
+        Ok((Item::Flag(word), later))
+    } else if command.has_valued(word) {
+        let (value, behind) = first_plain(later)?;
+        Ok((Item::Apart(word, value), behind))
     } else {
-        joined(command, word)
+        let (name, value) = cut(command, word)?;
+        Ok((Item::Joined(name, value), later))
     }
 }
 
-fn joined<'w>(command: &Command, word: &'w str) -> Option<Mark<'w>>
-    ensures { option_map mark_data result ≡ joined (command_data command.now) word.now }
+/// The value that stands first among the words, and the words behind it.
+fn first_plain(words: &[String]) -> Result<(&str, &[String]), WordsFault>
+    ensures ok { IfOk result (λ first. (texts words.now ≡ first.0.now ∷ texts first.1.now) × IsPlain first.0.now) }
+    ensures bad { IfErr result (λ e. (value : Word) (behind : List Word) → texts words.now ≡ value ∷ behind → ¬ IsPlain value) }
 {
-    let (name, value) = word.split_once('=')?;
-    if is_one_of(command.valued, name) && is_plain(value) {
-        Some(Mark::Joined(name, value))
-    } else {
-        None
+    match words.split_first() {
+        Some((value, behind)) if is_plain(value.as_str()) => Ok((value.as_str(), behind)),
+        _ => Err(WordsFault::BadWords),
     }
 }
 
-fn is_one_of(words: &[&str], word: &str) -> bool
-    ensures { result ≡ is_one_of (strs words.now) word.now }
+/// The option and its value that are this one word.
+fn cut<'w>(command: &Command, word: &'w str) -> Result<(&'w str, &'w str), WordsFault>
+    requires { IsTrue (has_names (command_data command.now)) }
+    ensures ok { IfOk result (λ parts. (word.now ≡ parts.0.now ++ 61 ∷ parts.1.now) × BelongsTo (command_data command.now) (AJoined parts.0.now parts.1.now)) }
+    ensures bad { IfErr result (λ e. (name value : Word) → word.now ≡ name ++ 61 ∷ value → ¬ BelongsTo (command_data command.now) (AJoined name value)) }
 {
-    words.contains(&word)
+    match word.split_once('=') {
+        Some((name, value)) if command.has_valued(name) && is_plain(value) => Ok((name, value)),
+        _ => Err(WordsFault::BadWords),
+    }
 }
 
 fn is_operand(word: &str) -> bool
-    ensures { result ≡ (bytes_eq word.now (codes "-") || is_plain word.now) }
+    ensures { IsTrue result ↔ (IsPlain word.now ⊎ (word.now ≡ codes "-")) }
 {
     word == "-" || is_plain(word)
 }
 
+/// Whether the word isn't empty and no hyphen stands first.
 fn is_plain(word: &str) -> bool
-    ensures { result ≡ is_plain word.now }
+    ensures { IsTrue result ↔ IsPlain word.now }
 {
     !word.is_empty() && !word.starts_with('-')
 }

@@ -1,0 +1,19 @@
+-- Results and options at the exits of `?`.
+use Rattle.std.proofs.Common.{◌≡◌, Option, None, Some, Result, Ok, Err, ok_or, IfNone, IfErr, IsErrAnd, sym, subst}
+
+pub if_none : {X : Type 0} (o : Option X) (P : Type 0) → P → IfNone o P
+if_none None P holds = holds
+if_none (Some x) P holds = tt
+
+pub if_err : {X E : Type 0} (r : Result X E) (Q : E → Type 0) → ((e : E) → Q e) → IfErr r Q
+if_err (Ok x) Q holds = tt
+if_err (Err e) Q holds = holds e
+
+pub err_from : {X E : Type 0} (r : Result X E) (R Q : E → Type 0) → IsErrAnd r R → ((e : E) → R e → Q e) → IfErr r Q
+err_from (Ok x) R Q is holds = tt
+err_from (Err e) R Q is holds = holds e is
+
+-- an error where an option has no value
+pub err_from_none : {X E : Type 0} (o : Option X) (e : E) (r : Result X E) (P Q : Type 0) → r ≡ ok_or o e → IfNone o P → (P → Q) → IfErr r (λ _. Q)
+err_from_none {X} {E} None e r P Q is none holds = subst (λ (s : Result X E). IfErr s (λ _. Q)) (sym is) (holds none)
+err_from_none {X} {E} (Some x) e r P Q is none holds = subst (λ (s : Result X E). IfErr s (λ _. Q)) (sym is) tt

@@ -1,0 +1,43 @@
+-- The job to solve that words name, and that they name one.
+use Rattle.std.proofs.Common.{◌≡◌, false, true≢false, bytes_eq, List, Option, refl, sym, subst, ◌∙◌}
+use Rattle.std.proofs.lemmas.Slice.Eq.{bytes_eq-Decides}
+use Rattle.strip_pay.specs.declared.kind.Kind.{Kind}
+use Rattle.strip_pay.specs.declared.kind.Kind.TheVariants.{Plain, Pairs, Groups}
+use Rattle.strip_words.specs.Words.{Word, IsSpelled}
+use Rattle.strip_words.specs.declared.item.Item.{Item as CodeItem}
+use Rattle.strip_words.specs.Shown.{items_data}
+use Rattle.strip_words.specs.Solve.{solve, workers_option, nodes_option, table_option, bounds_option, bound_word, SolveData, SayJob, NameSolve}
+use Rattle.strip_pay.proofs.Lists.{same_test}
+use Rattle.strip_words.proofs.Given.{chosen_once, picked_once}
+use Rattle.strip_words.proofs.Spelled.{said}
+
+differ : {A : Type 0} (a b : Word) → bytes_eq a b ≡ false → a ≡ b → A
+differ a b other same = absurd (true≢false (sym ((bytes_eq-Decides a b).1 same) ∙ other))
+
+kind_once : (a b : Kind) → bound_word a ≡ bound_word b → a ≡ b
+kind_once Plain Plain same = refl
+kind_once Plain Pairs same = differ (bound_word Plain) (bound_word Pairs) refl same
+kind_once Plain Groups same = differ (bound_word Plain) (bound_word Groups) refl same
+kind_once Pairs Plain same = differ (bound_word Pairs) (bound_word Plain) refl same
+kind_once Pairs Pairs same = refl
+kind_once Pairs Groups same = differ (bound_word Pairs) (bound_word Groups) refl same
+kind_once Groups Plain same = differ (bound_word Groups) (bound_word Plain) refl same
+kind_once Groups Pairs same = differ (bound_word Groups) (bound_word Pairs) refl same
+kind_once Groups Groups same = refl
+
+-- the items that were read say what the words name
+pub said_by_items : (words : List Word) (items slice : List CodeItem) (rest : Option (List Word)) (job : SolveData) → slice ≡ items
+    → IsSpelled solve words (items_data items) rest → NameSolve words job → SayJob (items_data slice) rest job
+said_by_items words items slice rest job same is names =
+    subst (λ items. SayJob (items_data items) rest job) (sym same) (said solve refl words (items_data items) rest is (λ items rest. SayJob items rest job) names)
+
+pub solve_once : (words : List Word) (a b : SolveData) → NameSolve words a → NameSolve words b → a ≡ b
+solve_once words a b (items, rest, spelled, one) names =
+    let two = said solve refl words items rest spelled (λ items rest. SayJob items rest b) names in
+    let file : a.file ≡ b.file = (let p = one.file in let q = two.file in cc) in
+    let workers = chosen_once workers_option items a.workers b.workers spelled.once one.workers two.workers in
+    let nodes = chosen_once nodes_option items a.nodes b.nodes spelled.once one.nodes two.nodes in
+    let table = chosen_once table_option items a.table b.table spelled.once one.table two.table in
+    let kind = kind_once a.kind b.kind (picked_once bounds_option items (bound_word a.kind) (bound_word b.kind) spelled.once one.kind two.kind) in
+    let proof = same_test a.proof b.proof (λ is. two.proof.1 (one.proof.0 is)) (λ is. one.proof.1 (two.proof.0 is)) in
+    λ i. record { file = file i; workers = workers i; nodes = nodes i; table = table i; kind = kind i; proof = proof i }

@@ -1,0 +1,59 @@
+// What the options among the items say.
+ghost use Rattle.std.specs.Prelude.{◌↔◌, ℕ, IsTrue, IfOk, IfErr, IfSome, IfNone, Any, Contains};
+ghost use Rattle.strip_words.specs.Words.{Word, Flag as AFlag, AreDistinct, options_in};
+ghost use Rattle.strip_words.specs.Options.{Gives, IsLeftOut, IsChosen, IsPicked};
+ghost use Rattle.strip_words.specs.Shown.{number_data, choice_data, items_data};
+
+use crate::WordsFault;
+use crate::command::{ChoiceOption, NumberOption};
+use crate::item::Item;
+use crate::number::number_of;
+
+impl NumberOption {
+    /// The option's number, or the default where it is left out.
+    pub(crate) fn chosen(&self, items: &[Item]) -> Result<u64, WordsFault>
+        requires { AreDistinct (options_in (items_data items.now)) }
+        ensures ok { IfOk result (IsChosen (number_data self.now) (items_data items.now)) }
+        ensures bad { IfErr result (λ e. (n : ℕ) → ¬ IsChosen (number_data self.now) (items_data items.now) n) }
+    {
+        match value_of(items, self.name) {
+            None => Ok(self.default),
+            Some(value) => number_of(value, self.least, self.most).ok_or(WordsFault::BadWords),
+        }
+    }
+}
+
+impl ChoiceOption {
+    /// The option's value, or the default where it is left out.
+    pub(crate) fn picked<'w>(&self, items: &[Item<'w>]) -> Result<&'w str, WordsFault>
+        requires { AreDistinct (options_in (items_data items.now)) }
+        ensures ok { IfOk result (λ word. IsPicked (choice_data self.now) (items_data items.now) word.now) }
+        ensures bad { IfErr result (λ e. (word : Word) → ¬ IsPicked (choice_data self.now) (items_data items.now) word) }
+    {
+        match value_of(items, self.name) {
+            None => Ok(self.default),
+            Some(value) if self.choices.contains(&value) => Ok(value),
+            Some(_) => Err(WordsFault::BadWords),
+        }
+    }
+}
+
+/// The value that the items give the option.
+fn value_of<'w>(items: &[Item<'w>], name: &str) -> Option<&'w str>
+    ensures some { IfSome result (λ value. Any (Gives name.now value.now) (items_data items.now)) }
+    ensures none { IfNone result (IsLeftOut name.now (items_data items.now)) }
+{
+    for item in items {
+        if let Some(value) = item.value(name) {
+            return Some(value);
+        }
+    }
+    None
+}
+
+/// Whether the option that has no value stands among the items.
+pub(crate) fn has_flag(items: &[Item], name: &str) -> bool
+    ensures { IsTrue result ↔ Contains (items_data items.now) (AFlag name.now) }
+{
+    items.iter().any(|item| item.is_flag(name))
+}

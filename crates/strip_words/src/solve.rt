@@ -1,0 +1,106 @@
+// The words of `solve`.
+ghost use Rattle.std.specs.Prelude.{◌≡◌, Contains, IfOk, IfErr};
+ghost use Rattle.strip_words.specs.declared.fault.WordsFault.TheVariants.{BadWords as NoJob};
+ghost use Rattle.strip_words.specs.Solve.{SolveData, NameSolve, bounds_option, bound_word};
+ghost use Rattle.strip_words.specs.Shown.{texts, solve_data};
+
+use crate::WordsFault;
+use crate::command::{ChoiceOption, Command, CommandOption, NumberOption};
+use crate::options::has_flag;
+use crate::reader::read;
+use std::alloc::Global;
+use strip_pay::Kind;
+
+const SOLVE: Command = Command {
+    word: "solve",
+    operands: 1,
+    options: &[
+        CommandOption::Number(WORKERS),
+        CommandOption::Number(NODES),
+        CommandOption::Number(TABLE),
+        CommandOption::Choice(BOUNDS),
+        CommandOption::Flag(PROOF),
+    ],
+};
+
+const WORKERS: NumberOption = NumberOption {
+    name: "--workers",
+    least: 1,
+    most: 64,
+    default: 1,
+};
+
+const NODES: NumberOption = NumberOption {
+    name: "--nodes",
+    least: 1,
+    most: 16_777_216,
+    default: 1_000_000,
+};
+
+const TABLE: NumberOption = NumberOption {
+    name: "--table",
+    least: 64,
+    most: 4_194_304,
+    default: 65_536,
+};
+
+const BOUNDS: ChoiceOption = ChoiceOption {
+    name: "--bounds",
+    choices: &["plain", "pairs"],
+    default: "pairs",
+};
+
+const PROOF: &str = "--proof";
+
+/// A film to be solved, and how.
+#[derive(Drop)]
+pub struct SolveJob {
+    /// The file that has the film.
+    pub file: String,
+    /// How many workers search, 1 to 64.
+    pub workers: u64,
+    /// The greatest number of lines, 1 to 16,777,216.
+    pub nodes: u64,
+    /// How many entries the table has, 64 to 4,194,304.
+    pub table: u64,
+    /// The static bound.
+    pub kind: Kind,
+    /// Whether the plan's line rows are printed.
+    pub proof: bool,
+}
+
+/// The job to solve that the words name.
+pub(crate) fn solve_job(alloc: Global, words: &[String]) -> Result<SolveJob, WordsFault>
+    ensures named { IfOk result (λ job. NameSolve (texts words.now) (solve_data job)) }
+    ensures bad { IfErr result (λ e. e ≡ NoJob → (job : SolveData) → ¬ NameSolve (texts words.now) job) }
+{
+    let reading = read(alloc, &SOLVE, words)?;
+    let items = reading.items.as_slice();
+    let workers = WORKERS.chosen(items)?;
+    let nodes = NODES.chosen(items)?;
+    let table = TABLE.chosen(items)?;
+    let kind = kind_of(BOUNDS.picked(items)?);
+    let proof = has_flag(items, PROOF);
+    let operands = reading.operands(alloc)?;
+    let file = String::from_str(alloc, operands[0])?;
+    Ok(SolveJob {
+        file,
+        workers,
+        nodes,
+        table,
+        kind,
+        proof,
+    })
+}
+
+/// The static bound that this word stands for.
+fn kind_of(word: &str) -> Kind
+    requires { Contains bounds_option.choices word.now }
+    ensures { bound_word result ≡ word.now }
+{
+    if word == "plain" {
+        Kind::Plain
+    } else {
+        Kind::Pairs
+    }
+}
