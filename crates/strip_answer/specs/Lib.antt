@@ -1,0 +1,4 @@
+pub mod Status
+pub mod Rows
+pub mod Ending
+pub mod Run

@@ -1,0 +1,55 @@
+// An answer, and the row of what a fault tells.
+ghost use Rattle.std.specs.Prelude.{◌≡◌, IfOk, string_bytes};
+ghost use Rattle.strip_text.specs.Told.{told_data};
+ghost use Rattle.strip_answer.specs.Rows.{error_row, number_field, told_row};
+
+use crate::Status;
+use std::alloc::{AllocError, Global};
+use strip_io::Memory;
+use strip_text::{Text, Told};
+
+/// The status to end with and the text to print before.
+#[derive(Debug, Drop)]
+pub struct Answer {
+    /// How the run is to end.
+    pub status: Status,
+    /// What is printed before.
+    pub text: Vec<u8>,
+}
+
+impl Answer {
+    /// The answer that ends with this status and prints the `error` row of what a fault tells.
+    pub fn error(alloc: Global, status: Status, told: Told) -> Result<Answer, Memory>
+        ensures status { IfOk result (λ answer. answer.status ≡ status) }
+        ensures row { IfOk result (λ answer. answer.text.items ≡ error_row (told_data told)) }
+    {
+        let text = told_row(alloc, b"error", told)?;
+        Ok(Answer { status, text })
+    }
+}
+
+/// The row that begins with this word and has what a fault tells: its name and its two numbers, each
+/// an empty field where the fault has none.
+pub fn told_row(alloc: Global, word: &'static [u8], told: Told) -> Result<Vec<u8>, Memory>
+    ensures { IfOk result (λ text. text.items ≡ told_row word.now (told_data told)) }
+{
+    let first = number_field(alloc, told.first)?;
+    let second = number_field(alloc, told.second)?;
+    let mut fields: Vec<&[u8]> = Vec::new(alloc);
+    fields.push(word)?;
+    fields.push(told.name.as_bytes())?;
+    fields.push(first.as_bytes())?;
+    fields.push(second.as_bytes())?;
+    let mut text = Text::new(alloc);
+    text.push(&fields)?;
+    text.into_bytes()
+}
+
+fn number_field(alloc: Global, number: Option<u64>) -> Result<String, AllocError>
+    ensures { IfOk result (λ field. string_bytes field ≡ number_field number) }
+{
+    match number {
+        Some(number) => number.to_string(alloc),
+        None => Ok(String::new(alloc)),
+    }
+}
