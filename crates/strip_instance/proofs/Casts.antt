@@ -9,7 +9,8 @@ use Rattle.std.specs.Int.{bit_at}
 use Rattle.strip_mask.specs.Set.{has, LiesBelow}
 use Rattle.strip_mask.proofs.Bits.{has_is}
 use Rattle.strip_mask.proofs.ByMembers.{has-empty, same_has}
-use Rattle.strip_instance.specs.Field.{Field, is_work_mark, is_mark, trimmed}
+use Rattle.strip_text.specs.Field.{Field, trimmed}
+use Rattle.strip_instance.specs.Field.{is_work_mark, is_mark}
 use Rattle.strip_instance.specs.Text.{mark_of, cast_of_marks}
 
 -- the mark of an actor who works is one of work, and no other

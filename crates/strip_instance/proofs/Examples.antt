@@ -1,110 +1,94 @@
 -- Worked examples of what texts say, by computation.
 use Rattle.std.proofs.Common.{◌≡◌, [], ◌∷◌, ◌++◌, Ok, Err, codes, refl}
-use Rattle.std.specs.Prelude.{⊤}
-use Rattle.std.specs.Str.{chars, is_utf8}
-use lib.Utf8.{encode}
-use Rattle.std.specs.Fmt.{digits}
-use Rattle.csv.specs.Writing.{fields_text, is_blank}
-use Rattle.csv.proofs.OnLiterals.{csv_on_literals}
+use Rattle.strip_text.proofs.OnLiterals.{read_on_literals, written_on_literals}
 use Rattle.strip_mask.specs.Set.{has}
 use Rattle.strip_model.specs.Data.{InstanceData}
 use Rattle.strip_instance.specs.declared.fault.InstanceFault.TheVariants.{Empty, BadHeader, NoRateRow, Width, BadName, DuplicateActor, BadDays, BadRate, BadHold, BadMark, NoScene, NotUtf8}
-use Rattle.strip_instance.specs.Text.{canonical_text}
-use Rattle.strip_instance.proofs.EachText.{reading_of_text}
+use Rattle.strip_instance.specs.Text.{canonical_text, says}
 
--- what computes a literal text's reading
-unfoldable on_literals : ⊤
-unfolding csv_on_literals is_utf8 chars encode
-on_literals = tt
-
--- and what computes a text that is written
-unfoldable in_writing : ⊤
-unfolding fields_text is_blank digits has
-in_writing = tt
-
-no_row : reading_of_text (codes "") ≡ Err Empty
-unfolding on_literals
+no_row : says (codes "") ≡ Err Empty
+unfolding read_on_literals
 no_row = refl
 
-mark_at_start_alone : reading_of_text (0xEF ∷ 0xBB ∷ 0xBF ∷ []) ≡ Err Empty
-unfolding on_literals
+mark_at_start_alone : says (0xEF ∷ 0xBB ∷ 0xBF ∷ []) ≡ Err Empty
+unfolding read_on_literals
 mark_at_start_alone = refl
 
 -- a text that is cut inside quotes, or behind a field
-cut_in_quotes : reading_of_text (codes "scene,days,a,b\nrate,,5,6\n\"s1,1,x,x\n") ≡ Err (Width 3)
-unfolding on_literals
+cut_in_quotes : says (codes "scene,days,a,b\nrate,,5,6\n\"s1,1,x,x\n") ≡ Err (Width 3)
+unfolding read_on_literals
 cut_in_quotes = refl
 
-cut_behind_field : reading_of_text (codes "scene,days,a,b\nrate,,5,6\ns1,1,x") ≡ Err (Width 3)
-unfolding on_literals
+cut_behind_field : says (codes "scene,days,a,b\nrate,,5,6\ns1,1,x") ≡ Err (Width 3)
+unfolding read_on_literals
 cut_behind_field = refl
 
-other_words : reading_of_text (codes "scene,day,a\nrate,,5\ns1,1,x\n") ≡ Err BadHeader
-unfolding on_literals
+other_words : says (codes "scene,day,a\nrate,,5\ns1,1,x\n") ≡ Err BadHeader
+unfolding read_on_literals
 other_words = refl
 
-no_rates : reading_of_text (codes "scene,days,a\ns1,1,x\n") ≡ Err NoRateRow
-unfolding on_literals
+no_rates : says (codes "scene,days,a\ns1,1,x\n") ≡ Err NoRateRow
+unfolding read_on_literals
 no_rates = refl
 
-no_scene : reading_of_text (codes "scene,days,a\nrate,,5\n") ≡ Err NoScene
-unfolding on_literals
+no_scene : says (codes "scene,days,a\nrate,,5\n") ≡ Err NoScene
+unfolding read_on_literals
 no_scene = refl
 
-no_text_name : reading_of_text (codes "scene,days," ++ 0xFF ∷ codes "\nrate,,5\ns1,1,x\n") ≡ Err (NotUtf8 1 3)
-unfolding on_literals
+no_text_name : says (codes "scene,days," ++ 0xFF ∷ codes "\nrate,,5\ns1,1,x\n") ≡ Err (NotUtf8 1 3)
+unfolding read_on_literals
 no_text_name = refl
 
 -- of two faults the first is said: a rate before a later row, a name before the rates, the width before a name in the row
-rate_before_row : reading_of_text (codes "scene,days,a\nrate,,y\ns1,1\n") ≡ Err (BadRate 3)
-unfolding on_literals
+rate_before_row : says (codes "scene,days,a\nrate,,y\ns1,1\n") ≡ Err (BadRate 3)
+unfolding read_on_literals
 rate_before_row = refl
 
-name_before_rates : reading_of_text (codes "scene,days,a,a\ns1,1,x,x\n") ≡ Err (DuplicateActor 4)
-unfolding on_literals
+name_before_rates : says (codes "scene,days,a,a\ns1,1,x,x\n") ≡ Err (DuplicateActor 4)
+unfolding read_on_literals
 name_before_rates = refl
 
-width_before_name : reading_of_text (codes "scene,days,a,b\nrate,,5,6\n,1,x\n") ≡ Err (Width 3)
-unfolding on_literals
+width_before_name : says (codes "scene,days,a,b\nrate,,5,6\n,1,x\n") ≡ Err (Width 3)
+unfolding read_on_literals
 width_before_name = refl
 
-no_days : reading_of_text (codes "scene,days,a,b\nrate,,5,6\ns1,0,x,x\n") ≡ Err (BadDays 3)
-unfolding on_literals
+no_days : says (codes "scene,days,a,b\nrate,,5,6\ns1,0,x,x\n") ≡ Err (BadDays 3)
+unfolding read_on_literals
 no_days = refl
 
-kept_word : reading_of_text (codes "scene,days,a,b\nrate,,5,6\nBEFORE,1,x,x\n") ≡ Err (BadName 3 1)
-unfolding on_literals
+kept_word : says (codes "scene,days,a,b\nrate,,5,6\nBEFORE,1,x,x\n") ≡ Err (BadName 3 1)
+unfolding read_on_literals
 kept_word = refl
 
 -- a row of empty fields is passed over, and it is counted
-counted_row : reading_of_text (codes "scene,days,a,b\nrate,,5,6\n,,,\ns1,1,x,y\n") ≡ Err (BadMark 4 4)
-unfolding on_literals
+counted_row : says (codes "scene,days,a,b\nrate,,5,6\n,,,\ns1,1,x,y\n") ≡ Err (BadMark 4 4)
+unfolding read_on_literals
 counted_row = refl
 
-each_mark : reading_of_text (codes "scene,days,a,b,c\nrate,,1,2,3\ns1,1,x,.,X\ns2,99,-,1,0\n") ≡ Ok (record {
+each_mark : says (codes "scene,days,a,b,c\nrate,,1,2,3\ns1,1,x,.,X\ns2,99,-,1,0\n") ≡ Ok (record {
   scenes = record { name = codes "s1"; days = 1; cast = 5 } ∷ record { name = codes "s2"; days = 99; cast = 2 } ∷ [];
   actors = record { name = codes "a"; rate = 1; hold = 1 } ∷ record { name = codes "b"; rate = 2; hold = 2 } ∷ record { name = codes "c"; rate = 3; hold = 3 } ∷ [];
   pairs = [];
 })
-unfolding on_literals
+unfolding read_on_literals
 each_mark = refl
 
 -- as a spreadsheet may write it
-from_spreadsheet : reading_of_text (codes "Scene, Days ,Ann,Bob\r\nRate,,100,0250\r\n Yard ,02,X, \r\n,,,\r\nHall,1,1,x\r\n") ≡ Ok (record {
+from_spreadsheet : says (codes "Scene, Days ,Ann,Bob\r\nRate,,100,0250\r\n Yard ,02,X, \r\n,,,\r\nHall,1,1,x\r\n") ≡ Ok (record {
   scenes = record { name = codes "Yard"; days = 2; cast = 1 } ∷ record { name = codes "Hall"; days = 1; cast = 3 } ∷ [];
   actors = record { name = codes "Ann"; rate = 100; hold = 100 } ∷ record { name = codes "Bob"; rate = 250; hold = 250 } ∷ [];
   pairs = [];
 })
-unfolding on_literals
+unfolding read_on_literals
 from_spreadsheet = refl
 
 -- names with commas and quotes
-quoted_names : reading_of_text (codes "scene,days,\"Ann, Jr.\"\nrate,,5\n\"\"\"Hall\"\", later\",3,x\n") ≡ Ok (record {
+quoted_names : says (codes "scene,days,\"Ann, Jr.\"\nrate,,5\n\"\"\"Hall\"\", later\",3,x\n") ≡ Ok (record {
   scenes = record { name = codes "\"Hall\", later"; days = 3; cast = 1 } ∷ [];
   actors = record { name = codes "Ann, Jr."; rate = 5; hold = 5 } ∷ [];
   pairs = [];
 })
-unfolding on_literals
+unfolding read_on_literals
 quoted_names = refl
 
 -- hold rates
@@ -115,47 +99,47 @@ triangle = record {
   pairs = [];
 }
 
-hold_row : reading_of_text (codes "scene,days,a,b,c\nrate,,1,2,3\nhold,,5,1,4\ns1,1,x,x,\ns2,1,,x,x\ns3,1,x,,x\n") ≡ Ok triangle
-unfolding on_literals triangle
+hold_row : says (codes "scene,days,a,b,c\nrate,,1,2,3\nhold,,5,1,4\ns1,1,x,x,\ns2,1,,x,x\ns3,1,x,,x\n") ≡ Ok triangle
+unfolding read_on_literals triangle
 hold_row = refl
 
 -- the word in any case, and a field behind it that isn't read
-in_capitals : reading_of_text (codes "scene,days,a,b\nrate,,1,2\n HOLD\t,per day, 05 ,\t0\n,,,\ns1,1,x,.\n") ≡ Ok (record {
+in_capitals : says (codes "scene,days,a,b\nrate,,1,2\n HOLD\t,per day, 05 ,\t0\n,,,\ns1,1,x,.\n") ≡ Ok (record {
   scenes = record { name = codes "s1"; days = 1; cast = 1 } ∷ [];
   actors = record { name = codes "a"; rate = 1; hold = 5 } ∷ record { name = codes "b"; rate = 2; hold = 0 } ∷ [];
   pairs = [];
 })
-unfolding on_literals
+unfolding read_on_literals
 in_capitals = refl
 
-no_hold_rate : reading_of_text (codes "scene,days,a,b,c\nrate,,1,2,3\nhold,,1,x,1\ns1,1,x\n") ≡ Err (BadHold 4)
-unfolding on_literals
+no_hold_rate : says (codes "scene,days,a,b,c\nrate,,1,2,3\nhold,,1,x,1\ns1,1,x\n") ≡ Err (BadHold 4)
+unfolding read_on_literals
 no_hold_rate = refl
 
 -- its width is told before a bad hold rate, and a bad rate before its width
-width_before_hold_rate : reading_of_text (codes "scene,days,a,b,c\nrate,,1,2,3\nhold,,x,1\ns1,1,x\n") ≡ Err (Width 3)
-unfolding on_literals
+width_before_hold_rate : says (codes "scene,days,a,b,c\nrate,,1,2,3\nhold,,x,1\ns1,1,x\n") ≡ Err (Width 3)
+unfolding read_on_literals
 width_before_hold_rate = refl
 
-rate_before_hold_row : reading_of_text (codes "scene,days,a,b,c\nrate,,1,2,y\nhold,,x,1\n") ≡ Err (BadRate 5)
-unfolding on_literals
+rate_before_hold_row : says (codes "scene,days,a,b,c\nrate,,1,2,y\nhold,,x,1\n") ≡ Err (BadRate 5)
+unfolding read_on_literals
 rate_before_hold_row = refl
 
 -- there is one hold row, and the rows behind it keep their numbers
-second_hold_row : reading_of_text (codes "scene,days,a\nrate,,1\nhold,,5\nhold,,5\ns1,1,x\n") ≡ Err (BadName 4 1)
-unfolding on_literals
+second_hold_row : says (codes "scene,days,a\nrate,,1\nhold,,5\nhold,,5\ns1,1,x\n") ≡ Err (BadName 4 1)
+unfolding read_on_literals
 second_hold_row = refl
 
-hold_behind_scene : reading_of_text (codes "scene,days,a\nrate,,1\ns1,1,x\nhold,,5\n") ≡ Err (BadName 4 1)
-unfolding on_literals
+hold_behind_scene : says (codes "scene,days,a\nrate,,1\ns1,1,x\nhold,,5\n") ≡ Err (BadName 4 1)
+unfolding read_on_literals
 hold_behind_scene = refl
 
-row_behind_hold_row : reading_of_text (codes "scene,days,a\nrate,,1\nhold,,5\n,,\ns1,1,y\n") ≡ Err (BadMark 5 3)
-unfolding on_literals
+row_behind_hold_row : says (codes "scene,days,a\nrate,,1\nhold,,5\n,,\ns1,1,y\n") ≡ Err (BadMark 5 3)
+unfolding read_on_literals
 row_behind_hold_row = refl
 
-hold_row_alone : reading_of_text (codes "scene,days,a\nrate,,1\nhold,,5\n") ≡ Err NoScene
-unfolding on_literals
+hold_row_alone : says (codes "scene,days,a\nrate,,1\nhold,,5\n") ≡ Err NoScene
+unfolding read_on_literals
 hold_row_alone = refl
 
 -- a hold row that tells nothing isn't written again
@@ -166,14 +150,14 @@ same_rates = record {
   pairs = [];
 }
 
-same_rates_read : reading_of_text (codes "scene,days,a,b\nrate,,1,2\nhold,,01,2\ns1,1,x,.\n") ≡ Ok same_rates
-unfolding on_literals same_rates
+same_rates_read : says (codes "scene,days,a,b\nrate,,1,2\nhold,,01,2\ns1,1,x,.\n") ≡ Ok same_rates
+unfolding read_on_literals same_rates
 same_rates_read = refl
 
 same_rates_written : canonical_text same_rates ≡ codes "scene,days,a,b\nrate,,1,2\ns1,1,x,.\n"
-unfolding in_writing same_rates
+unfolding written_on_literals has same_rates
 same_rates_written = refl
 
 triangle_written : canonical_text triangle ≡ codes "scene,days,a,b,c\nrate,,1,2,3\nhold,,5,1,4\ns1,1,x,x,.\ns2,1,.,x,x\ns3,1,x,.,x\n"
-unfolding in_writing triangle
+unfolding written_on_literals has triangle
 triangle_written = refl

@@ -1,25 +1,8 @@
 -- What a field of an instance text may be, by its bytes without the blanks at its ends.
-use Rattle.std.specs.Prelude.{ℕ, Bool, not, ◌==◌, ◌&&◌, ◌||◌, nat_le, List, [], ◌∷◌, length, reverse, codes, if◌then◌else◌}
+use Rattle.std.specs.Prelude.{ℕ, Bool, not, ◌==◌, ◌&&◌, ◌||◌, nat_le, [], length, codes}
 use Rattle.std.specs.List.{list_all}
-use Rattle.std.specs.Str.{bytes_eq, str_eq_ignore_ascii_case, all_ascii_digits}
-use Rattle.std.specs.Str.Parse.{digits_value}
-use Rattle.strip_model.specs.declared.limits.TheConstants.{MAX_NAME}
-
-abbrev pub Field : Type 0
-Field = List ℕ
-
--- a space or a tab
-abbrev pub is_blank : ℕ → Bool
-is_blank byte = (byte == 32) || (byte == 9)
-
--- from the first byte that is no blank on
-abbrev pub without_front_blanks : Field → Field
-without_front_blanks [] = []
-without_front_blanks (byte ∷ bytes) = if is_blank byte then without_front_blanks bytes else byte ∷ bytes
-
--- without the blanks at both ends
-abbrev pub trimmed : Field → Field
-trimmed field = reverse (without_front_blanks (reverse (without_front_blanks field)))
+use Rattle.std.specs.Str.{bytes_eq, str_eq_ignore_ascii_case}
+use Rattle.strip_text.specs.Field.{Field}
 
 -- the word in any case of ASCII letters
 abbrev pub is_word : Field → Field → Bool
@@ -31,7 +14,7 @@ is_name_byte byte = nat_le 32 byte && not (byte == 127)
 
 -- of 1 to 64 bytes without control bytes
 abbrev pub is_name : Field → Bool
-is_name field = nat_le 1 (length field) && nat_le (length field) MAX_NAME && list_all is_name_byte field
+is_name field = nat_le 1 (length field) && nat_le (length field) 64 && list_all is_name_byte field
 
 -- a word that is kept for rows of other kinds
 abbrev pub is_kept : Field → Bool
@@ -39,15 +22,6 @@ is_kept field = is_word (codes "rate") field || is_word (codes "hold") field || 
 
 abbrev pub is_scene_name : Field → Bool
 is_scene_name field = is_name field && not (is_kept field)
-
--- one or more digits, a number within these ends
-abbrev pub is_number : ℕ → ℕ → Field → Bool
-is_number least most field =
-    not (length field == 0) && all_ascii_digits field
-    && nat_le least (digits_value 10 field) && nat_le (digits_value 10 field) most
-
-abbrev pub number_of : Field → ℕ
-number_of field = digits_value 10 field
 
 -- the mark of an actor who works in the scene, and that of one who doesn't
 abbrev pub is_work_mark : Field → Bool

@@ -4,3 +4,4 @@ pub mod Checks
 pub mod Faults
 pub mod Text
 pub mod Shown
+pub mod Told

@@ -1,23 +1,17 @@
 -- What an instance text says: an instance, or its first fault.
 use Rattle.std.specs.Prelude.{◌≡◌, ℕ, ◌+◌, ◌*◌, Bool, true, not, ◌==◌, List, [], ◌∷◌, ◌++◌, length, map, All, codes, slice_index, Option, None, Some, Result, Ok, Err, if◌then◌else◌}
-use Rattle.std.specs.List.{flat_map, list_any, range_with_len}
+use Rattle.std.specs.List.{list_any, range_with_len}
 use Rattle.std.specs.Fmt.{decimal}
-use Rattle.csv.specs.Reading.{AreRecords, default_config, strip_bom}
-use Rattle.csv.specs.Writing.{default_writer, row_text}
-use Rattle.csv.specs.declared.parser.State.TheVariants as st
 use Rattle.strip_mask.specs.Set.{has}
 use Rattle.strip_model.specs.Data.{SceneData, ActorData, InstanceData}
+use Rattle.strip_text.specs.Field.{Field, trimmed}
+use Rattle.strip_text.specs.Number.{number_of}
+use Rattle.strip_text.specs.Rows.{Row, field_of, rows_of, csv_text}
+use Rattle.strip_text.specs.Checks.{first_fault}
 use Rattle.strip_instance.specs.declared.fault.InstanceFault.{InstanceFault}
-use Rattle.strip_instance.specs.Field.{Field, trimmed, is_name, is_scene_name, number_of, is_work_mark}
-use Rattle.strip_instance.specs.Parts.{Row, Parts, parts_of, field_of, actor_fields}
-use Rattle.strip_instance.specs.Checks.{first_fault}
+use Rattle.strip_instance.specs.Field.{is_name, is_scene_name, is_work_mark}
+use Rattle.strip_instance.specs.Parts.{Parts, parts_of, actor_fields}
 use Rattle.strip_instance.specs.Faults.{scene_rows, all_checks}
-
--- the text has these rows: its records, as CSV with commas and double quotes, their fields trimmed
-abbrev pub HasRows : List ℕ → List Row → Type 0
-HasRows text rows =
-    (records : List (List Field)) × AreRecords default_config st.StartRecord (strip_bom text) records
-    × (rows ≡ map (map trimmed) records)
 
 -- the rates of a row
 abbrev pub rates_of : Row → List ℕ
@@ -55,18 +49,14 @@ instance_of parts = record {
   pairs = [];
 }
 
+-- what rows say whose checks have this first fault, or none
 abbrev pub reading_of : List Row → Option InstanceFault → Result InstanceData InstanceFault
 reading_of rows None = Ok (instance_of (parts_of rows))
 reading_of rows (Some fault) = Err fault
 
--- the text says this instance, or this fault: the first one in the order of the checks
-abbrev pub Says : List ℕ → Result InstanceData InstanceFault → Type 0
-Says text reading = (rows : List Row) × HasRows text rows × (reading ≡ reading_of rows (first_fault (all_checks rows)))
-
--- the text says this and nothing else
-pub record SaysJust (text : List ℕ) (reading : Result InstanceData InstanceFault) : Type 0 where
-  pub said : Says text reading
-  pub alone : (other : Result InstanceData InstanceFault) → Says text other → other ≡ reading
+-- what the text says: an instance, or the first fault in the order of the checks
+abbrev pub says : List ℕ → Result InstanceData InstanceFault
+says text = reading_of (rows_of text) (first_fault (all_checks (rows_of text)))
 
 abbrev pub mark_of : ℕ → ℕ → Field
 mark_of cast actor = if has cast actor then codes "x" else codes "."
@@ -99,11 +89,8 @@ abbrev pub canonical_rows : InstanceData → List Row
 canonical_rows inst = head_rows inst.actors ++ map (scene_fields (length inst.actors)) inst.scenes
 
 -- the canonical text: each row as CSV writes it, quoted where it has to be
-abbrev pub csv_row : List Field → List ℕ
-csv_row fields = row_text default_writer fields
-
 abbrev pub canonical_text : InstanceData → List ℕ
-canonical_text inst = flat_map csv_row (canonical_rows inst)
+canonical_text inst = csv_text (canonical_rows inst)
 
 -- a name that a text can say: it passes the test of names, and has no blank at either end
 pub record IsReadableName (test : Field → Bool) (name : Field) : Type 0 where

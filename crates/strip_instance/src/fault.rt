@@ -5,6 +5,7 @@ ghost use Rattle.strip_instance.specs.declared.fault.InstanceFault.TheVariants.{
 use std::alloc::{AllocError, AllocFailed};
 use std::error::Error;
 use std::fmt;
+use strip_io::Memory;
 
 /// Why no instance was read from a text. Rows and columns are counted from 1, as a spreadsheet
 /// counts them.
@@ -60,7 +61,21 @@ impl<T: Drop> From<AllocFailed<T>> for InstanceFault {
     }
 }
 
+impl From<Memory> for InstanceFault {
+    ghost from_gives = { λ _ e. e ≡ OutOfMemory };
+
+    fn from(_: Memory) -> Self {
+        InstanceFault::Memory
+    }
+}
+
+/// A sentence that says what is wrong, and where.
 impl fmt::Display for InstanceFault {
+    ghost use Rattle.std.specs.Prelude.{Some};
+    ghost use Rattle.strip_instance.specs.Told.{sentence};
+
+    ghost output = { λ fault. Some (sentence fault) };
+
     fn fmt<W: fmt::Write>(&self, f: &mut fmt::Formatter<W>) -> fmt::Result {
         match self {
             InstanceFault::Empty => f.write_str("there is no row"),

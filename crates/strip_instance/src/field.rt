@@ -1,53 +1,15 @@
 // What the bytes of a field are.
-ghost use Rattle.std.specs.Prelude.{◌≡◌, true, false, reverse, MatchOption, IfOk};
+ghost use Rattle.std.specs.Prelude.{◌≡◌, true, false, MatchOption, IfOk};
 ghost use Rattle.std.specs.List.{list_all};
-ghost use Rattle.std.specs.Str.{is_utf8, all_ascii_digits};
+ghost use Rattle.std.specs.Str.{is_utf8};
+ghost use Rattle.strip_text.specs.Checks.{checks_of_one};
 ghost use Rattle.strip_instance.specs.declared.fault.InstanceFault.TheVariants.{NotUtf8};
-ghost use Rattle.strip_instance.specs.Field.{is_blank, is_kept, is_mark, is_name, is_name_byte, is_number, is_scene_name, is_word, number_of, is_work_mark, trimmed, without_front_blanks};
-ghost use Rattle.strip_instance.specs.Checks.{Makes, checks_of_one};
+ghost use Rattle.strip_instance.specs.Field.{is_kept, is_mark, is_name, is_name_byte, is_scene_name, is_word, is_work_mark};
+ghost use Rattle.strip_instance.specs.Checks.{Makes};
 
 use crate::fault::InstanceFault;
 use std::str;
 use strip_model::MAX_NAME;
-
-/// The field without the spaces and tabs at its ends.
-pub(crate) fn trimmed(field: &[u8]) -> &[u8]
-    ensures { result.now ≡ trimmed field.now }
-{
-    without_back_blanks(without_front_blanks(field))
-}
-
-fn without_front_blanks(field: &[u8]) -> &[u8]
-    ensures { result.now ≡ without_front_blanks field.now }
-{
-    let mut rest = field;
-    while let [byte, tail @ ..] = rest {
-        if !is_blank(*byte) {
-            return rest;
-        }
-        rest = tail;
-    }
-    rest
-}
-
-fn without_back_blanks(field: &[u8]) -> &[u8]
-    ensures { result.now ≡ reverse (without_front_blanks (reverse field.now)) }
-{
-    let mut rest = field;
-    while let [front @ .., byte] = rest {
-        if !is_blank(*byte) {
-            return rest;
-        }
-        rest = front;
-    }
-    rest
-}
-
-fn is_blank(byte: u8) -> bool
-    ensures { result ≡ is_blank byte }
-{
-    byte == b' ' || byte == b'\t'
-}
 
 /// Whether the field is the word in any case of ASCII letters.
 pub(crate) fn is_word(word: &[u8], field: &[u8]) -> bool
@@ -84,29 +46,6 @@ fn is_kept(field: &[u8]) -> bool
     ensures { result ≡ is_kept field.now }
 {
     is_word(b"rate", field) || is_word(b"hold", field) || is_word(b"before", field)
-}
-
-/// The number that the field's digits spell, where it lies within these ends.
-pub(crate) fn number_of(field: &[u8], least: u64, most: u64) -> Option<u64>
-    ensures { MatchOption result (is_number least most field.now ≡ false)
-        (λ number. (is_number least most field.now ≡ true) × (number ≡ number_of field.now)) }
-{
-    if !are_digits(field) {
-        return None;
-    }
-    let Ok(digits) = str::from_utf8(field) else {
-        return None;
-    };
-    let Ok(number) = digits.parse::<u64>() else {
-        return None;
-    };
-    (least <= number && number <= most).then_some(number)
-}
-
-fn are_digits(bytes: &[u8]) -> bool
-    ensures { result ≡ all_ascii_digits bytes.now }
-{
-    bytes.iter().all(|byte| byte.is_ascii_digit())
 }
 
 /// Whether the mark says that the actor works; none where the field is no mark.

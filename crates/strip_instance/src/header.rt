@@ -1,69 +1,58 @@
 // The header: the actors' names.
-ghost use Rattle.std.specs.Prelude.{◌≡◌, ◌+◌, ◌<◌, ◌≤◌, length, take, map, IfOk, OnOk};
-ghost use Rattle.indexmap.specs.IndexSet.{keys};
-ghost use Rattle.strip_model.specs.declared.limits.TheConstants.{MAX_ACTORS};
+ghost use Rattle.std.specs.Prelude.{◌≡◌, ◌<◌, ◌≤◌, length, IfOk, OnOk};
+ghost use Rattle.strip_text.specs.Rows.{field_of};
 ghost use Rattle.strip_instance.specs.Parts.{actor_fields};
 ghost use Rattle.strip_instance.specs.Checks.{Makes};
 ghost use Rattle.strip_instance.specs.Faults.{actor_name_checks, header_checks, is_header};
-ghost use Rattle.strip_instance.specs.Shown.{row_data, strs};
+ghost use Rattle.strip_instance.specs.Shown.{strs};
 
 use crate::fault::InstanceFault;
 use crate::field::{is_name, is_word, text_of};
-use crate::names::add_name;
-use crate::records::{actor_count, field};
-use csv::ByteRecord;
-use indexmap::IndexSet;
+use crate::names::is_earlier_actor;
+use crate::row::actor_count;
 use std::alloc::Global;
 use strip_model::MAX_ACTORS;
+use strip_text::Row;
 
 /// The actors' names, in the order of their columns.
-pub(crate) fn read_names(
-    alloc: Global,
-    header: &ByteRecord,
-) -> Result<IndexSet<&str>, InstanceFault>
-    ensures makes { Makes (header_checks (row_data header.now)) result }
-    ensures names { IfOk result (λ names. strs (keys names) ≡ actor_fields (row_data header.now)) }
-    ensures few { OnOk result (length (actor_fields (row_data header.now)) ≤ MAX_ACTORS) }
+pub(crate) fn read_names(alloc: Global, header: &Row) -> Result<Vec<&str>, InstanceFault>
+    ensures makes { Makes (header_checks header.now) result }
+    ensures names { IfOk result (λ names. strs names.items ≡ actor_fields header.now) }
+    ensures few { OnOk result (length (actor_fields header.now) ≤ 64) }
 {
     if !is_header(header) {
         return Err(InstanceFault::BadHeader);
     }
-    let mut names = IndexSet::new(alloc);
+    let mut names = Vec::new(alloc);
     for actor in 0..actor_count(header) {
-        take_name(&mut names, header, actor)?;
+        names.push(read_name(header, actor)?)?;
     }
     Ok(names)
 }
 
-fn is_header(header: &ByteRecord) -> bool
-    ensures { result ≡ is_header (row_data header.now) }
+fn is_header(header: &Row) -> bool
+    ensures { result ≡ is_header header.now }
 {
-    is_word(b"scene", field(header, 0)) && is_word(b"days", field(header, 1))
+    is_word(b"scene", header.field(0)) && is_word(b"days", header.field(1))
 }
 
-/// Takes the name of the actor with this number, behind those of the actors before.
-fn take_name<'r>(
-    names: &mut IndexSet<&'r str>,
-    header: &'r ByteRecord,
-    actor: usize,
-) -> Result<(), InstanceFault>
-    requires within { actor < length (actor_fields (row_data header.now)) }
-    requires earlier { strs (keys names.old) ≡ take actor (actor_fields (row_data header.now)) }
-    ensures makes { Makes (actor_name_checks (actor_fields (row_data header.now)) actor) result }
-    ensures taken { OnOk result (strs (keys names.new)
-        ≡ take (actor + 1) (actor_fields (row_data header.now))) }
-    ensures few { OnOk result (actor < MAX_ACTORS) }
+/// The name of the actor with this number.
+fn read_name(header: &Row, actor: usize) -> Result<&str, InstanceFault>
+    requires { actor < length (actor_fields header.now) }
+    ensures makes { Makes (actor_name_checks (actor_fields header.now) actor) result }
+    ensures name { IfOk result (λ name. name.now ≡ field_of (actor_fields header.now) actor) }
+    ensures few { OnOk result (actor < 64) }
 {
     if actor >= MAX_ACTORS {
         return Err(InstanceFault::TooManyActors);
     }
     let col = actor as u64 + 3;
-    let name = text_of(field(header, actor + 2), 1, col)?;
+    let name = text_of(header.field(actor + 2), 1, col)?;
     if !is_name(name.as_bytes()) {
         return Err(InstanceFault::BadName { row: 1, col });
     }
-    if !add_name(names, name)? {
+    if is_earlier_actor(header, actor) {
         return Err(InstanceFault::DuplicateActor { col });
     }
-    Ok(())
+    Ok(name)
 }

@@ -7,11 +7,11 @@ mod header;
 mod kind;
 pub mod laws;
 mod names;
-mod parts;
 mod rates;
 mod reading;
-mod records;
+mod row;
 mod scenes;
+mod told;
 mod writing;
 
 pub use fault::InstanceFault;

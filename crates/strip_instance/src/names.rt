@@ -1,23 +1,36 @@
-// Names that were read so far.
-ghost use Rattle.std.specs.Prelude.{◌≡◌, ◌++◌, ◌∷◌, [], not, if◌then◌else◌, IfOk, IfErr};
-ghost use Rattle.indexmap.specs.IndexSet.{keys};
-ghost use Rattle.strip_instance.specs.declared.fault.InstanceFault.TheVariants.{Memory as OutOfMemory};
+// Names that were read before.
+ghost use Rattle.std.specs.Prelude.{◌≡◌, ◌<◌, map, take, length};
+ghost use Rattle.strip_model.specs.Instance.{scene_data};
+ghost use Rattle.strip_text.specs.Rows.{field_of};
+ghost use Rattle.strip_instance.specs.Parts.{actor_fields};
 ghost use Rattle.strip_instance.specs.Faults.{contains};
-ghost use Rattle.strip_instance.specs.Shown.{strs};
 
-use crate::fault::InstanceFault;
-use indexmap::IndexSet;
+use strip_model::Scene;
+use strip_text::Row;
 
-/// Puts the name behind the others, and tells whether it is a new one.
-pub(crate) fn add_name<'r>(
-    names: &mut IndexSet<&'r str>,
-    name: &'r str,
-) -> Result<bool, InstanceFault>
-    ensures is_new { IfOk result (λ is_new. is_new ≡ not (contains (strs (keys names.old)) name.now)) }
-    ensures names { IfOk result (λ is_new. strs (keys names.new)
-        ≡ (if is_new then strs (keys names.old) ++ name.now ∷ [] else strs (keys names.old))) }
-    ensures memory { IfErr result (λ fault. fault ≡ OutOfMemory) }
+/// Whether one of the scenes has this name.
+pub(crate) fn has_scene(scenes: &[Scene], name: &[u8]) -> bool
+    ensures { result ≡ contains (map (λ scene. scene.name) (map scene_data scenes.now)) name.now }
 {
-    let is_new = names.insert(name)?;
-    Ok(is_new)
+    for scene in scenes {
+        if name == scene.name.as_bytes() {
+            return true;
+        }
+    }
+    false
+}
+
+/// Whether the name of the actor with this number is that of an actor before him.
+pub(crate) fn is_earlier_actor(header: &Row, actor: usize) -> bool
+    requires within { actor < length (actor_fields header.now) }
+    requires few { actor < 64 }
+    ensures { result ≡ contains (take actor (actor_fields header.now)) (field_of (actor_fields header.now) actor) }
+{
+    let name = header.field(actor + 2);
+    for earlier in 0..actor {
+        if name == header.field(earlier + 2) {
+            return true;
+        }
+    }
+    false
 }

@@ -1,75 +1,89 @@
 // The rates and the hold rates: what the actors are paid for a day.
-ghost use Rattle.std.specs.Prelude.{◌≡◌, ◌<◌, ◌≤◌, length, map, IfOk, IfErr};
-ghost use Rattle.strip_model.specs.declared.limits.TheConstants.{MAX_ACTORS};
+ghost use Rattle.std.specs.Prelude.{◌≡◌, ◌+◌, ◌<◌, ◌≤◌, true, drop, length, map, IfOk, IfErr, OnOk};
 ghost use Rattle.strip_model.specs.Instance.{actor_data};
+ghost use Rattle.strip_text.specs.Number.{number_of};
+ghost use Rattle.strip_text.specs.Rows.{field_of};
 ghost use Rattle.strip_instance.specs.declared.fault.InstanceFault.TheVariants.{Memory as OutOfMemory};
-ghost use Rattle.strip_instance.specs.Field.{number_of};
-ghost use Rattle.strip_instance.specs.Parts.{actor_fields, field_of};
+ghost use Rattle.strip_instance.specs.Parts.{actor_fields, body_of, first_of, hold_of, row_of};
 ghost use Rattle.strip_instance.specs.Checks.{Makes};
-ghost use Rattle.strip_instance.specs.Faults.{hold_row_checks, pay_checks, pay_row_checks, rate_check, rate_checks, rate_row_checks};
-ghost use Rattle.strip_instance.specs.Shown.{parts_data, rate_fault, row_data, strs};
+ghost use Rattle.strip_instance.specs.Faults.{hold_row_checks, pay_row_checks, rate_check, rate_checks, rate_row_checks};
+ghost use Rattle.strip_instance.specs.Shown.{rate_fault, rows_from, strs};
 ghost use Rattle.strip_instance.specs.Text.{actors_of, holds_of, rates_of};
 
 use crate::fault::InstanceFault;
-use crate::field::{is_word, number_of};
+use crate::field::is_word;
 use crate::kind::RateKind;
-use crate::parts::Parts;
-use crate::records::{actor_count, field};
-use csv::ByteRecord;
+use crate::row::{actor_count, next_row};
 use std::alloc::Global;
 use strip_model::{Actor, MAX_RATE};
+use strip_text::{Row, Rows, number_of};
 
-/// The actors with their rates, where these are their names.
-pub(crate) fn read_actors(
+/// The rates, which are the next row.
+pub(crate) fn read_rates(
     alloc: Global,
-    names: &[&str],
-    parts: &Parts<'_>,
-) -> Result<Vec<Actor>, InstanceFault>
-    requires names { strs names.now ≡ actor_fields (parts_data parts.now).header }
-    requires few { length names.now ≤ MAX_ACTORS }
-    ensures makes { Makes (pay_checks (parts_data parts.now)) result }
-    ensures actors { IfOk result (λ actors. map actor_data actors.items ≡ actors_of (strs names.now)
-        (rates_of (parts_data parts.now).rates) (holds_of (rates_of (parts_data parts.now).rates) (parts_data parts.now).hold)) }
+    header: &Row,
+    rows: &mut Rows<'_>,
+    row: &mut Row,
+) -> Result<Vec<u64>, InstanceFault>
+    requires { length (actor_fields header.now) ≤ 64 }
+    ensures makes { Makes (rate_row_checks header.now (row_of rows.old.left 0)) result }
+    ensures rates { IfOk result (λ rates. rates.items ≡ rates_of (row_of rows.old.left 0)) }
+    ensures left { OnOk result (rows.new.left ≡ drop 1 rows.old.left) }
+    ensures counted { OnOk result (rows.new.number ≡ rows.old.number + 1) }
 {
-    let rates = read_rates(alloc, parts)?;
-    let holds = read_holds(alloc, parts, &rates)?;
-    actors_of(alloc, names, &rates, &holds)
-}
-
-fn read_rates(alloc: Global, parts: &Parts<'_>) -> Result<Vec<u64>, InstanceFault>
-    requires { length (actor_fields (parts_data parts.now).header) ≤ MAX_ACTORS }
-    ensures makes { Makes (rate_row_checks (parts_data parts.now).header (parts_data parts.now).rates) result }
-    ensures rates { IfOk result (λ rates. rates.items ≡ rates_of (parts_data parts.now).rates) }
-{
-    if !is_word(b"rate", field(parts.rates, 0)) {
+    let there = next_row(rows, row)?;
+    if !there || !is_word(b"rate", row.field(0)) {
         return Err(InstanceFault::NoRateRow);
     }
-    read_pay_row(alloc, RateKind::Work, parts.header, 2, parts.rates)
+    read_pay_row(alloc, RateKind::Work, header, 2, row)
 }
 
-/// The hold rates, which are the rates where there is no row of them.
-fn read_holds(alloc: Global, parts: &Parts<'_>, rates: &[u64]) -> Result<Vec<u64>, InstanceFault>
-    requires { length (actor_fields (parts_data parts.now).header) ≤ MAX_ACTORS }
-    ensures makes { Makes (hold_row_checks (parts_data parts.now).header (parts_data parts.now).hold) result }
-    ensures holds { IfOk result (λ holds. holds.items ≡ holds_of rates.now (parts_data parts.now).hold) }
+/// The hold rates, and what was found behind them.
+#[derive(Drop)]
+pub(crate) struct Holds {
+    /// Each actor's rate for a day of waiting.
+    pub rates: Vec<u64>,
+    /// Whether there is a row of the body; it was read then.
+    pub there: bool,
+}
+
+/// The hold rates, which are the next row where it begins with the word, and else the rates.
+/// `row` then has the first row of the body, where there is one.
+pub(crate) fn read_holds(
+    alloc: Global,
+    header: &Row,
+    rates: &[u64],
+    rows: &mut Rows<'_>,
+    row: &mut Row,
+) -> Result<Holds, InstanceFault>
+    requires few { length (actor_fields header.now) ≤ 64 }
+    requires second { rows.old.number ≡ 2 }
+    ensures makes { Makes (hold_row_checks header.now (hold_of rows.old.left)) result }
+    ensures rates { IfOk result (λ holds. holds.rates.items ≡ holds_of rates.now (hold_of rows.old.left)) }
+    ensures body { IfOk result (λ holds. rows_from holds.there row.new rows.new.left ≡ body_of rows.old.left) }
+    ensures first { IfOk result (λ holds. (holds.there ≡ true) → rows.new.number ≡ first_of rows.old.left) }
 {
-    match parts.hold {
-        Some(hold) => read_pay_row(alloc, RateKind::Wait, parts.header, 3, hold),
-        None => Ok(Vec::from_slice(alloc, rates)?),
+    let there = next_row(rows, row)?;
+    if !there || !is_word(b"hold", row.field(0)) {
+        let rates = Vec::from_slice(alloc, rates)?;
+        return Ok(Holds { rates, there });
     }
+    let rates = read_pay_row(alloc, RateKind::Wait, header, 3, row)?;
+    let there = next_row(rows, row)?;
+    Ok(Holds { rates, there })
 }
 
 /// The rates of the row with this number, which has to be as wide as the header.
 fn read_pay_row(
     alloc: Global,
     kind: RateKind,
-    header: &ByteRecord,
+    header: &Row,
     number: u64,
-    row: &ByteRecord,
+    row: &Row,
 ) -> Result<Vec<u64>, InstanceFault>
-    requires { length (actor_fields (row_data header.now)) ≤ MAX_ACTORS }
-    ensures makes { Makes (pay_row_checks (rate_fault kind) (row_data header.now) number (row_data row.now)) result }
-    ensures rates { IfOk result (λ rates. rates.items ≡ rates_of (row_data row.now)) }
+    requires { length (actor_fields header.now) ≤ 64 }
+    ensures makes { Makes (pay_row_checks (rate_fault kind) header.now number row.now) result }
+    ensures rates { IfOk result (λ rates. rates.items ≡ rates_of row.now) }
 {
     if row.len() != header.len() {
         return Err(InstanceFault::Width { row: number });
@@ -77,14 +91,10 @@ fn read_pay_row(
     read_each_rate(alloc, kind, row)
 }
 
-fn read_each_rate(
-    alloc: Global,
-    kind: RateKind,
-    row: &ByteRecord,
-) -> Result<Vec<u64>, InstanceFault>
-    requires { length (actor_fields (row_data row.now)) ≤ MAX_ACTORS }
-    ensures makes { Makes (rate_checks (rate_fault kind) (row_data row.now)) result }
-    ensures rates { IfOk result (λ rates. rates.items ≡ rates_of (row_data row.now)) }
+fn read_each_rate(alloc: Global, kind: RateKind, row: &Row) -> Result<Vec<u64>, InstanceFault>
+    requires { length (actor_fields row.now) ≤ 64 }
+    ensures makes { Makes (rate_checks (rate_fault kind) row.now) result }
+    ensures rates { IfOk result (λ rates. rates.items ≡ rates_of row.now) }
 {
     let mut rates = Vec::new(alloc);
     for actor in 0..actor_count(row) {
@@ -94,17 +104,17 @@ fn read_each_rate(
 }
 
 /// The rate of the actor with this number.
-fn read_rate(kind: RateKind, row: &ByteRecord, actor: usize) -> Result<u64, InstanceFault>
-    requires { actor < MAX_ACTORS }
-    ensures makes { Makes (rate_check (rate_fault kind) (row_data row.now) actor) result }
-    ensures rate { IfOk result (λ rate. rate ≡ number_of (field_of (actor_fields (row_data row.now)) actor)) }
+fn read_rate(kind: RateKind, row: &Row, actor: usize) -> Result<u64, InstanceFault>
+    requires { actor < 64 }
+    ensures makes { Makes (rate_check (rate_fault kind) row.now actor) result }
+    ensures rate { IfOk result (λ rate. rate ≡ number_of (field_of (actor_fields row.now) actor)) }
 {
     let col = actor as u64 + 3;
-    number_of(field(row, actor + 2), 0, MAX_RATE).ok_or(kind.fault(col))
+    number_of(row.field(actor + 2), 0, MAX_RATE).ok_or(kind.fault(col))
 }
 
 /// The actors of these names and rates, which are as many.
-fn actors_of(
+pub(crate) fn actors_of(
     alloc: Global,
     names: &[&str],
     rates: &[u64],

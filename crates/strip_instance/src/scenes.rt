@@ -1,41 +1,41 @@
 // The scenes: their names, days and marks.
 ghost use Rattle.std.specs.Prelude.{◌≡◌, ◌<◌, ◌≤◌, ◌++◌, ◌∷◌, [], List, length, map, IfOk, OnOk};
-ghost use Rattle.indexmap.specs.IndexSet.{keys, index_set_len};
-ghost use Rattle.strip_model.specs.declared.limits.TheConstants.{MAX_ACTORS};
 ghost use Rattle.strip_model.specs.Instance.{scene_data};
+ghost use Rattle.strip_text.specs.Rows.{Row as RowData, field_of};
 ghost use Rattle.strip_instance.specs.Checks.{Makes};
-ghost use Rattle.strip_instance.specs.Parts.{Row, actor_fields, field_of};
+ghost use Rattle.strip_instance.specs.Parts.{actor_fields};
 ghost use Rattle.strip_instance.specs.Field.{is_work_mark};
-ghost use Rattle.strip_instance.specs.Faults.{mark_check, mark_checks, scene_checks, scene_rows, scenes_checks};
-ghost use Rattle.strip_instance.specs.Shown.{parts_data, row_data, strs};
+ghost use Rattle.strip_instance.specs.Faults.{mark_check, mark_checks, row_checks, scene_checks, scene_rows, scenes_checks};
+ghost use Rattle.strip_instance.specs.Shown.{rows_from};
 ghost use Rattle.strip_instance.specs.Text.{cast_of_marks, scene_of};
 
 use crate::fault::InstanceFault;
-use crate::field::{is_scene_name, mark_meaning, number_of, text_of};
-use crate::names::add_name;
-use crate::parts::Parts;
-use crate::records::{actor_count, field, is_passed_over};
-use csv::ByteRecord;
-use indexmap::IndexSet;
+use crate::field::{is_scene_name, mark_meaning, text_of};
+use crate::names::has_scene;
+use crate::row::{actor_count, next_row};
 use std::alloc::Global;
 use strip_mask::Mask;
 use strip_model::{MAX_DAYS, MAX_SCENES, Scene};
+use strip_text::{Row, Rows, number_of};
 
-/// The scenes of the body.
-pub(crate) fn read_scenes(alloc: Global, parts: &Parts<'_>) -> Result<Vec<Scene>, InstanceFault>
-    requires few { length (actor_fields (parts_data parts.now).header) ≤ MAX_ACTORS }
-    requires first { parts.now.first ≤ 4 }
-    ensures makes { Makes (scenes_checks (parts_data parts.now)) result }
+/// The scenes of the body: `row`, where it is there, has its first row, and the others are left.
+pub(crate) fn read_scenes(
+    alloc: Global,
+    header: &Row,
+    rows: &mut Rows<'_>,
+    row: &mut Row,
+    there: bool,
+) -> Result<Vec<Scene>, InstanceFault>
+    requires { length (actor_fields header.now) ≤ 64 }
+    ensures makes { Makes (scenes_checks header.now rows.old.number (rows_from there row.old rows.old.left)) result }
     ensures scenes { IfOk result (λ scenes. map scene_data scenes.items
-        ≡ map scene_of (scene_rows (parts_data parts.now).body)) }
+        ≡ map scene_of (scene_rows (rows_from there row.old rows.old.left))) }
 {
     let mut scenes = Vec::new(alloc);
-    let mut names = IndexSet::new(alloc);
-    for (place, row) in parts.body.iter().enumerate() {
-        if !is_passed_over(row) {
-            let number = parts.first + place as u64;
-            scenes.push(read_scene(alloc, parts.header, &mut names, row, number)?)?;
-        }
+    let mut there = there;
+    while there {
+        take_row(alloc, header, &mut scenes, row, rows.number())?;
+        there = next_row(rows, row)?;
     }
     if scenes.is_empty() {
         return Err(InstanceFault::NoScene);
@@ -43,38 +43,58 @@ pub(crate) fn read_scenes(alloc: Global, parts: &Parts<'_>) -> Result<Vec<Scene>
     Ok(scenes)
 }
 
-/// The scene of the row with this number, whose name joins those of the scenes before.
-fn read_scene<'r>(
+/// Puts the scene of the row with this number behind the others, unless the row is passed over.
+fn take_row(
     alloc: Global,
-    header: &ByteRecord,
-    names: &mut IndexSet<&'r str>,
-    row: &'r ByteRecord,
+    header: &Row,
+    scenes: &mut Vec<Scene>,
+    row: &Row,
+    number: u64,
+) -> Result<(), InstanceFault>
+    requires { length (actor_fields header.now) ≤ 64 }
+    ensures makes { (earlier : List RowData) → map scene_data scenes.old.items ≡ map scene_of (scene_rows earlier)
+        → Makes (row_checks header.now earlier number row.now) result }
+    ensures taken { OnOk result (map scene_data scenes.new.items
+        ≡ map scene_data scenes.old.items ++ map scene_of (scene_rows (row.now ∷ []))) }
+{
+    if row.is_empty() {
+        return Ok(());
+    }
+    let scene = read_scene(alloc, header, scenes, row, number)?;
+    scenes.push(scene)?;
+    Ok(())
+}
+
+/// The scene of the row with this number, where these are the scenes before.
+fn read_scene(
+    alloc: Global,
+    header: &Row,
+    scenes: &[Scene],
+    row: &Row,
     number: u64,
 ) -> Result<Scene, InstanceFault>
-    requires { length (actor_fields (row_data header.now)) ≤ MAX_ACTORS }
-    ensures makes { (earlier : List Row) → strs (keys names.old) ≡ map (λ other. field_of other 0) earlier
-        → Makes (scene_checks (row_data header.now) earlier number (row_data row.now)) result }
-    ensures named { OnOk result (strs (keys names.new)
-        ≡ strs (keys names.old) ++ field_of (row_data row.now) 0 ∷ []) }
-    ensures scene { IfOk result (λ scene. scene_data scene ≡ scene_of (row_data row.now)) }
+    requires { length (actor_fields header.now) ≤ 64 }
+    ensures makes { (earlier : List RowData) → map scene_data scenes.now ≡ map scene_of earlier
+        → Makes (scene_checks header.now earlier number row.now) result }
+    ensures scene { IfOk result (λ scene. scene_data scene ≡ scene_of row.now) }
 {
-    if names.len() >= MAX_SCENES {
+    if scenes.len() >= MAX_SCENES {
         return Err(InstanceFault::TooManyScenes);
     }
     if row.len() != header.len() {
         return Err(InstanceFault::Width { row: number });
     }
-    let name = text_of(field(row, 0), number, 1)?;
+    let name = text_of(row.field(0), number, 1)?;
     if !is_scene_name(name.as_bytes()) {
         return Err(InstanceFault::BadName {
             row: number,
             col: 1,
         });
     }
-    if !add_name(names, name)? {
+    if has_scene(scenes, name.as_bytes()) {
         return Err(InstanceFault::DuplicateScene { row: number });
     }
-    let Some(days) = number_of(field(row, 1), 1, MAX_DAYS) else {
+    let Some(days) = number_of(row.field(1), 1, MAX_DAYS) else {
         return Err(InstanceFault::BadDays { row: number });
     };
     let cast = read_cast(row, number)?;
@@ -83,10 +103,10 @@ fn read_scene<'r>(
 }
 
 /// The set of the actors whose marks say that they work.
-fn read_cast(row: &ByteRecord, number: u64) -> Result<u64, InstanceFault>
-    requires { length (actor_fields (row_data row.now)) ≤ MAX_ACTORS }
-    ensures makes { Makes (mark_checks number (row_data row.now)) result }
-    ensures cast { IfOk result (λ cast. cast ≡ cast_of_marks (actor_fields (row_data row.now))) }
+fn read_cast(row: &Row, number: u64) -> Result<u64, InstanceFault>
+    requires { length (actor_fields row.now) ≤ 64 }
+    ensures makes { Makes (mark_checks number row.now) result }
+    ensures cast { IfOk result (λ cast. cast ≡ cast_of_marks (actor_fields row.now)) }
 {
     let mut cast = Mask(0);
     for actor in 0..actor_count(row) {
@@ -98,11 +118,11 @@ fn read_cast(row: &ByteRecord, number: u64) -> Result<u64, InstanceFault>
 }
 
 /// Whether the mark of the actor with this number says that he works.
-fn read_mark(row: &ByteRecord, number: u64, actor: usize) -> Result<bool, InstanceFault>
-    requires { actor < MAX_ACTORS }
-    ensures makes { Makes (mark_check number (row_data row.now) actor) result }
-    ensures mark { IfOk result (λ working. working ≡ is_work_mark (field_of (actor_fields (row_data row.now)) actor)) }
+fn read_mark(row: &Row, number: u64, actor: usize) -> Result<bool, InstanceFault>
+    requires { actor < 64 }
+    ensures makes { Makes (mark_check number row.now actor) result }
+    ensures mark { IfOk result (λ working. working ≡ is_work_mark (field_of (actor_fields row.now) actor)) }
 {
     let col = actor as u64 + 3;
-    mark_meaning(field(row, actor + 2)).ok_or(InstanceFault::BadMark { row: number, col })
+    mark_meaning(row.field(actor + 2)).ok_or(InstanceFault::BadMark { row: number, col })
 }

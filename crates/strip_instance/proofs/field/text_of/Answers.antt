@@ -1,6 +1,6 @@
 use Rattle.std.proofs.Common.{refl, inr}
 use Rattle.std.proofs.lemmas.Str.{is_utf8-from_IsUtf8}
-use Rattle.strip_instance.proofs.Fields.{not_text}
+use Rattle.strip_text.proofs.Digits.{not_text}
 use Rattle.strip_instance.proofs.field.text_of.Goals as goal
 
 pub returns-in-Ok-clause-makes : goal.returns-in-Ok-clause-makes

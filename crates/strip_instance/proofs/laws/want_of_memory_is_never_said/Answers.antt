@@ -1,4 +1,4 @@
-use Rattle.strip_instance.proofs.NeverMemory.{memory-never_said}
+use Rattle.strip_instance.proofs.said.NeverMemory.{memory-never_said}
 use Rattle.strip_instance.proofs.laws.want_of_memory_is_never_said.Goals as goal
 
 pub returns : goal.returns

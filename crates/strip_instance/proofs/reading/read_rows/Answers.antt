@@ -1,111 +1,133 @@
-use Rattle.std.proofs.Common.{◌≡◌, ◌<◌, ◌≤◌, ◌-◌, ◌∷◌, [], List, length, get_or, take, drop, map, arith, sym, refl, ap, ◌∙◌, subst}
+use Rattle.std.proofs.Common.{◌≡◌, ◌∷◌, length, map, drop, refl, sym, ap, ◌∙◌, subst}
 use Rattle.std.proofs.lemmas.Bool.{false≢true}
-use Rattle.std.proofs.lemmas.List.{take_all}
-use Rattle.csv.specs.Records.{Row as CsvRow}
+use Rattle.std.proofs.lemmas.List.{length-map}
+use Rattle.strip_text.specs.Checks.{first_fault}
+use Rattle.strip_text.proofs.Making.{makes-handed_on}
 use Rattle.strip_model.specs.Data.{IsInstance}
 use Rattle.strip_model.specs.Instance.{actor_data, scene_data}
-use Rattle.strip_instance.specs.Shown.{parts_data, row_data, rows_data, strs}
-use Rattle.strip_instance.specs.Field.{Field}
-use Rattle.strip_instance.specs.Parts.{Row, Parts, parts_of, actor_fields}
-use Rattle.strip_instance.specs.Faults.{all_checks}
-use Rattle.strip_instance.specs.Text.{instance_of}
-use Rattle.strip_instance.proofs.Making.{makes-handed_on}
-use Rattle.strip_instance.proofs.Whole.{header-fault, no-rates, pay-fault, scenes-fault, no-fault, instance-is}
-use Rattle.strip_instance.proofs.Within.{instance-limits}
+use Rattle.strip_instance.specs.Parts.{row_of, body_of, first_of, hold_of}
+use Rattle.strip_instance.specs.Faults.{all_checks, scene_rows}
+use Rattle.strip_instance.specs.Shown.{rows_from, strs}
+use Rattle.strip_instance.specs.Text.{actors_of, holds_of, scene_of}
+use Rattle.strip_instance.proofs.read.Whole.{body-same, header-fault, holds-fault, holds-width, instance-is, no-fault, rates-fault, rates-width, scenes-fault, tells-same}
+use Rattle.strip_instance.proofs.said.Within.{instance-limits}
 use Rattle.strip_instance.proofs.reading.read_rows.Goals as goal
-
--- what follows the first row
-abbrev rest_of : List CsvRow → List CsvRow
-rest_of rows = take (length rows - 1) (drop 1 rows)
-
-first_row : (rows : List CsvRow) (row : CsvRow) → 1 ≤ length rows → row ≡ get_or rows 0 row → rows_data rows ≡ row_data row ∷ rows_data (rest_of rows)
-first_row [] row some is = absurd (omega arith)
-first_row (other ∷ rows) row some is =
-    ap (λ r. row_data r ∷ rows_data rows) (sym is)
-    ∙ ap (λ (rs : List CsvRow). row_data row ∷ rows_data rs) (sym (take_all (length (other ∷ rows) - 1) rows (omega arith)))
-
-no_row : (rows : List CsvRow) → length rows < 1 → rows_data rows ≡ []
-no_row [] none = refl
-no_row (row ∷ rows) none = absurd (omega arith)
-
--- the parts that were made are those of the rows
-its_parts : (rows : List CsvRow) (header rates : CsvRow) → 1 ≤ length rows → header ≡ get_or rows 0 header
-    → 1 ≤ length (rest_of rows) → rates ≡ get_or (rest_of rows) 0 rates
-    → parts_of (row_data header ∷ row_data rates ∷ rows_data (rest_of (rest_of rows))) ≡ parts_of (rows_data rows)
-its_parts rows header rates some first more second = ap parts_of (sym (first_row rows header some first
-    ∙ ap (λ (rs : List Row). row_data header ∷ rs) (first_row (rest_of rows) rates more second)))
 
 pub returns-in_err-names-clause-makes : goal.returns-in_err-names-clause-makes
 returns-in_err-names-clause-makes c =
-    let rows = c.args.rows.now in
-    let first = first_row rows c.header-item.result c.in-len1-up.len_at_least c.header-item.is in
+    let rows = c.args.rows.now.left in
+    let header = c.next_row.new.row in
+    let rest = c.next_row.new.rows.left in
+    let some : rows ≡ header ∷ rest = c.in_ok-next_row.ensures.found ∙ ap (λ there. rows_from there header rest) c.if-not-branch.false in
     let fault = c.in_err-names.field-0.0 in
-    makes-handed_on (all_checks (rows_data rows)) _ fault c.from_residual.ensures.1
-    (header-fault (rows_data rows) (row_data c.header-item.result) (rows_data (rest_of rows)) fault first c.in_err-names.ensures.makes)
+    makes-handed_on (all_checks rows) _ fault c.from_residual-in_err-names.ensures.1
+    (header-fault rows rest (drop 1 rest) header some refl fault c.in_err-names.ensures.makes)
 
-pub returns-in_default-rest-clause-makes : goal.returns-in_default-rest-clause-makes
-returns-in_default-rest-clause-makes c =
-    let rows = c.args.rows.now in
-    let first = first_row rows c.header-item.result c.in-len1-up.len_at_least c.header-item.is in
-    no-rates (rows_data rows) (row_data c.header-item.result)
-    (first ∙ ap (λ (rs : List Row). row_data c.header-item.result ∷ rs) (no_row (rest_of rows) c.in_default-rest.len_below)) c.in_ok-names.ensures.makes
+pub returns-in_err-rates-clause-makes : goal.returns-in_err-rates-clause-makes
+returns-in_err-rates-clause-makes c =
+    let rows = c.args.rows.now.left in
+    let header = c.next_row.new.row in
+    let rest = c.next_row.new.rows.left in
+    let some : rows ≡ header ∷ rest = c.in_ok-next_row.ensures.found ∙ ap (λ there. rows_from there header rest) c.if-not-branch.false in
+    let fault = c.in_err-rates.field-0.0 in
+    makes-handed_on (all_checks rows) _ fault c.from_residual-in_err-rates.ensures.1
+    (rates-fault rows rest (drop 1 rest) header some refl fault c.in_ok-names.ensures.makes c.in_err-rates.ensures.makes)
 
-pub returns-in_err-actors-clause-makes : goal.returns-in_err-actors-clause-makes
-returns-in_err-actors-clause-makes c =
-    let rows = c.args.rows.now in
-    let first = first_row rows c.header-item.result c.in-len1-up.len_at_least c.header-item.is in
-    let its = c.parts_of-parts.ensures.parts ∙ its_parts rows c.header-item.result c.rates-item.result c.in-len1-up.len_at_least c.header-item.is c.in-len1-up-rest.len_at_least c.rates-item.is in
-    let fault = c.in_err-actors.field-0.0 in
-    makes-handed_on (all_checks (rows_data rows)) _ fault c.from_residual-in_err-actors.ensures.1
-    (pay-fault (rows_data rows) (rows_data (rest_of rows)) (row_data c.header-item.result) (parts_data c.parts_of-parts.result) first its
-    c.in_ok-names.ensures.makes fault c.in_err-actors.ensures.makes)
+pub returns-in_err-holds-clause-makes : goal.returns-in_err-holds-clause-makes
+returns-in_err-holds-clause-makes c =
+    let rows = c.args.rows.now.left in
+    let header = c.next_row.new.row in
+    let rest = c.next_row.new.rows.left in
+    let behind = c.read_rates.new.rows.left in
+    let some : rows ≡ header ∷ rest = c.in_ok-next_row.ensures.found ∙ ap (λ there. rows_from there header rest) c.if-not-branch.false in
+    let fault = c.in_err-holds.field-0.0 in
+    makes-handed_on (all_checks rows) _ fault c.from_residual-in_err-holds.ensures.1
+    (holds-fault rows rest behind header some c.in_ok-rates.ensures.left fault c.in_ok-names.ensures.makes c.in_ok-rates.ensures.makes c.in_err-holds.ensures.makes)
+
+pub actors_of-requires-clause-rates : goal.actors_of-requires-clause-rates
+actors_of-requires-clause-rates c =
+    let header = c.next_row.new.row in
+    let names = c.in_ok-names.names.items in
+    ap length c.deref-3.ensures.value ∙ ap length c.in_ok-rates.ensures.rates
+    ∙ rates-width header (row_of c.next_row.new.rows.left 0) c.in_ok-rates.ensures.makes
+    ∙ sym (ap length c.deref-2.ensures.value ∙ sym (length-map names (λ text. text.now)) ∙ ap length c.in_ok-names.ensures.names)
+
+pub actors_of-requires-clause-holds : goal.actors_of-requires-clause-holds
+actors_of-requires-clause-holds c =
+    let header = c.next_row.new.row in
+    let names = c.in_ok-names.names.items in
+    let rates = c.in_ok-rates.rates.items in
+    let hold = hold_of c.read_rates.new.rows.left in
+    let wide = ap length c.in_ok-rates.ensures.rates ∙ rates-width header (row_of c.next_row.new.rows.left 0) c.in_ok-rates.ensures.makes in
+    ap length c.deref-4.ensures.value ∙ ap length c.in_ok-holds.ensures.rates ∙ ap (λ list. length (holds_of list hold)) c.deref.ensures.value
+    ∙ holds-width header rates hold wide c.in_ok-holds.ensures.makes
+    ∙ sym (ap length c.deref-2.ensures.value ∙ sym (length-map names (λ text. text.now)) ∙ ap length c.in_ok-names.ensures.names)
 
 pub returns-in_err-scenes-clause-makes : goal.returns-in_err-scenes-clause-makes
 returns-in_err-scenes-clause-makes c =
-    let rows = c.args.rows.now in
-    let first = first_row rows c.header-item.result c.in-len1-up.len_at_least c.header-item.is in
-    let its = c.parts_of-parts.ensures.parts ∙ its_parts rows c.header-item.result c.rates-item.result c.in-len1-up.len_at_least c.header-item.is c.in-len1-up-rest.len_at_least c.rates-item.is in
+    let rows = c.args.rows.now.left in
+    let header = c.next_row.new.row in
+    let rest = c.next_row.new.rows.left in
+    let behind = c.read_rates.new.rows.left in
+    let holds = c.read_holds.new in
+    let some : rows ≡ header ∷ rest = c.in_ok-next_row.ensures.found ∙ ap (λ there. rows_from there header rest) c.if-not-branch.false in
+    let body = body-same c.in_ok-holds.holds.there header holds.row holds.rows.number (first_of behind) holds.rows.left (body_of behind)
+    c.in_ok-holds.ensures.body c.in_ok-holds.ensures.first in
     let fault = c.in_err-scenes.field-0.0 in
-    makes-handed_on (all_checks (rows_data rows)) _ fault c.from_residual-in_err-scenes.ensures.1
-    (scenes-fault (rows_data rows) (rows_data (rest_of rows)) (row_data c.header-item.result) (parts_data c.parts_of-parts.result) first its
-    c.in_ok-names.ensures.makes fault c.in_ok-actors.ensures.makes c.in_err-scenes.ensures.makes)
+    makes-handed_on (all_checks rows) _ fault c.from_residual-in_err-scenes.ensures.1
+    (scenes-fault rows rest behind header some c.in_ok-rates.ensures.left fault c.in_ok-names.ensures.makes c.in_ok-rates.ensures.makes c.in_ok-holds.ensures.makes
+    (tells-same fault _ _ (sym body) c.in_err-scenes.ensures.makes))
 
 pub returns-clause-makes : goal.returns-clause-makes
 returns-clause-makes c =
-    let rows = c.args.rows.now in
-    let first = first_row rows c.header-item.result c.in-len1-up.len_at_least c.header-item.is in
-    let its = c.parts_of-parts.ensures.parts ∙ its_parts rows c.header-item.result c.rates-item.result c.in-len1-up.len_at_least c.header-item.is c.in-len1-up-rest.len_at_least c.rates-item.is in
-    no-fault (rows_data rows) (rows_data (rest_of rows)) (row_data c.header-item.result) (parts_data c.parts_of-parts.result) first its
-    c.in_ok-names.ensures.makes c.in_ok-actors.ensures.makes c.in_ok-scenes.ensures.makes
+    let rows = c.args.rows.now.left in
+    let header = c.next_row.new.row in
+    let rest = c.next_row.new.rows.left in
+    let behind = c.read_rates.new.rows.left in
+    let holds = c.read_holds.new in
+    let some : rows ≡ header ∷ rest = c.in_ok-next_row.ensures.found ∙ ap (λ there. rows_from there header rest) c.if-not-branch.false in
+    let body = body-same c.in_ok-holds.holds.there header holds.row holds.rows.number (first_of behind) holds.rows.left (body_of behind)
+    c.in_ok-holds.ensures.body c.in_ok-holds.ensures.first in
+    no-fault rows rest behind header some c.in_ok-rates.ensures.left c.in_ok-names.ensures.makes c.in_ok-rates.ensures.makes c.in_ok-holds.ensures.makes
+    (ap first_fault (sym body) ∙ c.in_ok-scenes.ensures.makes)
 
--- the names are those of the parts' header
-named : (parts : Parts) (header rates : Row) (rest : List Row) (names : List Field) → parts ≡ parts_of (header ∷ rates ∷ rest)
-    → names ≡ actor_fields header → names ≡ actor_fields parts.header
-named parts header rates rest names its same = same ∙ sym (ap (λ (p : Parts). actor_fields p.header) its)
-
--- what was read is the instance of the rows
 pub returns-clause-instance : goal.returns-clause-instance
 returns-clause-instance c =
-    let rows = c.args.rows.now in
-    let parts = parts_data c.parts_of-parts.result in
-    let its = c.parts_of-parts.ensures.parts ∙ its_parts rows c.header-item.result c.rates-item.result c.in-len1-up.len_at_least c.header-item.is c.in-len1-up-rest.len_at_least c.rates-item.is in
-    let names = named parts (row_data c.header-item.result) (row_data c.rates-item.result) (rows_data (rest_of (rest_of rows))) (strs c.as_slice.result.now)
-    c.parts_of-parts.ensures.parts (ap strs c.as_slice.ensures.keys ∙ c.in_ok-names.ensures.names) in
+    let rows = c.args.rows.now.left in
+    let header = c.next_row.new.row in
+    let rest = c.next_row.new.rows.left in
+    let behind = c.read_rates.new.rows.left in
+    let some : rows ≡ header ∷ rest = c.in_ok-next_row.ensures.found ∙ ap (λ there. rows_from there header rest) c.if-not-branch.false in
+    let rates = c.in_ok-rates.rates.items in
+    let holds = c.in_ok-holds.holds.rates.items in
     c.in-Some.ensures.same
-    ∙ instance-is parts (strs c.as_slice.result.now) (map scene_data c.in_ok-scenes.scenes.items) (map actor_data c.in_ok-actors.actors.items)
-    names c.in_ok-scenes.ensures.scenes c.in_ok-actors.ensures.actors
-    ∙ ap instance_of its
+    ∙ instance-is rows rest behind header some c.in_ok-rates.ensures.left (strs c.in_ok-names.names.items) rates holds
+    (map scene_data c.in_ok-scenes.scenes.items) (map actor_data c.in_ok-actors.actors.items) c.in_ok-names.ensures.names c.in_ok-rates.ensures.rates
+    (c.in_ok-holds.ensures.rates ∙ ap (λ list. holds_of list (hold_of behind)) c.deref.ensures.value)
+    (c.in_ok-scenes.ensures.scenes ∙ ap (λ body. map scene_of (scene_rows body)) c.in_ok-holds.ensures.body)
+    (c.in_ok-actors.ensures.actors ∙ ap (λ names. actors_of (strs names) c.deref-3.result.now c.deref-4.result.now) c.deref-2.ensures.value
+    ∙ ap (λ list. actors_of (strs c.in_ok-names.names.items) list c.deref-4.result.now) c.deref-3.ensures.value
+    ∙ ap (actors_of (strs c.in_ok-names.names.items) rates) c.deref-4.ensures.value)
 
 pub unreachable-requires : goal.unreachable-requires
 unreachable-requires c =
-    let rows = c.args.rows.now in
-    let parts = parts_data c.parts_of-parts.result in
-    let first = first_row rows c.header-item.result c.in-len1-up.len_at_least c.header-item.is in
-    let its = c.parts_of-parts.ensures.parts ∙ its_parts rows c.header-item.result c.rates-item.result c.in-len1-up.len_at_least c.header-item.is c.in-len1-up-rest.len_at_least c.rates-item.is in
-    let none = no-fault (rows_data rows) (rows_data (rest_of rows)) (row_data c.header-item.result) parts first its
-    c.in_ok-names.ensures.makes c.in_ok-actors.ensures.makes c.in_ok-scenes.ensures.makes in
-    let names = named parts (row_data c.header-item.result) (row_data c.rates-item.result) (rows_data (rest_of (rest_of rows))) (strs c.as_slice.result.now)
-    c.parts_of-parts.ensures.parts (ap strs c.as_slice.ensures.keys ∙ c.in_ok-names.ensures.names) in
-    let same = instance-is parts (strs c.as_slice.result.now) (map scene_data c.in_ok-scenes.scenes.items) (map actor_data c.in_ok-actors.actors.items)
-    names c.in_ok-scenes.ensures.scenes c.in_ok-actors.ensures.actors ∙ ap instance_of its in
-    false≢true (c.in-None.ensures.limits.1 (subst IsInstance (sym same) (instance-limits (rows_data rows) (record { none = none }))))
+    let rows = c.args.rows.now.left in
+    let header = c.next_row.new.row in
+    let rest = c.next_row.new.rows.left in
+    let behind = c.read_rates.new.rows.left in
+    let some : rows ≡ header ∷ rest = c.in_ok-next_row.ensures.found ∙ ap (λ there. rows_from there header rest) c.if-not-branch.false in
+    let read = c.read_holds.new in
+    let body = body-same c.in_ok-holds.holds.there header read.row read.rows.number (first_of behind) read.rows.left (body_of behind)
+    c.in_ok-holds.ensures.body c.in_ok-holds.ensures.first in
+    let none = no-fault rows rest behind header some c.in_ok-rates.ensures.left c.in_ok-names.ensures.makes c.in_ok-rates.ensures.makes c.in_ok-holds.ensures.makes
+    (ap first_fault (sym body) ∙ c.in_ok-scenes.ensures.makes) in
+    let rates = c.in_ok-rates.rates.items in
+    let holds = c.in_ok-holds.holds.rates.items in
+    let same = instance-is rows rest behind header some c.in_ok-rates.ensures.left (strs c.in_ok-names.names.items) rates holds
+    (map scene_data c.in_ok-scenes.scenes.items) (map actor_data c.in_ok-actors.actors.items) c.in_ok-names.ensures.names c.in_ok-rates.ensures.rates
+    (c.in_ok-holds.ensures.rates ∙ ap (λ list. holds_of list (hold_of behind)) c.deref.ensures.value)
+    (c.in_ok-scenes.ensures.scenes ∙ ap (λ body. map scene_of (scene_rows body)) c.in_ok-holds.ensures.body)
+    (c.in_ok-actors.ensures.actors ∙ ap (λ names. actors_of (strs names) c.deref-3.result.now c.deref-4.result.now) c.deref-2.ensures.value
+    ∙ ap (λ list. actors_of (strs c.in_ok-names.names.items) list c.deref-4.result.now) c.deref-3.ensures.value
+    ∙ ap (actors_of (strs c.in_ok-names.names.items) rates) c.deref-4.ensures.value) in
+    false≢true (c.in-None.ensures.limits.1 (subst IsInstance (sym same) (instance-limits rows (record { none = none }))))

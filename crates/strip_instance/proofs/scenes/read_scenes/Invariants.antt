@@ -1,16 +1,12 @@
-use Rattle.std.proofs.Common.{◌≡◌, None, take, map}
-use Rattle.indexmap.specs.IndexSet.{keys}
+use Rattle.std.proofs.Common.{length, map}
 use Rattle.strip_model.specs.Instance.{scene_data}
-use Rattle.strip_instance.specs.Checks.{first_fault, below}
-use Rattle.strip_instance.specs.Parts.{field_of}
-use Rattle.strip_instance.specs.Faults.{body_checks, scene_rows}
-use Rattle.strip_instance.specs.Shown.{parts_data, rows_data, strs}
-use Rattle.strip_instance.specs.Text.{scene_of}
+use Rattle.strip_instance.specs.Shown.{rows_from}
+use Rattle.strip_instance.proofs.read.Body.{IsRead}
 use Rattle.strip_instance.proofs.scenes.read_scenes.Given as goal
 
-abbrev pub invariant-loop-place : goal.invariant-loop-place
-invariant-loop-place l = record {
-  pass : first_fault (below l.place (body_checks (parts_data l.parts))) ≡ None;
-  names : strs (keys l.names) ≡ map (λ row. field_of row 0) (scene_rows (take l.place (rows_data l.parts.body.now)));
-  scenes : map scene_data l.scenes.items ≡ map scene_of (scene_rows (take l.place (rows_data l.parts.body.now)));
-}
+abbrev pub invariant-loop-there : goal.invariant-loop-there
+invariant-loop-there l = IsRead l.header l.fn.rows.number (rows_from l.fn.there l.fn.row l.fn.rows.left) l.there l.rows.number
+    (rows_from l.there l.row l.rows.left) (map scene_data l.scenes.items)
+
+abbrev pub decreases-loop-there : goal.decreases-loop-there
+decreases-loop-there l = length (rows_from l.there l.row l.rows.left)

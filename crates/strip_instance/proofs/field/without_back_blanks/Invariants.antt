@@ -1,9 +1,0 @@
-use Rattle.std.proofs.Common.{◌≡◌, length, reverse}
-use Rattle.strip_instance.specs.Field.{without_front_blanks}
-use Rattle.strip_instance.proofs.field.without_back_blanks.Given as goal
-
-abbrev pub invariant-loop-rest : goal.invariant-loop-rest
-invariant-loop-rest l = without_front_blanks (reverse l.rest) ≡ without_front_blanks (reverse l.field)
-
-abbrev pub decreases-loop-rest : goal.decreases-loop-rest
-decreases-loop-rest l = length l.rest

@@ -1,0 +1,123 @@
+-- The checks of a text from those of its parts.
+use Rattle.std.proofs.Common.{◌≡◌, ◌⊎◌, ℕ, Bool, true, false, List, [], ◌∷◌, ◌++◌, length, drop, Option, Some, None, map, refl, ap, sym, ◌∙◌, inl, inr, arith}
+use Rattle.std.proofs.lemmas.Bool.{eqb-true}
+use Rattle.std.proofs.lemmas.List.{length-drop, length-map}
+use Rattle.strip_text.specs.Field.{Field}
+use Rattle.strip_text.specs.Number.{number_of}
+use Rattle.strip_text.specs.Rows.{Row}
+use Rattle.strip_text.specs.Checks.{first_fault}
+use Rattle.strip_text.proofs.Held.{Hold}
+use Rattle.strip_text.proofs.Passed.{held as its_check, others}
+use Rattle.strip_text.proofs.Making.{makes-front, makes-past, first_fault-append}
+use Rattle.strip_model.specs.Data.{SceneData, ActorData}
+use Rattle.strip_instance.specs.declared.fault.InstanceFault.{InstanceFault}
+use Rattle.strip_instance.specs.declared.fault.InstanceFault.TheVariants.{Memory, BadRate, BadHold}
+use Rattle.strip_instance.specs.Checks.{Checks}
+use Rattle.strip_instance.specs.Parts.{parts_of, row_of, hold_of, body_of, first_of, actor_fields}
+use Rattle.strip_instance.specs.Faults.{header_checks, pay_row_checks, rate_row_checks, hold_row_checks, scene_rows, scenes_checks, all_checks}
+use Rattle.strip_instance.specs.Shown.{rows_from}
+use Rattle.strip_instance.specs.Text.{actors_of, holds_of, instance_of, rates_of, scene_of}
+
+-- the fault that some checks give, or want of memory
+abbrev pub Tells : InstanceFault → Checks → Type 0
+Tells fault checks = (fault ≡ Memory) ⊎ (first_fault checks ≡ Some fault)
+
+-- checks that are the same tell the same
+pub tells-same : (fault : InstanceFault) (these those : Checks) → these ≡ those → Tells fault those → Tells fault these
+tells-same fault these those same (inl memory) = inl memory
+tells-same fault these those same (inr found) = inr (ap first_fault same ∙ found)
+
+-- rows, of which the first is the header, what is behind it, and what is behind the rates
+module _ (rows rest behind : List Row) (header : Row) (some : rows ≡ header ∷ rest) (next : behind ≡ drop 1 rest) where
+  abbrev rated : Checks
+  rated = rate_row_checks header (row_of rest 0)
+
+  abbrev held : Checks
+  held = hold_row_checks header (hold_of behind)
+
+  abbrev filmed : Checks
+  filmed = scenes_checks header (first_of behind) (body_of behind)
+
+  all-same : all_checks rows ≡ header_checks header ++ (rated ++ held) ++ filmed
+  all-same =
+      ap all_checks some
+      ∙ ap (λ (list : List Row). header_checks header ++ (rated ++ hold_row_checks header (hold_of list)) ++ scenes_checks header (first_of list) (body_of list)) (sym next)
+
+  tells-all : (fault : InstanceFault) → Tells fault (header_checks header ++ (rated ++ held) ++ filmed) → Tells fault (all_checks rows)
+  tells-all fault tells = tells-same fault _ _ all-same tells
+
+  heads-hold : first_fault (header_checks header) ≡ None → first_fault rated ≡ None → first_fault held ≡ None
+      → first_fault (header_checks header ++ (rated ++ held)) ≡ None
+  heads-hold named rates holds =
+      first_fault-append (header_checks header) (rated ++ held) named ∙ first_fault-append rated held rates ∙ holds
+
+  -- a fault of the header
+  pub header-fault : (fault : InstanceFault) → Tells fault (header_checks header) → Tells fault (all_checks rows)
+  header-fault fault tells =
+      tells-all fault (makes-front (header_checks header ++ (rated ++ held)) filmed fault (makes-front (header_checks header) (rated ++ held) fault tells))
+
+  -- a fault of the rates
+  pub rates-fault : (fault : InstanceFault) → first_fault (header_checks header) ≡ None → Tells fault rated → Tells fault (all_checks rows)
+  rates-fault fault named tells =
+      tells-all fault (makes-front (header_checks header ++ (rated ++ held)) filmed fault
+      (makes-past (header_checks header) (rated ++ held) fault named (makes-front rated held fault tells)))
+
+  -- a fault of the hold rates
+  pub holds-fault : (fault : InstanceFault) → first_fault (header_checks header) ≡ None → first_fault rated ≡ None → Tells fault held → Tells fault (all_checks rows)
+  holds-fault fault named rates tells =
+      tells-all fault (makes-front (header_checks header ++ (rated ++ held)) filmed fault
+      (makes-past (header_checks header) (rated ++ held) fault named (makes-past rated held fault rates tells)))
+
+  -- a fault of the scenes
+  pub scenes-fault : (fault : InstanceFault) → first_fault (header_checks header) ≡ None → first_fault rated ≡ None → first_fault held ≡ None
+      → Tells fault filmed → Tells fault (all_checks rows)
+  scenes-fault fault named rates holds tells =
+      tells-all fault (makes-past (header_checks header ++ (rated ++ held)) filmed fault (heads-hold named rates holds) tells)
+
+  -- no fault
+  pub no-fault : first_fault (header_checks header) ≡ None → first_fault rated ≡ None → first_fault held ≡ None → first_fault filmed ≡ None
+      → first_fault (all_checks rows) ≡ None
+  no-fault named rates holds films =
+      ap first_fault all-same
+      ∙ first_fault-append (header_checks header ++ (rated ++ held)) filmed (heads-hold named rates holds) ∙ films
+
+  -- the instance of the rows
+  pub instance-is : (names : List Field) (rates holds : List ℕ) (scenes : List SceneData) (actors : List ActorData)
+      → names ≡ actor_fields header → rates ≡ rates_of (row_of rest 0) → holds ≡ holds_of rates (hold_of behind)
+      → scenes ≡ map scene_of (scene_rows (body_of behind)) → actors ≡ actors_of names rates holds
+      → record { scenes = scenes; actors = actors; pairs = [] } ≡ instance_of (parts_of rows)
+  instance-is names rates holds scenes actors named rated_so held_so filmed_so made =
+      let hold = hold_of behind in
+      let its : actors ≡ actors_of (actor_fields header) (rates_of (row_of rest 0)) (holds_of (rates_of (row_of rest 0)) hold)
+      = made ∙ ap (λ (ns : List Field). actors_of ns rates holds) named ∙ ap (actors_of (actor_fields header) rates) held_so
+      ∙ ap (λ (list : List ℕ). actors_of (actor_fields header) list (holds_of list hold)) rated_so in
+      (λ i. record { scenes = filmed_so i; actors = its i; pairs = [] })
+      ∙ ap (λ (list : List Row). record {
+        scenes = map scene_of (scene_rows (body_of list));
+        actors = actors_of (actor_fields header) (rates_of (row_of rest 0)) (holds_of (rates_of (row_of rest 0)) (hold_of list));
+        pairs = [];
+      }) next
+      ∙ ap (λ (all : List Row). instance_of (parts_of all)) (sym some)
+
+-- a row of rates without a fault has as many rates as there are actors
+pay-width : (fault : ℕ → InstanceFault) (header : Row) (number : ℕ) (row : Row) → Hold (pay_row_checks fault header number row)
+    → length (rates_of row) ≡ length (actor_fields header)
+pay-width fault header number row hold =
+    omega (arith, length-map (drop 2 row) number_of, length-drop 2 row, length-drop 2 header, eqb-true (length row) (length header) (its_check _ _ _ hold))
+
+pub rates-width : (header row : Row) → first_fault (rate_row_checks header row) ≡ None → length (rates_of row) ≡ length (actor_fields header)
+rates-width header row none =
+    let all : Hold (rate_row_checks header row) = record { none = none } in
+    pay-width BadRate header 2 row (others _ _ _ all)
+
+pub holds-width : (header : Row) (rates : List ℕ) (hold : Option Row) → length rates ≡ length (actor_fields header)
+    → first_fault (hold_row_checks header hold) ≡ None → length (holds_of rates hold) ≡ length (actor_fields header)
+holds-width header rates None wide none = wide
+holds-width header rates (Some row) wide none = pay-width BadHold header 3 row (record { none = none })
+
+-- the checks of a body are those of the rows from its first one on, which has its number where it is there
+pub body-same : (there : Bool) (header row : Row) (number first : ℕ) (left body : List Row) → rows_from there row left ≡ body
+    → ((there ≡ true) → number ≡ first) → scenes_checks header number (rows_from there row left) ≡ scenes_checks header first body
+body-same true header row number first left body same counted =
+    ap (λ n. scenes_checks header n (row ∷ left)) (counted refl) ∙ ap (scenes_checks header first) same
+body-same false header row number first left body same counted = ap (scenes_checks header first) same

@@ -1,0 +1,4 @@
+pub mod Limits
+pub mod Within
+pub mod SaidNames
+pub mod NeverMemory

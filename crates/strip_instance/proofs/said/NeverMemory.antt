@@ -1,0 +1,95 @@
+-- No check of a text's rows has want of memory for its fault.
+use Rattle.std.proofs.Common.{◌≡◌, ◌≢◌, ℕ, zero, suc, ◌+◌, Bool, true, false, List, [], ◌∷◌, ◌++◌, length, take, Option, None, Some, Err, sym, ◌∙◌, inl, inr, if◌then◌else◌}
+use Rattle.std.proofs.lemmas.Bool.{cases_Bool, cond-true, cond-false}
+use Rattle.strip_instance.specs.declared.fault.InstanceFault.{InstanceFault}
+use Rattle.strip_instance.specs.declared.fault.InstanceFault.TheVariants.{BadRate, BadHold, Memory}
+use Rattle.strip_text.specs.Checks.{check, first_fault, below}
+use Rattle.strip_text.specs.Rows.{Row, is_empty_row, rows_of}
+use Rattle.strip_instance.specs.Parts.{Parts, parts_of, row_of, actor_fields}
+use Rattle.strip_instance.specs.Faults.{actor_name_checks, header_checks, rate_check, rate_row_checks, hold_row_checks, pay_row_checks, pay_checks, scene_rows, mark_check, scene_checks, body_checks, scenes_checks, parts_checks, all_checks}
+use Rattle.strip_instance.specs.Text.{says, reading_of}
+use Rattle.strip_instance.specs.Checks.{Checks}
+
+-- the first fault isn't want of memory
+record Spares (checks : Checks) : Type 0 where
+  never : first_fault checks ≢ Some Memory
+
+some_same : (a b : InstanceFault) → Some a ≡ Some b → a ≡ b
+some_same a b same = cc
+
+spares-nil : Spares []
+spares-nil = record { never = λ found. cc }
+
+spares-cons : (holds : Bool) (fault : InstanceFault) (checks : Checks) → fault ≢ Memory → Spares checks → Spares (check holds fault ∷ checks)
+spares-cons true fault checks other rest = record { never = rest.never }
+spares-cons false fault checks other rest = record { never = λ found. other (some_same fault Memory found) }
+
+spares-append : (xs ys : Checks) → Spares xs → Spares ys → Spares (xs ++ ys)
+spares-append [] ys one two = two
+spares-append (x ∷ xs) ys one two = elim (cases_Bool x.holds) [
+  | inl holds ↦ (let rest : Spares xs = record { never = λ found. one.never (cond-true x.holds (first_fault xs) (Some x.fault) holds ∙ found) } in
+      record { never = λ found. (spares-append xs ys rest two).never (sym (cond-true x.holds (first_fault (xs ++ ys)) (Some x.fault) holds) ∙ found) })
+  | inr fails ↦ record {
+    never = λ found. one.never (cond-false x.holds (first_fault xs) (Some x.fault) fails
+        ∙ sym (cond-false x.holds (first_fault (xs ++ ys)) (Some x.fault) fails) ∙ found);
+  }
+]
+
+spares-below : (n : ℕ) (checks : ℕ → Checks) → ((k : ℕ) → Spares (checks k)) → Spares (below n checks)
+spares-below zero checks each = spares-nil
+spares-below (suc n) checks each = spares-append (below n checks) (checks n) (spares-below n checks each) (each n)
+
+spares-if : (b : Bool) (xs ys : Checks) → Spares xs → Spares ys → Spares (if b then xs else ys)
+spares-if true xs ys one two = one
+spares-if false xs ys one two = two
+
+header-spares : (header : Row) → Spares (header_checks header)
+header-spares header =
+    spares-cons _ _ _ (λ e. cc) (spares-below (length (actor_fields header)) (actor_name_checks (actor_fields header))
+    (λ k. spares-cons _ _ _ (λ e. cc) (spares-cons _ _ _ (λ e. cc) (spares-cons _ _ _ (λ e. cc) (spares-cons _ _ _ (λ e. cc) spares-nil)))))
+
+pay-spares : (fault : ℕ → InstanceFault) (header : Row) (number : ℕ) (row : Row) → ((col : ℕ) → fault col ≢ Memory) → Spares (pay_row_checks fault header number row)
+pay-spares fault header number row other =
+    spares-cons _ _ _ (λ e. cc)
+    (spares-below (length (actor_fields row)) (rate_check fault row) (λ k. spares-cons _ _ _ (other (k + 3)) spares-nil))
+
+holds-spare : (header : Row) (hold : Option Row) → Spares (hold_row_checks header hold)
+holds-spare header None = spares-nil
+holds-spare header (Some row) = pay-spares BadHold header 3 row (λ col e. cc)
+
+rates-spare : (parts : Parts) → Spares (pay_checks parts)
+rates-spare parts =
+    spares-append (rate_row_checks parts.header parts.rates) _
+    (spares-cons _ _ _ (λ e. cc) (pay-spares BadRate parts.header 2 parts.rates (λ col e. cc))) (holds-spare parts.header parts.hold)
+
+scene-spares : (header : Row) (earlier : List Row) (number : ℕ) (row : Row) → Spares (scene_checks header earlier number row)
+scene-spares header earlier number row =
+    spares-cons _ _ _ (λ e. cc) (spares-cons _ _ _ (λ e. cc) (spares-cons _ _ _ (λ e. cc) (spares-cons _ _ _ (λ e. cc)
+    (spares-cons _ _ _ (λ e. cc) (spares-cons _ _ _ (λ e. cc)
+    (spares-below (length (actor_fields row)) (mark_check number row) (λ k. spares-cons _ _ _ (λ e. cc) spares-nil)))))))
+
+scenes-spare : (parts : Parts) → Spares (scenes_checks parts.header parts.first parts.body)
+scenes-spare parts =
+    spares-append (below (length parts.body) (body_checks parts.header parts.first parts.body)) _
+    (spares-below (length parts.body) (body_checks parts.header parts.first parts.body)
+    (λ k. spares-if (is_empty_row (row_of parts.body k)) [] _ spares-nil
+    (scene-spares parts.header (scene_rows (take k parts.body)) (parts.first + k) (row_of parts.body k))))
+    (spares-cons _ _ _ (λ e. cc) spares-nil)
+
+parts-spare : (parts : Parts) → Spares (parts_checks parts)
+parts-spare parts =
+    spares-append (header_checks parts.header ++ pay_checks parts) _
+    (spares-append (header_checks parts.header) (pay_checks parts) (header-spares parts.header) (rates-spare parts)) (scenes-spare parts)
+
+all-spare : (rows : List Row) → Spares (all_checks rows)
+all-spare [] = spares-cons _ _ _ (λ e. cc) spares-nil
+all-spare (header ∷ rows) = parts-spare (parts_of (header ∷ rows))
+
+-- rows are never read as want of memory
+not_memory : (rows : List Row) (found : Option InstanceFault) → found ≢ Some Memory → reading_of rows found ≢ Err Memory
+not_memory rows None never said = cc
+not_memory rows (Some fault) never said = never (let same : fault ≡ Memory = cc in λ i. Some (same i))
+
+-- no text says that memory ran out
+pub memory-never_said : (text : List ℕ) → says text ≢ Err Memory
+memory-never_said text = not_memory (rows_of text) (first_fault (all_checks (rows_of text))) (all-spare (rows_of text)).never

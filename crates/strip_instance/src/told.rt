@@ -1,0 +1,39 @@
+// What a fault tells.
+ghost use Rattle.std.specs.Prelude.{◌≡◌, option_map};
+ghost use Rattle.strip_text.specs.Told.{told_data};
+ghost use Rattle.strip_instance.specs.Told.{told_of};
+
+use crate::fault::InstanceFault;
+use strip_text::Told;
+
+impl InstanceFault {
+    /// The fault's name, and first the row and second the column that it tells, where it tells one;
+    /// none for want of memory, which is no fault of a text.
+    pub fn told(self) -> Option<Told>
+        ensures { option_map told_data result ≡ told_of self }
+    {
+        let (name, first, second) = match self {
+            InstanceFault::Empty => ("Empty", None, None),
+            InstanceFault::BadHeader => ("BadHeader", None, None),
+            InstanceFault::NoRateRow => ("NoRateRow", None, None),
+            InstanceFault::Width { row } => ("Width", Some(row), None),
+            InstanceFault::BadName { row, col } => ("BadName", Some(row), Some(col)),
+            InstanceFault::DuplicateScene { row } => ("DuplicateScene", Some(row), None),
+            InstanceFault::DuplicateActor { col } => ("DuplicateActor", None, Some(col)),
+            InstanceFault::BadDays { row } => ("BadDays", Some(row), None),
+            InstanceFault::BadRate { col } => ("BadRate", None, Some(col)),
+            InstanceFault::BadHold { col } => ("BadHold", None, Some(col)),
+            InstanceFault::BadMark { row, col } => ("BadMark", Some(row), Some(col)),
+            InstanceFault::NoScene => ("NoScene", None, None),
+            InstanceFault::TooManyScenes => ("TooManyScenes", None, None),
+            InstanceFault::TooManyActors => ("TooManyActors", None, None),
+            InstanceFault::NotUtf8 { row, col } => ("NotUtf8", Some(row), Some(col)),
+            InstanceFault::Memory => return None,
+        };
+        Some(Told {
+            name,
+            first,
+            second,
+        })
+    }
+}
