@@ -67,9 +67,9 @@ const FILES: [(&[&str], &str); 6] = [
 
 struct Row {
     words: &'static [&'static str],
-    workers: u32,
-    nodes: u32,
-    table: u32,
+    workers: u64,
+    nodes: u64,
+    table: u64,
     kind: Kind,
     proof: bool,
 }

@@ -1,5 +1,5 @@
 //! Tests: whole runs of the program over files and sinks in memory, what it prints and how it ends;
-//! instance texts; words and jobs; films, their paths and their cheapest orders; files and sinks.
+//! rows and instance texts; words and jobs; films, their paths and their cheapest orders; files and sinks.
 #![tactic(auto)]
 
 #[cfg(test)]
@@ -17,7 +17,11 @@ mod paths;
 #[cfg(test)]
 mod refusals;
 #[cfg(test)]
+mod rows;
+#[cfg(test)]
 mod runs;
+#[cfg(test)]
+mod streams;
 #[cfg(test)]
 mod text_faults;
 #[cfg(test)]

@@ -2,8 +2,11 @@
 use crate::runs::{SOLVE, check};
 use std::alloc::{AllocError, Global};
 use std::test::Fail;
+use strip_answer::told_row;
 use strip_instance::InstanceFault;
-use strip_top::{Refusal, Status};
+use strip_io::Memory;
+use strip_text::Told;
+use strip_top::Refusal;
 
 const REFUSED: [(&str, &str); 25] = [
     ("", "error,Empty,,\n"),
@@ -136,33 +139,38 @@ fn a_file_is_at_most_a_mebibyte(rt: HostRuntime) -> Result<(), Fail> {
 
 #[test]
 fn an_error_row_has_four_fields(rt: HostRuntime) -> Result<(), Fail> {
-    let alloc = rt.alloc();
     let rows = [
-        (Refusal::Words, "error,Words,,\n"),
-        (Refusal::TooLong, "error,TooLong,,\n"),
-        (Refusal::TooManyClasses(9), "error,TooManyClasses,9,\n"),
-        (Refusal::Instance(InstanceFault::Empty), "error,Empty,,\n"),
+        (Some(Refusal::Words.told()), "error,Words,,\n"),
+        (Some(Refusal::TooLong.told()), "error,TooLong,,\n"),
         (
-            Refusal::Instance(InstanceFault::Width { row: 3 }),
-            "error,Width,3,\n",
+            Some(Refusal::TooManyClasses(9).told()),
+            "error,TooManyClasses,9,\n",
         ),
+        (InstanceFault::Empty.told(), "error,Empty,,\n"),
+        (InstanceFault::Width { row: 3 }.told(), "error,Width,3,\n"),
         (
-            Refusal::Instance(InstanceFault::BadName { row: 1, col: 5 }),
+            InstanceFault::BadName { row: 1, col: 5 }.told(),
             "error,BadName,1,5\n",
         ),
         (
-            Refusal::Instance(InstanceFault::BadRate { col: 3 }),
+            InstanceFault::BadRate { col: 3 }.told(),
             "error,BadRate,,3\n",
         ),
         (
-            Refusal::Instance(InstanceFault::BadHold { col: 4 }),
+            InstanceFault::BadHold { col: 4 }.told(),
             "error,BadHold,,4\n",
         ),
     ];
-    for (refusal, row) in rows {
-        assert_eq!(rt; refusal.to_string(alloc)?.as_str(), row);
+    for (told, row) in rows {
+        assert!(&rt; is_told_as(rt.alloc(), told, row)?);
     }
-    assert_eq!(rt; Refusal::Words.status(), Status::NoJob);
-    assert_eq!(rt; Refusal::TooLong.status().code(), 5);
+    assert!(&rt; InstanceFault::Memory.told().is_none());
     Ok(())
+}
+
+fn is_told_as(alloc: Global, told: Option<Told>, row: &str) -> Result<bool, Memory> {
+    match told {
+        Some(told) => Ok(told_row(alloc, b"error", told)?.as_slice() == row.as_bytes()),
+        None => Ok(false),
+    }
 }

@@ -1,3 +1,4 @@
-pub mod Lists
-pub mod Outcomes
-pub mod Refusals
+mod Lists
+mod FileKinds
+mod Endings
+mod Regrouped

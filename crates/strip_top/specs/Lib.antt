@@ -1,6 +1,5 @@
-pub mod Rows
-pub mod Words
-pub mod Head
 pub mod Refusal
+pub mod Plan
+pub mod Solve
 pub mod Due
-pub mod Outcome
+pub mod Headline

@@ -2,11 +2,11 @@
 #![tactic(auto)]
 
 mod answer;
-mod head;
+mod plan;
 mod program;
 mod refusal;
-mod status;
+mod solve;
 
 pub use program::report;
-pub use refusal::{MAX_CLASSES, MAX_FILE, Refusal};
-pub use status::Status;
+pub use refusal::Refusal;
+pub use solve::{MAX_CLASSES, MAX_FILE};

@@ -1,0 +1,8 @@
+//! The program over a runtime: its words, files and output are handed to `strip_top::report`, and the
+//! status that this gives is the exit code.
+#![tactic(auto)]
+
+mod outcome;
+mod words;
+
+pub use outcome::run;

@@ -1,0 +1,161 @@
+// Streams that are cut short, fail and stop in the middle.
+use std::io;
+use std::io::{ErrorKind, Read, Seek, SeekFrom, Write};
+use std::test::Fail;
+use strip_io::{Failed, HostSink, read_at, send};
+
+const TEXT: &[u8; 8] = b"abcdefgh";
+
+// A reader of the text, a few bytes at a time.
+#[derive(Drop)]
+struct Reader {
+    place: u64,
+    most: usize,
+    // The number of the read that fails, and whether seeks do.
+    failing: u64,
+    stuck: bool,
+    calls: u64,
+}
+
+impl Reader {
+    fn new(most: usize, failing: u64) -> Reader {
+        Reader {
+            place: 0,
+            most,
+            failing,
+            stuck: false,
+            calls: 0,
+        }
+    }
+}
+
+impl Read for Reader {
+    fn read(&mut self, buf: &mut [u8]) -> io::Result<usize> {
+        self.calls = self.calls.saturating_add(1);
+        if self.calls == self.failing {
+            return Err(io::Error::from(ErrorKind::PermissionDenied));
+        }
+        let text = TEXT.as_slice();
+        let start = (self.place as usize).min(text.len());
+        let count = buf.len().min(self.most).min(text.len() - start);
+        buf[..count].copy_from_slice(&text[start..start + count]);
+        self.place = self.place.saturating_add(count as u64);
+        Ok(count)
+    }
+}
+
+impl Seek for Reader {
+    fn seek(&mut self, to: SeekFrom) -> io::Result<u64> {
+        match to {
+            SeekFrom::Start(place) if !self.stuck => {
+                self.place = place;
+                Ok(place)
+            }
+            _ => Err(io::Error::from(ErrorKind::Unsupported)),
+        }
+    }
+}
+
+// A writer that keeps what it takes, a few bytes at a time.
+#[derive(Drop)]
+struct Writer {
+    taken: [u8; 8],
+    len: usize,
+    most: usize,
+    // The numbers of the write that fails and of that which takes nothing.
+    failing: u64,
+    stopping: u64,
+    calls: u64,
+}
+
+impl Writer {
+    fn new(most: usize, failing: u64, stopping: u64) -> Writer {
+        Writer {
+            taken: [0; 8],
+            len: 0,
+            most,
+            failing,
+            stopping,
+            calls: 0,
+        }
+    }
+}
+
+impl Write for Writer {
+    fn write(&mut self, buf: &[u8]) -> io::Result<usize> {
+        self.calls = self.calls.saturating_add(1);
+        if self.calls == self.failing {
+            return Err(io::Error::from(ErrorKind::BrokenPipe));
+        }
+        if self.calls == self.stopping {
+            return Ok(0);
+        }
+        let start = self.len.min(self.taken.len());
+        let count = buf.len().min(self.most).min(self.taken.len() - start);
+        self.taken[start..start + count].copy_from_slice(&buf[..count]);
+        self.len = start + count;
+        Ok(count)
+    }
+
+    fn flush(&mut self) -> io::Result<()> {
+        Ok(())
+    }
+}
+
+// What a read at a place gives, or None where it fails.
+fn read(file: &mut Reader, at: u64, into: &mut [u8; 4]) -> Option<usize> {
+    read_at(file, at, into).ok()
+}
+
+#[test]
+fn a_read_may_be_cut_short(rt: HostRuntime) -> Result<(), Fail> {
+    let mut file = Reader::new(3, 0);
+    let mut into = [0; 4];
+    assert_eq!(rt; read(&mut file, 5, &mut into), Some(3));
+    assert_eq!(rt; &into, b"fgh\0");
+    assert_eq!(rt; read(&mut file, 2, &mut into), Some(3));
+    assert_eq!(rt; &into, b"cde\0");
+    assert_eq!(rt; read(&mut file, 7, &mut into), Some(1));
+    assert_eq!(rt; &into, b"hde\0");
+    assert_eq!(rt; read(&mut file, 8, &mut into), Some(0));
+    Ok(())
+}
+
+#[test]
+fn a_failed_read_is_no_end(rt: HostRuntime) -> Result<(), Fail> {
+    let mut file = Reader::new(3, 2);
+    let mut into = [0; 4];
+    assert_eq!(rt; read(&mut file, 0, &mut into), Some(3));
+    assert_eq!(rt; read(&mut file, 3, &mut into), None);
+    assert_eq!(rt; read(&mut file, 3, &mut into), Some(3));
+    file.stuck = true;
+    assert_eq!(rt; read(&mut file, 0, &mut into), None);
+    assert_eq!(rt; file.calls, 3);
+    Ok(())
+}
+
+// What a writer holds after the text was sent to it, and in how many writes.
+fn sent(writer: Writer) -> (Result<(), Failed>, Writer) {
+    let mut out = HostSink::over(writer);
+    let result = send(&mut out, TEXT);
+    (result, out.into_inner())
+}
+
+#[test]
+fn a_writer_gets_the_text_and_no_more_after_a_fault(rt: HostRuntime) -> Result<(), Fail> {
+    let (whole, writer) = sent(Writer::new(3, 0, 0));
+    assert_eq!(rt; whole, Ok(()));
+    assert_eq!(rt; &writer.taken, TEXT);
+    assert_eq!(rt; writer.calls, 3);
+
+    let (failed, writer) = sent(Writer::new(3, 2, 0));
+    assert_eq!(rt; failed, Err(Failed));
+    assert_eq!(rt; &writer.taken, b"abc\0\0\0\0\0");
+    assert_eq!(rt; writer.calls, 2);
+
+    let (stopped, writer) = sent(Writer::new(3, 0, 3));
+    assert_eq!(rt; stopped, Err(Failed));
+    assert_eq!(rt; &writer.taken, b"abcdef\0\0");
+    assert_eq!(rt; writer.calls, 3);
+    Ok(())
+}
