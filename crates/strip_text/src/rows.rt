@@ -1,5 +1,5 @@
 // The rows of a text, read one at a time.
-ghost use Rattle.std.specs.Prelude.{◌≡◌, ◌+◌, ◌∷◌, [], true, false, map, Ok};
+ghost use Rattle.std.specs.Prelude.{◌≡◌, ◌+◌, ◌∷◌, [], true, false, map, Ok, OnErr};
 ghost use Rattle.csv.specs.Records.{fields_of};
 ghost use Rattle.strip_text.specs.Field.{trimmed};
 ghost use Rattle.strip_text.specs.Reader.{IsReading, left_of};
@@ -55,6 +55,7 @@ impl<'t> Rows<'t> {
         ensures found { result ≡ Ok true → self.old.left ≡ row.new ∷ self.new.left }
         ensures counted { result ≡ Ok true → self.new.number ≡ self.old.number + 1 }
         ensures ended { result ≡ Ok false → (self.old.left ≡ []) × (self.new ≡ self.old) }
+        ensures memory { OnErr result (self.new ≡ record self.old { left = [] }) }
     {
         if self.ended {
             return Ok(false);

@@ -41,8 +41,8 @@ impl Text {
         }
     }
 
-    /// Appends a row of these fields, a field in double quotes where it has to be. After want of
-    /// memory no row can be appended any more.
+    /// Appends a row of these fields, a field in double quotes where it has to be. Nothing is
+    /// promised of a text after want of memory.
     pub fn push(&mut self, fields: &[&[u8]]) -> Result<(), Memory>
         ensures { OnOk result (self.new ≡ self.old ++ csv_row (map (λ field. field.now) fields.now)) }
     {
