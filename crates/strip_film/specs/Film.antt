@@ -9,9 +9,9 @@ use Rattle.strip_pay.specs.Pairs.{FitPairs, Precedes}
 abbrev pub film_data : List ℕ → List ℕ → List ℕ → List ℕ → List Pair → FilmData
 film_data casts days rates holds pairs = record { casts = casts; days = days; rates = rates; holds = holds; pairs = pairs }
 
--- a film within the limits; casts are sets of actors
-pub record IsFilm (film : FilmData) : Type 0 where
-  pub scene_count : (0 < length film.casts) × (length film.casts ≤ 64)
+-- a film of at most so many scenes, and of at most 64 actors, within the limits; casts are sets of actors
+pub record IsFilmUpTo (most : ℕ) (film : FilmData) : Type 0 where
+  pub scene_count : (0 < length film.casts) × (length film.casts ≤ most)
   pub day_count : length film.days ≡ length film.casts
   pub actor_count : length film.rates ≤ 64
   pub hold_count : length film.holds ≡ length film.rates
@@ -21,6 +21,10 @@ pub record IsFilm (film : FilmData) : Type 0 where
   pub hold_sum : sum film.holds ≤ 64000000000
   pub casts : All (LiesBelow (length film.rates)) film.casts
   pub pairs : FitPairs (length film.casts) film.pairs
+
+-- a film of at most 64 scenes, so that a set of them is a mask
+abbrev pub IsFilm : FilmData → Type 0
+IsFilm film = IsFilmUpTo 64 film
 
 -- all scenes of the film
 abbrev pub all_scenes : FilmData → ℕ

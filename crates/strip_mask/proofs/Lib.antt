@@ -6,3 +6,4 @@ pub mod Sizes
 pub mod Totals
 pub mod Turns
 pub mod Below
+pub mod Gaps

@@ -61,13 +61,13 @@ numbers-below zero = All-nil (λ i. i < 0)
 numbers-below (suc n) = All-push (λ i. i < suc n) (numbers_below n) n (All-weaker (λ i. i < n) (λ i. i < suc n) (λ i lt. omega arith) (numbers_below n) (numbers-below n)) (omega arith)
 
 -- there are n of them
-length-numbers_below : (n : ℕ) → length (numbers_below n) ≡ n
+pub length-numbers_below : (n : ℕ) → length (numbers_below n) ≡ n
 unfolding numbers_below
 length-numbers_below zero = refl
 length-numbers_below (suc n) = length-append (numbers_below n) (n ∷ []) ∙ rw (length-numbers_below n) (omega arith)
 
 -- k stands at k
-number_at : (n k : ℕ) → k < n → get_or (numbers_below n) k 0 ≡ k
+pub number_at : (n k : ℕ) → k < n → get_or (numbers_below n) k 0 ≡ k
 unfolding numbers_below
 number_at zero k lt = absurd (omega arith)
 number_at (suc n) k lt =

@@ -1,7 +1,7 @@
 -- Laws of sets, as `sets_are_by_members` states them.
 use Rattle.std.specs.Prelude.{◌≡◌, ◌≢◌, ◌↔◌, ℕ, ◌+◌, ◌<◌, ◌≤◌, true, false, not, ◌&&◌, ◌||◌, eqb, List, slice_index, Contains, Some, None}
 use Rattle.std.specs.List.Sorted.{IsStrictlyIncreasing}
-use Rattle.strip_mask.specs.Set.{IsSet, has, with, without, union, meet, minus, members, size, first, sum_over}
+use Rattle.strip_mask.specs.Set.{IsSet, behind_gap, closed_up, has, with, without, union, meet, minus, members, size, first, sum_over}
 
 -- two sets with the same members are one
 abbrev pub SameMembersSameSet : Type 0
@@ -10,6 +10,10 @@ SameMembersSameSet = (a b : ℕ) → IsSet a → IsSet b → ((i : ℕ) → i < 
 -- the members of the sets that are made from others
 abbrev pub MadeByMembers : Type 0
 MadeByMembers = (a b i j : ℕ) → (has (union a b) j ≡ (has a j || has b j)) × (has (meet a b) j ≡ (has a j && has b j)) × (has (minus a b) j ≡ (has a j && not (has b j))) × (has (with a i) j ≡ (eqb i j || has a j)) × (has (without a i) j ≡ (not (eqb i j) && has a j))
+
+-- a set closed up at a number has at each place whether the set had the number that comes to it, and is a mask as the set was
+abbrev pub ClosesTheGap : Type 0
+ClosesTheGap = (a i : ℕ) → ((j : ℕ) → has (closed_up a i) j ≡ has a (behind_gap i j)) × (IsSet a → i < 64 → IsSet (closed_up a i))
 
 -- a set without one of its members is smaller by one
 abbrev pub OneFewer : Type 0

@@ -1,5 +1,5 @@
 -- Finite sets of numbers below 64, as masks below 2^64: bit i stands for number i.
-use Rattle.std.specs.Prelude.{◌≡◌, ℕ, zero, suc, ◌^◌, ◌<◌, Bool, true, ◌==◌, List, [], ◌∷◌, ◌++◌, length, filter, sum_by, slice_index, slice_get, Option, bit_and, bit_or, bit_xor}
+use Rattle.std.specs.Prelude.{◌≡◌, ℕ, zero, suc, ◌+◌, ◌/◌, ◌^◌, ◌<◌, nat_lt, if◌then◌else◌, Bool, true, ◌==◌, List, [], ◌∷◌, ◌++◌, length, filter, sum_by, slice_index, slice_get, Option, bit_and, bit_or, bit_xor}
 use Rattle.std.specs.Int.{bit_at}
 
 -- a mask of 64 bits
@@ -55,6 +55,14 @@ sum_over values set = sum_by (slice_index values) (members set)
 unfoldable pub full : ℕ → ℕ
 full zero = 0
 full (suc n) = with (full n) n
+
+-- the set without this number, and the greater ones each one lower
+unfoldable pub closed_up : ℕ → ℕ → ℕ
+closed_up set i = union (meet set (full i)) (minus (set / 2) (full i))
+
+-- the number that comes to this place when number i is taken out
+abbrev pub behind_gap : ℕ → ℕ → ℕ
+behind_gap i place = if nat_lt place i then place else place + 1
 
 -- a set of numbers below n
 abbrev pub LiesBelow : ℕ → ℕ → Type 0

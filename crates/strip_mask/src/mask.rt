@@ -3,7 +3,7 @@ ghost use Rattle.std.specs.Prelude.{◌≡◌, ◌↔◌, ℕ, ◌^◌, ◌<◌,
 ghost use Rattle.std.specs.Iterator.{UpTo, YieldsFirst, item_count};
 ghost use Rattle.std.specs.Iterator.SizeHint.{IsWithinCount};
 ghost use Rattle.strip_mask.specs.Iter.{rest_of};
-ghost use Rattle.strip_mask.specs.Set.{LiesBelow, first, full, has, meet, members, minus, size, sum_over, union, with, without};
+ghost use Rattle.strip_mask.specs.Set.{LiesBelow, closed_up, first, full, has, meet, members, minus, size, sum_over, union, with, without};
 
 /// A set of numbers below 64: bit `i` stands for number `i`. Each call but the turns of `iter` is a
 /// few instructions.
@@ -53,6 +53,15 @@ impl Mask {
         ensures { result.0 ≡ without self.0 i }
     {
         Mask(self.0 & !(1 << i))
+    }
+
+    /// The set without this number, which is below 64, and each greater number one lower.
+    pub fn closed_up(self, i: u32) -> Mask
+        requires { i < 64 }
+        ensures { result.0 ≡ closed_up self.0 i }
+    {
+        let lower = (1 << i) - 1;
+        Mask(self.0 & lower | (self.0 >> 1) & !lower)
     }
 
     /// The numbers of either set.

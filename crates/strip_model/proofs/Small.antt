@@ -11,7 +11,7 @@ use Rattle.strip_model.specs.Data.{InstanceData, SceneData, ActorData, IsInstanc
 use Rattle.strip_model.specs.Film.{film_of}
 
 -- the sum of values that are at most m each, of at most n elements
-sum_most : {X : Type 0} (value : X → ℕ) (xs : List X) (n m : ℕ) → length xs ≤ n → All (λ x. value x ≤ m) xs → sum (map value xs) ≤ n * m
+pub sum_most : {X : Type 0} (value : X → ℕ) (xs : List X) (n m : ℕ) → length xs ≤ n → All (λ x. value x ≤ m) xs → sum (map value xs) ≤ n * m
 sum_most value xs n m few each =
     let all : All (λ x. x ≤ m) (map value xs) = All-map (λ x. x ≤ m) value xs each in
     let within : sum (map value xs) ≤ length (map value xs) * m = sum_by-le (λ x. x) m (map value xs) all in

@@ -68,6 +68,14 @@ impl Instance {
         Instance { pairs, ..self }
     }
 
+    /// Every instance keeps the limits. It does nothing: a caller that needs one of them, and reads
+    /// none of the instance's parts, makes this call first.
+    pub fn keeps_limits(&self)
+        ensures { IsInstance self.now }
+    {
+        let _ = &self.scenes;
+    }
+
     /// The scenes, in the order of their numbers.
     pub fn scenes(&self) -> &[Scene]
         ensures scenes { map scene_data result.now ≡ self.now.scenes }

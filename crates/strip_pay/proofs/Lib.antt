@@ -5,5 +5,8 @@ pub mod Before
 pub mod Ahead
 pub mod Marks
 pub mod Spans
+pub mod Seams
 pub mod Pays
+pub mod Moves
+pub mod Blocks
 pub mod Rows

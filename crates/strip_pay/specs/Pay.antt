@@ -39,3 +39,9 @@ IsLeast film pay = (order : List ℕ) → IsKeptOrder film order → pay ≤ pay
 pub record IsOptimum (film : FilmData) (pay : ℕ) : Type 0 where
   pub attained : (order : List ℕ) × IsKeptOrder film order × (pay_of film order ≡ pay)
   pub least : IsLeast film pay
+
+-- the order keeps the pairs and pays this, and no order that keeps them pays less
+pub record IsBestOrder (film : FilmData) (order : List ℕ) (pay : ℕ) : Type 0 where
+  pub is_kept : IsKeptOrder film order
+  pub pays : pay_of film order ≡ pay
+  pub least : IsLeast film pay

@@ -1,5 +1,5 @@
 //! Laws of the definitions. Each function does nothing: its contract is the law.
-ghost use Rattle.std.specs.Prelude.{◌≡◌, ◌⊎◌, ℕ, ◌*◌, ◌+◌, ◌^◌, ◌<◌, ◌≤◌, Bool, true, false, List, All, length, reverse, sum, sum_by, count_by, ◌==◌};
+ghost use Rattle.std.specs.Prelude.{◌≡◌, ◌⊎◌, ℕ, ◌*◌, ◌+◌, ◌^◌, ◌<◌, ◌≤◌, Bool, true, false, List, ◌∷◌, ◌++◌, All, length, reverse, slice_index, sum, sum_by, count_by, ◌==◌};
 ghost use Rattle.std.specs.List.Sorted.{IsPermutation};
 ghost use Rattle.strip_mask.specs.Sums.{sum_below};
 ghost use Rattle.strip_pay.specs.declared.pair.Pair.{Pair};
@@ -53,4 +53,15 @@ pub fn cycles_can_not_be_kept()
     ensures first { (n : ℕ) (pairs : List Pair) (inside : ℕ → Bool) (x : ℕ) → ¬ HasCycle pairs
         → ((y : ℕ) → inside y ≡ true → y < n) → inside x ≡ true
         → (scene : ℕ) × (inside scene ≡ true) × ((first : ℕ) → Precedes pairs first scene → inside first ≡ false) }
+{}
+
+/// Two scenes of equal cast can stand together: to bring the later one forward or the earlier one back
+/// costs no more than to leave them apart, by which of the two places is the cheaper one to wait at;
+/// and which of them is shot first makes no difference then.
+pub fn equal_casts_can_stand_together()
+    ensures together { (film : FilmData) (before between behind : List ℕ) (a b : ℕ) → slice_index film.casts a ≡ slice_index film.casts b
+        → (pay_of film (before ++ (a ∷ b ∷ (between ++ behind))) ≤ pay_of film (before ++ (a ∷ (between ++ (b ∷ behind)))))
+        ⊎ (pay_of film (before ++ (between ++ (a ∷ b ∷ behind))) ≤ pay_of film (before ++ (a ∷ (between ++ (b ∷ behind))))) }
+    ensures swapped { (film : FilmData) (before behind : List ℕ) (a b : ℕ) → slice_index film.casts a ≡ slice_index film.casts b
+        → pay_of film (before ++ (b ∷ a ∷ behind)) ≡ pay_of film (before ++ (a ∷ b ∷ behind)) }
 {}

@@ -1,4 +1,5 @@
 use Rattle.strip_mask.proofs.ByMembers.{below_64, has-empty, has-meet, has-minus, has-union, has-with, has-without, same_set}
+use Rattle.strip_mask.proofs.Gaps.{has-closed_up, IsSet-closed_up}
 use Rattle.strip_mask.proofs.Members.{Contains-members, has_from_members, members_rise}
 use Rattle.strip_mask.proofs.Sizes.{first-empty, first_is, first_le, size-empty, size-without, some_first}
 use Rattle.strip_mask.proofs.Totals.{sum_over-empty, sum_over_mono, sum_over-union, sum_over-with}
@@ -8,6 +9,7 @@ pub returns : goal.returns
 returns c = record {
   same = same_set;
   made = λ a b i j. (has-union a b j, has-meet a b j, has-minus a b j, has-with a i j, has-without a i j);
+  closed = λ a i. (has-closed_up a i, IsSet-closed_up a i);
   fewer = size-without;
   adds = sum_over-with;
   apart = sum_over-union;
