@@ -1,0 +1,7 @@
+pub mod State
+pub mod Steps
+pub mod Reduction
+pub mod Law
+pub mod Shown
+pub mod Search
+pub mod Draft

@@ -1,0 +1,115 @@
+// A state that steps are taken on.
+ghost use Rattle.std.specs.Prelude.{◌≡◌, ◌<◌, None, Some, length, IfOk, MatchBool, OnOk};
+ghost use Rattle.strip_reduce.specs.Draft.{IsDraft, draft_state};
+ghost use Rattle.strip_reduce.specs.Reduction.{next};
+ghost use Rattle.strip_reduce.specs.Steps.{actors_joined, dropped, scenes_joined};
+
+use crate::edits::{close_up, join_members, renumber, sum_up, work_days};
+use crate::search::{droppable, joinable_actors, joinable_scenes};
+use std::alloc::AllocError;
+use strip_pay::Pair;
+
+/// How far scenes and actors were compared: none below these numbers can be joined with a later one,
+/// so the search for the next two begins with them. Of the rest nothing is known.
+#[derive(Clone, Copy)]
+pub(crate) struct Compared {
+    pub(crate) scenes: usize,
+    pub(crate) actors: usize,
+}
+
+/// Nothing was compared.
+pub(crate) const NOTHING: Compared = Compared {
+    scenes: 0,
+    actors: 0,
+};
+
+/// A film that steps are taken on, the scenes that were joined in each of its scenes, and what was
+/// set apart.
+#[derive(Drop)]
+pub(crate) struct Draft {
+    pub(crate) casts: Vec<u64>,
+    pub(crate) days: Vec<u64>,
+    pub(crate) rates: Vec<u64>,
+    pub(crate) holds: Vec<u64>,
+    pub(crate) pairs: Vec<Pair>,
+    pub(crate) members: Vec<Vec<u16>>,
+    pub(crate) apart: u64,
+    pub(crate) compared: Compared,
+}
+
+impl Draft {
+    /// Takes the first step that can be taken, and says whether there is one.
+    pub(crate) fn step(&mut self) -> Result<bool, AllocError>
+        requires { IsDraft (draft_state self.old) self.old.compared }
+        ensures went { IfOk result (λ went. MatchBool went
+            (next (draft_state self.old) ≡ Some (draft_state self.new))
+            ((next (draft_state self.old) ≡ None) × (draft_state self.new ≡ draft_state self.old))) }
+        ensures stays { OnOk result (IsDraft (draft_state self.new) self.new.compared) }
+    {
+        if let Some(actor) = droppable(&self.casts, &self.holds) {
+            self.drop_actor(actor);
+            return Ok(true);
+        }
+        if let Some((a, b)) = joinable_scenes(&self.casts, &self.pairs, self.compared.scenes) {
+            self.join_scenes(a, b)?;
+            return Ok(true);
+        }
+        if let Some((a, b)) = joinable_actors(&self.casts, self.rates.len(), self.compared.actors) {
+            self.join_actors(a, b);
+            return Ok(true);
+        }
+        Ok(false)
+    }
+
+    /// Takes the actor out, and sets apart what he gets for his days of work.
+    fn drop_actor(&mut self, actor: usize)
+        requires draft { IsDraft (draft_state self.old) self.old.compared }
+        requires known { actor < length self.old.rates.items }
+        ensures step { draft_state self.new ≡ dropped (draft_state self.old) actor }
+        ensures compared { self.new.compared ≡ record { scenes = 0; actors = 0 } }
+    {
+        let days = work_days(&self.casts, &self.days, actor as u32);
+        self.apart += self.rates[actor] * days;
+        close_up(&mut self.casts, actor as u32);
+        self.rates.remove(actor);
+        self.holds.remove(actor);
+        self.compared = NOTHING;
+    }
+
+    /// Joins scene `b` to scene `a`.
+    fn join_scenes(&mut self, a: usize, b: usize) -> Result<(), AllocError>
+        requires draft { IsDraft (draft_state self.old) self.old.compared }
+        requires places { a < b }
+        requires known { b < length self.old.casts.items }
+        ensures step { OnOk result (draft_state self.new ≡ scenes_joined (draft_state self.old) a b) }
+        ensures compared { OnOk result (self.new.compared ≡ record { scenes = a; actors = 0 }) }
+    {
+        self.casts.remove(b);
+        sum_up(&mut self.days, a, b);
+        renumber(&mut self.pairs, b as u16);
+        join_members(&mut self.members, a, b)?;
+        self.compared = Compared {
+            scenes: a,
+            actors: 0,
+        };
+        Ok(())
+    }
+
+    /// Counts actor `b` in actor `a`.
+    fn join_actors(&mut self, a: usize, b: usize)
+        requires draft { IsDraft (draft_state self.old) self.old.compared }
+        requires places { a < b }
+        requires known { b < length self.old.rates.items }
+        ensures step { draft_state self.new ≡ actors_joined (draft_state self.old) a b }
+        ensures compared { self.new.compared ≡ record { scenes = length self.old.casts.items; actors = a } }
+    {
+        close_up(&mut self.casts, b as u32);
+        sum_up(&mut self.rates, a, b);
+        sum_up(&mut self.holds, a, b);
+        // Actors are joined where no two scenes can be, and no scenes become alike by it.
+        self.compared = Compared {
+            scenes: self.casts.len(),
+            actors: a,
+        };
+    }
+}

@@ -1,0 +1,38 @@
+// From orders of classes to orders of scenes.
+ghost use Rattle.std.specs.Prelude.{◌≡◌, ℕ, ◌<◌, All, IfOk, length, reverse};
+ghost use Rattle.strip_pay.specs.Film.{FilmData};
+ghost use Rattle.strip_pay.specs.Order.{IsOrder};
+ghost use Rattle.strip_pay.specs.Pay.{pay_of};
+ghost use Rattle.strip_reduce.specs.Shown.{reduced_data};
+ghost use Rattle.strip_reduce.specs.State.{way_back};
+ghost use Rattle.strip_unreduce.specs.Oriented.{oriented};
+
+use std::alloc::Global;
+use strip_io::Memory;
+use strip_reduce::Reduced;
+
+/// The way back: each class of the order as the scenes that were joined in it, in their own order. Time
+/// and memory grow with the number of scenes; it fails only where memory runs out.
+pub fn expand(alloc: Global, reduced: &Reduced, order: &[u8]) -> Result<Vec<u16>, Memory>
+    requires { All (λ class. class < length reduced.now.film.casts) order.now }
+    ensures { IfOk result (λ scenes. scenes.items ≡ way_back (reduced_data reduced.now).members order.now) }
+{
+    let mut scenes = Vec::new(alloc);
+    for class in order {
+        scenes.extend_from_slice(&reduced.classes[*class as usize])?;
+    }
+    Ok(scenes)
+}
+
+/// The order turned round where its first number is greater than its last: of an order and its reverse,
+/// which pay the same, always the same one. No memory.
+pub fn orient(order: &mut [u8])
+    ensures oriented { order.new ≡ oriented order.old }
+    ensures order { (n : ℕ) → IsOrder n order.old → IsOrder n order.new }
+    ensures pay { (film : FilmData) → pay_of film order.new ≡ pay_of film order.old }
+    ensures same { (n : ℕ) → IsOrder n order.old → oriented (reverse order.old) ≡ order.new }
+{
+    if !order.is_empty() && order[order.len() - 1] < order[0] {
+        order.reverse();
+    }
+}
