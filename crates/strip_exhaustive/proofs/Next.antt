@@ -1,137 +1,93 @@
--- The scenes that may stand next, and what an order begins with when one of them is added.
-use Rattle.std.proofs.Common.{◌≡◌, ℕ, ◌+◌, ◌<◌, Bool, true, false, not, ◌&&◌, ltb, eqb, List, [], ◌∷◌, ◌++◌, length, Contains, inl, inr, sym, ap, ◌∙◌, subst, arith, append_assoc, get_or}
-use Rattle.std.specs.List.{list_any}
-use Rattle.std.proofs.lemmas.Bool.{cases_lt, cases_Bool, lt-ltb, ltb-true, and_parts}
-use Rattle.std.proofs.lemmas.Bool.Decides.{nat_tests, eqb_tells}
-use Rattle.std.proofs.lemmas.List.Elements.{All-push, All-contains, All-from_get_or, Contains-get_or, Contains-append_left, Contains-push, Contains-push_cases}
-use Rattle.strip_pay.specs.declared.pair.Pair.{Pair}
+-- What follows a path in the orders that begin with it.
+use Rattle.std.proofs.Common.{◌≡◌, ℕ, ◌<◌, true, false, List, [], ◌∷◌, ◌++◌, length, Contains, ◌⊎◌, inl, inr, sym, ap, ◌∙◌, subst, append_assoc, length-append, arith, get_or}
+use Rattle.std.proofs.Math.ListN.{get_or-append}
+use Rattle.std.proofs.Math.Nat.{le_of_eq}
+use Rattle.std.proofs.Math.Seq.{get_or-append_seam}
+use Rattle.std.proofs.lemmas.Bool.{cases_eq}
+use Rattle.std.proofs.lemmas.List.{append-nil}
+use Rattle.std.proofs.lemmas.List.Kept.{AllPairs-from_increasing}
+use Rattle.strip_mask.specs.Set.{IsSet, has, members, without}
+use Rattle.strip_mask.proofs.Below.{is_set_below}
+use Rattle.strip_mask.proofs.ByMembers.{IsSet-minus, has-empty}
+use Rattle.strip_mask.proofs.Members.{Contains-members, members_rise}
 use Rattle.strip_pay.specs.Film.{FilmData}
-use Rattle.strip_pay.specs.Order.{IsKeptOrder, KeepsPair, StandsBefore}
-use Rattle.strip_pay.specs.Pairs.{Precedes, IsKnownPair, FitPairs}
-use Rattle.strip_pay.proofs.Lists.{contains_here, contains_later, contains_cases, any_from, any_is}
-use Rattle.strip_pay.proofs.Counts.{count, tie, tie-same, tie-other, count-cons, count-push, count-append, short_without, contains_counted, counted_contains}
-use Rattle.strip_pay.proofs.Ahead.{stands_second}
-use Rattle.strip_pay.proofs.Chains.{some_first}
-use Rattle.strip_exhaustive.specs.Beginning.{IsBeginning, IsNext, BeginsWith}
+use Rattle.strip_pay.specs.Order.{IsKeptOrder}
+use Rattle.strip_pay.specs.Pay.{pay_of}
+use Rattle.strip_pay.proofs.Before.{before-itself}
+use Rattle.strip_pay.proofs.Lists.{contains_none}
+use Rattle.strip_film.specs.Film.{IsFilm, all_scenes}
+use Rattle.strip_film.specs.Finish.{AreFirsts, EachOnce, rest_after}
+use Rattle.strip_film.specs.Path.{IsPath, PathData}
+use Rattle.strip_film.specs.Shoot.{behind, ready}
+use Rattle.strip_film.proofs.ByPairs.{some_ready}
+use Rattle.strip_film.proofs.Lists.{AllOnce-from_ready, ready_there}
+use Rattle.strip_film.proofs.Orders.{kept_from_ready, ready_from_order}
+use Rattle.strip_film.proofs.Paths.{rest_lies}
+use Rattle.strip_film.proofs.StepSum.{steps_are_pay}
+use Rattle.strip_exhaustive.specs.Beginning.{BeginsWith, IsFirstCheapestFrom}
 
--- a number that the list lacks is counted 0 times
-pub absent_counted : (x : ℕ) (xs : List ℕ) → (Contains xs x → ⊥) → count x xs ≡ 0
-absent_counted x xs absent = elim (cases_lt 0 (count x xs)) [
-  | inl some ↦ absurd (absent (contains_counted x xs some))
-  | inr none ↦ omega arith
-]
+-- the scenes before a turn's scene are lesser, as the members of a set rise
+pub lesser_before : (set scene : ℕ) (tried left : List ℕ) → tried ++ scene ∷ left ≡ members set → (x : ℕ) → Contains tried x → x < scene
+lesser_before set scene tried left all x (place, within, at) =
+    let risen = subst (λ (xs : List ℕ). (i j d : ℕ) → i < j → j < length xs → get_or xs i d < get_or xs j d) (sym all)
+    (AllPairs-from_increasing (members set) (members_rise set)) in
+    let less : get_or (tried ++ scene ∷ left) place x < get_or (tried ++ scene ∷ left) (length tried) x = risen place (length tried) x within (omega (arith, length-append tried (scene ∷ left))) in
+    omega (arith, less, get_or-append tried (scene ∷ left) x place within, at, get_or-append_seam tried scene left x)
 
-stands-append : (a b : ℕ) (xs ys : List ℕ) → StandsBefore a b xs → StandsBefore a b (xs ++ ys)
-stands-append a b [] ys stands = absurd stands
-stands-append a b (x ∷ xs) ys (inl (same, behind)) = inl (same, Contains-append_left xs ys b behind)
-stands-append a b (x ∷ xs) ys (inr later) = inr (stands-append a b xs ys later)
+-- the scenes behind the first ones of a list, by what the first ones leave
+AreFirsts-behind : (firsts : ℕ → ℕ) (set : ℕ) (scenes later : List ℕ) → AreFirsts firsts set (scenes ++ later) → AreFirsts firsts (rest_after set scenes) later
+AreFirsts-behind firsts set [] later are = are
+AreFirsts-behind firsts set (s ∷ scenes) later are = AreFirsts-behind firsts (without set s) scenes later are.1
 
-stands_pushed : (a b : ℕ) (xs : List ℕ) → Contains xs a → StandsBefore a b (xs ++ b ∷ [])
-stands_pushed a b [] (k, within, at) = absurd (omega (arith, within))
-stands_pushed a b (x ∷ xs) there = elim (contains_cases x xs a there) [
-  | inl same ↦ inl (same, Contains-push xs b)
-  | inr later ↦ inr (stands_pushed a b xs later)
-]
+module _ (film : FilmData) (limits : IsFilm film) (path : PathData) (is : IsPath film path) where
+  ready_set : IsSet (ready film path.rest)
+  ready_set = IsSet-minus path.rest (behind film.pairs path.rest) (is_set_below (length film.casts) path.rest limits.scene_count.1 (rest_lies film path is))
 
--- what stands before a number that stands once is in front of it
-in_front : (a x : ℕ) (before after : List ℕ) → count x after ≡ 0 → StandsBefore a x (before ++ x ∷ after) → Contains before a
-in_front a x [] after once (inl (same, behind)) = absurd (omega (arith, once, counted_contains x after behind))
-in_front a x [] after once (inr later) = absurd (omega (arith, once, counted_contains x after (stands_second a x after later)))
-in_front a x (y ∷ ys) after once (inl (same, behind)) = subst (Contains (y ∷ ys)) same (contains_here y ys)
-in_front a x (y ∷ ys) after once (inr later) = contains_later y ys a (in_front a x ys after once later)
+  -- a ready scene is among the ready ones
+  pub among_ready : (scene : ℕ) → has (ready film path.rest) scene ≡ true → Contains (members (ready film path.rest)) scene
+  among_ready scene member = Contains-members (ready film path.rest) scene ready_set member
 
-module _ (film : FilmData) (begun : List ℕ) where
-  -- the list with a scene that may stand next
-  pub beginning_push : (scene : ℕ) → IsBeginning film begun → scene < length film.casts → IsNext film.pairs begun scene
-      → IsBeginning film (begun ++ scene ∷ [])
-  beginning_push scene is lt next = record {
-    known = All-push (λ x. x < length film.casts) begun scene is.known lt;
-    once = λ x. elim (eqb_tells scene x) [
-      | inl same ↦ (let there : count x begun ≡ 0 = subst (λ (i : ℕ). count i begun ≡ 0) same.1 (absent_counted scene begun next.is_new) in
-          let one : tie scene x ≡ 1 = subst (λ (i : ℕ). tie scene i ≡ 1) same.1 (tie-same scene) in
-          omega (arith, count-push x scene begun))
-      | inr other ↦ omega (arith, count-push x scene begun, tie-other scene x other.1, is.once x)
-    ];
-    kept = λ first second precedes there. elim (Contains-push_cases begun scene second there) [
-      | inl earlier ↦ stands-append first second begun (scene ∷ []) (is.kept first second precedes earlier)
-      | inr now ↦ subst (λ (x : ℕ). StandsBefore first x (begun ++ scene ∷ [])) now
-          (stands_pushed first scene begun (next.is_ready first (subst (λ (x : ℕ). Precedes film.pairs first x) (sym now) precedes)))
-    ];
-  }
+  -- where none is ready, nothing remains
+  pub nothing_remains : members (ready film path.rest) ≡ [] → path.rest ≡ 0
+  nothing_remains none = elim (cases_eq path.rest 0) [
+    | inl empty ↦ empty
+    | inr some ↦ absurd (let one = some_ready film path.rest limits (is_set_below (length film.casts) path.rest limits.scene_count.1 (rest_lies film path is)) some in
+        contains_none one.0 (subst (λ (xs : List ℕ). Contains xs one.0) none (among_ready one.0 one.1)))
+  ]
 
-  -- and it is short of an order
-  pub beginning_short : (scene : ℕ) → IsBeginning film begun → scene < length film.casts → IsNext film.pairs begun scene → length begun < length film.casts
-  beginning_short scene is lt next = short_without (length film.casts) begun scene is.known is.once lt (absent_counted scene begun next.is_new)
+  -- an order that keeps the pairs and begins with the path's scenes is these, where nothing remains, or goes on with a ready scene
+  pub goes_on : (other : List ℕ) → IsKeptOrder film other → BeginsWith path.scenes other
+      → ((other ≡ path.scenes) × (path.rest ≡ 0)) ⊎ ((scene : ℕ) × (has (ready film path.rest) scene ≡ true) × BeginsWith (path.scenes ++ scene ∷ []) other)
+  goes_on other kept ([], e) =
+      let same : other ≡ path.scenes = e ∙ append-nil path.scenes in
+      inl (same, is.left ∙ sym (ap (rest_after (all_scenes film)) same) ∙ (ready_from_order film limits other kept).1)
+  goes_on other kept (scene ∷ later, e) =
+      let firsts : AreFirsts (ready film) (all_scenes film) (path.scenes ++ scene ∷ later)
+      = subst (AreFirsts (ready film) (all_scenes film)) e (ready_from_order film limits other kept).0 in
+      let next : has (ready film (rest_after (all_scenes film) path.scenes)) scene ≡ true = (AreFirsts-behind (ready film) (all_scenes film) path.scenes (scene ∷ later) firsts).0 in
+      inr (scene, subst (λ (q : ℕ). has (ready film q) scene ≡ true) (sym is.left) next, (later, e ∙ sym (append_assoc path.scenes (scene ∷ []) later)))
 
-  -- a scene that goes on from the list in a kept order may stand next
-  pub next_from_order : (order : List ℕ) (scene : ℕ) → IsKeptOrder film order → BeginsWith (begun ++ scene ∷ []) order → scene < length film.casts
-      → IsNext film.pairs begun scene
-  next_from_order order scene is (rest, e) lt = record {
-    is_new = λ there. (omega (arith, one, counted_contains scene begun there));
-    is_ready = λ first precedes. in_front first scene begun rest (omega (arith, one))
-        (subst (StandsBefore first scene) split (All-contains (KeepsPair order) film.pairs (record { first = first; then = scene }) is.keeps precedes));
-  }
-    where
-      split : order ≡ begun ++ scene ∷ rest
-      split = e ∙ (simp append_assoc)
+  -- ---- a path after which nothing remains
 
-      one : count scene begun + count scene rest ≡ 0
-      one =
-          let whole : count scene order ≡ count scene (begun ++ scene ∷ rest) = ap (count scene) split in
-          omega (arith, whole, count-append scene begun (scene ∷ rest), count-cons scene scene rest, tie-same scene, is.is_order.once scene lt)
+  module _ (none : path.rest ≡ 0) where
+    each : EachOnce film (all_scenes film) path.scenes
+    each = (is.remained, sym is.left ∙ none)
 
-  -- whether the list lacks the scene
-  abbrev lacks : ℕ → Bool
-  lacks scene = ltb scene (length film.casts) && not (list_any (λ x. eqb x scene) begun)
+    pub paid_is_pay : path.paid ≡ pay_of film path.scenes
+    paid_is_pay = is.steps ∙ steps_are_pay film limits path.scenes (AllOnce-from_ready film (all_scenes film) path.scenes each)
 
-  -- where no scene may stand next the list is an order
-  pub order_from_none_next : IsBeginning film begun → FitPairs (length film.casts) film.pairs
-      → ((scene : ℕ) → scene < length film.casts → IsNext film.pairs begun scene → ⊥) → IsKeptOrder film begun
-  order_from_none_next is fit none = record {
-    is_order = record { known = is.known; once = λ scene lt. omega (arith, is.once scene, counted_contains scene begun (all_there scene lt)) };
-    keeps = All-from_get_or (KeepsPair begun) film.pairs (record { first = 0; then = 0 }) (λ i lt. keeps_at i lt);
-  }
-    where
-      has_by_test : (scene : ℕ) → list_any (λ x. eqb x scene) begun ≡ true → Contains begun scene
-      has_by_test scene some =
-          let found = any_is (λ x. eqb x scene) begun some in
-          let tied : eqb found.0 scene ≡ true = found.2 in
-          let same : found.0 ≡ scene = grind (arith, nat_tests) in
-          subst (Contains begun) same found.1
-
-      lacks_is : (scene : ℕ) → lacks scene ≡ true → (scene < length film.casts) × (Contains begun scene → ⊥)
-      lacks_is scene lacking =
-          let parts = and_parts (ltb scene (length film.casts)) (not (list_any (λ x. eqb x scene) begun)) lacking in (
-            ltb-true scene (length film.casts) parts.0,
-            λ there. (let tied : eqb scene scene ≡ true = grind (arith, nat_tests) in
-                let some : list_any (λ x. eqb x scene) begun ≡ true = any_from (λ x. eqb x scene) begun scene there tied in
-                let none : not (list_any (λ x. eqb x scene) begun) ≡ true = parts.1 in
-                let e : not true ≡ true = sym (ap not some) ∙ none in cc),
-          )
-
-      there_by_lacks : (scene : ℕ) → scene < length film.casts → lacks scene ≡ false → Contains begun scene
-      there_by_lacks scene lt lacking = elim (cases_Bool (list_any (λ x. eqb x scene) begun)) [
-        | inl some ↦ has_by_test scene some
-        | inr no_more ↦ absurd (let known : ltb scene (length film.casts) ≡ true = lt-ltb scene (length film.casts) lt in
-            let e : (true && not false) ≡ false = sym (ap (λ (b : Bool). ltb scene (length film.casts) && not b) no_more ∙ ap (λ (b : Bool). b && not false) known) ∙ lacking in cc)
-      ]
-
-      all_there : (scene : ℕ) → scene < length film.casts → Contains begun scene
-      all_there scene lt = elim (cases_Bool (lacks scene)) [
-        | inr lacking ↦ there_by_lacks scene lt lacking
-        | inl lacking ↦ absurd (
-            let first = some_first film.pairs (length film.casts) lacks (λ x l. (lacks_is x l).0) fit.no_cycle scene lacking in
-            none first.0 (lacks_is first.0 first.1).0 (record {
-              is_new = (lacks_is first.0 first.1).1;
-              is_ready = λ earlier precedes. there_by_lacks earlier
-                  (All-contains (IsKnownPair (length film.casts)) film.pairs (record { first = earlier; then = first.0 }) fit.known precedes).0
-                  (first.2 earlier precedes);
-            }))
-      ]
-
-      keeps_one : (pair : Pair) → Contains film.pairs pair → KeepsPair begun pair
-      keeps_one pair there =
-          is.kept pair.first pair.then there (all_there pair.then (All-contains (IsKnownPair (length film.casts)) film.pairs pair fit.known there).1)
-
-      keeps_at : (i : ℕ) → i < length film.pairs → KeepsPair begun (get_or film.pairs i (record { first = 0; then = 0 }))
-      keeps_at i lt = keeps_one (get_or film.pairs i (record { first = 0; then = 0 })) (Contains-get_or film.pairs i (record { first = 0; then = 0 }) lt)
+    -- it is the one order that begins with its scenes
+    pub only_order : IsFirstCheapestFrom film path.scenes path.scenes
+    only_order = record {
+      is_kept = kept_from_ready film limits path.scenes each;
+      begins = ([], sym (append-nil path.scenes));
+      least = λ other kept begins. le_of_eq (ap (pay_of film) (sym (alone other kept begins)));
+      first = λ other kept begins equal before. before-itself path.scenes (rw (alone other kept begins) at before);
+    }
+      where
+        alone : (other : List ℕ) → IsKeptOrder film other → BeginsWith path.scenes other → other ≡ path.scenes
+        alone other kept begins = elim (goes_on other kept begins) [
+          | inl same ↦ same.0
+          | inr (scene, next, later) ↦ absurd (let e : has path.rest scene ≡ true = ready_there film path.rest scene next in
+              let f : has path.rest scene ≡ false = subst (λ (q : ℕ). has q scene ≡ false) (sym none) (has-empty scene) in cc)
+        ]

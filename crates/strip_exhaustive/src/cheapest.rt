@@ -1,91 +1,62 @@
 // Every order that keeps the pairs, one after the other.
-ghost use Rattle.std.specs.Prelude.{◌≡◌, ◌↔◌, ℕ, ◌<◌, ◌++◌, ◌∷◌, [], Contains, length, nat_lt, MatchBool, MatchOption, IsTrue, IfOk};
+ghost use Rattle.std.specs.Prelude.{◌≡◌, length, nat_lt, MatchBool, MatchOption, IfOk};
 ghost use Rattle.strip_pay.specs.Order.{IsOrder};
-ghost use Rattle.strip_pay.specs.Pairs.{Precedes};
 ghost use Rattle.strip_pay.specs.Pay.{pay_of, IsOptimum};
-ghost use Rattle.strip_model.specs.Film.{film_of};
+ghost use Rattle.strip_film.specs.Path.{IsPath};
+ghost use Rattle.strip_film.specs.Shown.{path_data};
 ghost use Rattle.strip_exhaustive.specs.Cheapest.{IsFirstCheapest};
-ghost use Rattle.strip_exhaustive.specs.Beginning.{IsBeginning, IsFirstCheapestFrom, IsNext};
+ghost use Rattle.strip_exhaustive.specs.Beginning.{IsFirstCheapestFrom};
 
-use std::alloc::{AllocError, Global};
-use strip_model::{Instance, Pair, pay};
-use strip_pay::stands_in;
+use std::alloc::Global;
+use strip_film::{Film, Path, ready};
+use strip_io::Memory;
 
-/// An order and its pay.
+/// An order of a film's scenes and its pay, in units of money.
 #[derive(Debug, Drop)]
 pub struct Cheapest {
-    pub order: Vec<u16>,
+    pub order: Vec<u8>,
     pub pay: u64,
 }
 
-/// The cheapest order of the instance that keeps its pairs, the lexicographically first one where
-/// several cost the same. It takes time with the factorial of the number of scenes.
-pub fn cheapest_order(alloc: Global, inst: &Instance) -> Result<Cheapest, AllocError>
-    ensures order { IfOk result (λ best. IsOrder (length inst.now.scenes) best.order.items) }
-    ensures first { IfOk result (λ best. IsFirstCheapest (film_of inst.now) best.order.items) }
-    ensures pay { IfOk result (λ best. best.pay ≡ pay_of (film_of inst.now) best.order.items) }
-    ensures optimum { IfOk result (λ best. IsOptimum (film_of inst.now) best.pay) }
+/// The cheapest order of the film that keeps its pairs, the lexicographically first one where several
+/// cost the same. It takes time with the factorial of the number of scenes, and fails only where memory
+/// runs out.
+pub fn cheapest_order(alloc: Global, film: &Film) -> Result<Cheapest, Memory>
+    ensures order { IfOk result (λ best. IsOrder (length film.now.casts) best.order.items) }
+    ensures first { IfOk result (λ best. IsFirstCheapest film.now best.order.items) }
+    ensures pay { IfOk result (λ best. best.pay ≡ pay_of film.now best.order.items) }
+    ensures optimum { IfOk result (λ best. IsOptimum film.now best.pay) }
 {
-    cheapest_from(alloc, inst, &[])
+    cheapest_from(alloc, film, &Path::start(film))
 }
 
-/// The first of the cheapest among the orders that keep the pairs and begin with these scenes.
-fn cheapest_from(alloc: Global, inst: &Instance, begun: &[u16]) -> Result<Cheapest, AllocError>
-    requires { IsBeginning (film_of inst.now) begun.now }
-    ensures first { IfOk result (λ best. IsFirstCheapestFrom (film_of inst.now) begun.now best.order.items) }
-    ensures pay { IfOk result (λ best. best.pay ≡ pay_of (film_of inst.now) best.order.items) }
+/// The first of the cheapest among the orders that keep the pairs and begin with the path's scenes.
+fn cheapest_from(alloc: Global, film: &Film, path: &Path) -> Result<Cheapest, Memory>
+    requires { IsPath film.now (path_data path.now) }
+    ensures first { IfOk result (λ best. IsFirstCheapestFrom film.now (path_data path.now).scenes best.order.items) }
+    ensures pay { IfOk result (λ best. best.pay ≡ pay_of film.now best.order.items) }
 {
+    film.keeps_limits();
     let mut best = None;
-    for scene in 0..inst.scenes().len() as u16 {
-        if !is_next(inst.pairs(), begun, scene) {
-            continue;
-        }
-        let extended = with_scene(alloc, begun, scene)?;
-        let found = cheapest_from(alloc, inst, &extended)?;
+    for scene in ready(film, path.rest()).iter() {
+        let found = cheapest_from(alloc, film, &path.extend(film, scene))?;
         best = Some(cheaper(best, found));
     }
     match best {
         Some(best) => Ok(best),
-        // No scene is left: the list itself is the one order that begins so.
-        None => complete(alloc, inst, begun),
+        // Nothing remains: the path itself is the one order that begins so.
+        None => complete(alloc, path),
     }
 }
 
-/// Whether the scene may stand next.
-fn is_next(pairs: &[Pair], begun: &[u16], scene: u16) -> bool
-    ensures { IsTrue result ↔ IsNext pairs.now begun.now scene }
-{
-    !stands_in(begun, scene) && is_ready(pairs, begun, scene)
-}
-
-/// Whether all that have to come before the scene are in the list.
-fn is_ready(pairs: &[Pair], begun: &[u16], scene: u16) -> bool
-    ensures { IsTrue result ↔ ((first : ℕ) → Precedes pairs.now first scene → Contains begun.now first) }
-{
-    for pair in pairs {
-        if pair.then == scene && !stands_in(begun, pair.first) {
-            return false;
-        }
-    }
-    true
-}
-
-fn with_scene(alloc: Global, begun: &[u16], scene: u16) -> Result<Vec<u16>, AllocError>
-    ensures { IfOk result (λ v. v.items ≡ begun.now ++ scene ∷ []) }
-{
-    let mut extended = Vec::from_slice(alloc, begun)?;
-    extended.push(scene)?;
-    Ok(extended)
-}
-
-fn complete(alloc: Global, inst: &Instance, order: &[u16]) -> Result<Cheapest, AllocError>
-    requires { IsOrder (length inst.now.scenes) order.now }
-    ensures order { IfOk result (λ best. best.order.items ≡ order.now) }
-    ensures pay { IfOk result (λ best. best.pay ≡ pay_of (film_of inst.now) order.now) }
+/// The path's scenes and what was paid.
+fn complete(alloc: Global, path: &Path) -> Result<Cheapest, Memory>
+    ensures order { IfOk result (λ best. best.order.items ≡ (path_data path.now).scenes) }
+    ensures pay { IfOk result (λ best. best.pay ≡ (path_data path.now).paid) }
 {
     Ok(Cheapest {
-        order: Vec::from_slice(alloc, order)?,
-        pay: pay(inst, order),
+        order: Vec::from_slice(alloc, path.scenes())?,
+        pay: path.paid(),
     })
 }
 

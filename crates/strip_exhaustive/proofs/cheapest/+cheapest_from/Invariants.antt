@@ -1,10 +1,17 @@
-use Rattle.std.proofs.Common.{◌-◌, length}
-use Rattle.strip_model.specs.Film.{film_of}
-use Rattle.strip_exhaustive.proofs.Search.{IsBestBelow}
+use Rattle.std.proofs.Common.{◌≡◌, ◌++◌}
+use Rattle.strip_mask.specs.Iter.{rest_of}
+use Rattle.strip_mask.specs.Set.{members, size}
+use Rattle.strip_film.specs.Shoot.{ready}
+use Rattle.strip_film.specs.Shown.{path_data}
+use Rattle.strip_exhaustive.proofs.Search.{IsBestAmong}
 use Rattle.strip_exhaustive.proofs.cheapest.+cheapest_from.Given as goal
 
 abbrev pub decreases-cheapest_from : goal.decreases-cheapest_from
-decreases-cheapest_from l = length l.inst.now.scenes - length l.begun.now
+decreases-cheapest_from l = size l.path.now.rest.0
 
+-- what is known of the ready scenes so far; these and those to come are the ready ones
 abbrev pub invariant-loop-scene : goal.invariant-loop-scene
-invariant-loop-scene l = IsBestBelow (film_of l.inst) l.begun l.scene l.best
+invariant-loop-scene l = record {
+  best : IsBestAmong l.film (path_data l.path).scenes l.yielded l.best;
+  turns : l.yielded ++ rest_of l.scene-iterator ≡ members (ready l.film l.path.rest.0);
+}
