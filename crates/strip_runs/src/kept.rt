@@ -1,226 +1,233 @@
 // Films with hold rates and pairs of scenes: their cheapest orders were found by another program,
 // from first and last positions.
+use crate::lists::{Lists, film_of, instance, instance_of, pairs_of, with_pairs};
 use std::alloc::Global;
 use std::test::Fail;
 use strip_exhaustive::cheapest_order;
-use strip_model::{Actor, Instance, Pair, Scene, is_order, keeps_pairs, pay};
+use strip_model::{Instance, Pair, is_order, keeps_pairs, pay};
 
-struct Film {
-    casts: &'static [u64],
-    days: &'static [u64],
-    rates: &'static [u64],
-    holds: &'static [u64],
-    pairs: &'static [(u16, u16)],
-    order: &'static [u16],
+/// A film, the first of its cheapest orders, and what that pays.
+pub(crate) struct Kept {
+    pub(crate) film: Lists,
+    order: &'static [u8],
     pay: u64,
 }
 
-static FILMS: [Film; 17] = [
-    Film {
-        casts: &[0b011, 0b110, 0b101],
-        days: &[1, 1, 1],
-        rates: &[1, 2, 3],
-        holds: &[1, 2, 3],
-        pairs: &[],
+pub(crate) static FILMS: [Kept; 17] = [
+    Kept {
+        film: Lists {
+            casts: &[0b011, 0b110, 0b101],
+            days: &[1, 1, 1],
+            rates: &[1, 2, 3],
+            holds: &[1, 2, 3],
+            pairs: &[],
+        },
         order: &[0, 1, 2],
         pay: 13,
     },
-    Film {
-        casts: &[0b011, 0b110, 0b101],
-        days: &[1, 1, 1],
-        rates: &[1, 2, 3],
-        holds: &[5, 1, 4],
-        pairs: &[],
+    Kept {
+        film: Lists {
+            casts: &[0b011, 0b110, 0b101],
+            days: &[1, 1, 1],
+            rates: &[1, 2, 3],
+            holds: &[5, 1, 4],
+            pairs: &[],
+        },
         order: &[0, 2, 1],
         pay: 13,
     },
-    Film {
-        casts: &[0b011, 0b110, 0b101],
-        days: &[1, 1, 1],
-        rates: &[0, 0, 0],
-        holds: &[1, 1, 1],
-        pairs: &[],
+    Kept {
+        film: Lists {
+            casts: &[0b011, 0b110, 0b101],
+            days: &[1, 1, 1],
+            rates: &[0, 0, 0],
+            holds: &[1, 1, 1],
+            pairs: &[],
+        },
         order: &[0, 1, 2],
         pay: 1,
     },
-    Film {
-        casts: &[0b011, 0b110, 0b101],
-        days: &[1, 1, 1],
-        rates: &[1, 2, 3],
-        holds: &[1, 2, 3],
-        pairs: &[(0, 1), (2, 1)],
+    Kept {
+        film: Lists {
+            casts: &[0b011, 0b110, 0b101],
+            days: &[1, 1, 1],
+            rates: &[1, 2, 3],
+            holds: &[1, 2, 3],
+            pairs: &[(0, 1), (2, 1)],
+        },
         order: &[0, 2, 1],
         pay: 14,
     },
-    Film {
-        casts: &[0b11, 0b11],
-        days: &[1, 2],
-        rates: &[0, 10],
-        holds: &[60, 1],
-        pairs: &[(1, 0)],
+    Kept {
+        film: Lists {
+            casts: &[0b11, 0b11],
+            days: &[1, 2],
+            rates: &[0, 10],
+            holds: &[60, 1],
+            pairs: &[(1, 0)],
+        },
         order: &[1, 0],
         pay: 30,
     },
-    Film {
-        casts: &[0b01, 0b01, 0b01],
-        days: &[2, 3, 5],
-        rates: &[25, 25],
-        holds: &[1, 1],
-        pairs: &[(2, 1)],
+    Kept {
+        film: Lists {
+            casts: &[0b01, 0b01, 0b01],
+            days: &[2, 3, 5],
+            rates: &[25, 25],
+            holds: &[1, 1],
+            pairs: &[(2, 1)],
+        },
         order: &[0, 2, 1],
         pay: 250,
     },
-    Film {
-        casts: &[0b001, 0b011, 0b110],
-        days: &[1, 1, 5],
-        rates: &[3, 0, 0],
-        holds: &[3, 60, 5],
-        pairs: &[(0, 1), (2, 0)],
+    Kept {
+        film: Lists {
+            casts: &[0b001, 0b011, 0b110],
+            days: &[1, 1, 5],
+            rates: &[3, 0, 0],
+            holds: &[3, 60, 5],
+            pairs: &[(0, 1), (2, 0)],
+        },
         order: &[2, 0, 1],
         pay: 66,
     },
-    Film {
-        casts: &[0b101, 0b111, 0b100, 0b010],
-        days: &[1, 3, 1, 1],
-        rates: &[40, 25, 10],
-        holds: &[1, 0, 60],
-        pairs: &[(1, 0)],
+    Kept {
+        film: Lists {
+            casts: &[0b101, 0b111, 0b100, 0b010],
+            days: &[1, 3, 1, 1],
+            rates: &[40, 25, 10],
+            holds: &[1, 0, 60],
+            pairs: &[(1, 0)],
+        },
         order: &[1, 0, 2, 3],
         pay: 310,
     },
-    Film {
-        casts: &[0b0010, 0b1011, 0b1101, 0b0101],
-        days: &[1, 1, 1, 1],
-        rates: &[40, 40, 0, 3],
-        holds: &[0, 40, 0, 60],
-        pairs: &[(0, 1), (2, 0)],
+    Kept {
+        film: Lists {
+            casts: &[0b0010, 0b1011, 0b1101, 0b0101],
+            days: &[1, 1, 1, 1],
+            rates: &[40, 40, 0, 3],
+            holds: &[0, 40, 0, 60],
+            pairs: &[(0, 1), (2, 0)],
+        },
         order: &[2, 0, 1, 3],
         pay: 266,
     },
-    Film {
-        casts: &[0b100, 0b100, 0b011, 0b001],
-        days: &[3, 1, 5, 3],
-        rates: &[10, 3, 3],
-        holds: &[5, 20, 5],
-        pairs: &[(1, 0), (1, 2), (2, 0)],
+    Kept {
+        film: Lists {
+            casts: &[0b100, 0b100, 0b011, 0b001],
+            days: &[3, 1, 5, 3],
+            rates: &[10, 3, 3],
+            holds: &[5, 20, 5],
+            pairs: &[(1, 0), (1, 2), (2, 0)],
+        },
         order: &[3, 1, 2, 0],
         pay: 137,
     },
-    Film {
-        casts: &[0b1101, 0b1110, 0b1010, 0b1001, 0b1110],
-        days: &[1, 3, 3, 1, 2],
-        rates: &[3, 40, 40, 10],
-        holds: &[3, 5, 5, 60],
-        pairs: &[(0, 1), (2, 4)],
+    Kept {
+        film: Lists {
+            casts: &[0b1101, 0b1110, 0b1010, 0b1001, 0b1110],
+            days: &[1, 3, 3, 1, 2],
+            rates: &[3, 40, 40, 10],
+            holds: &[3, 5, 5, 60],
+            pairs: &[(0, 1), (2, 4)],
+        },
         order: &[2, 3, 0, 1, 4],
         pay: 676,
     },
-    Film {
-        casts: &[0b1110, 0b0101, 0b1000, 0b0011, 0b0110],
-        days: &[3, 1, 5, 5, 2],
-        rates: &[40, 10, 3, 40],
-        holds: &[5, 5, 20, 40],
-        pairs: &[(1, 0), (2, 0), (2, 3), (2, 4)],
+    Kept {
+        film: Lists {
+            casts: &[0b1110, 0b0101, 0b1000, 0b0011, 0b0110],
+            days: &[3, 1, 5, 5, 2],
+            rates: &[40, 10, 3, 40],
+            holds: &[5, 5, 20, 40],
+            pairs: &[(1, 0), (2, 0), (2, 3), (2, 4)],
+        },
         order: &[2, 1, 0, 4, 3],
         pay: 743,
     },
-    Film {
-        casts: &[0b11010, 0b10100, 0b01010, 0b01001, 0b00101],
-        days: &[1, 5, 1, 2, 1],
-        rates: &[10, 0, 10, 25, 25],
-        holds: &[0, 0, 10, 0, 1],
-        pairs: &[],
+    Kept {
+        film: Lists {
+            casts: &[0b11010, 0b10100, 0b01010, 0b01001, 0b00101],
+            days: &[1, 5, 1, 2, 1],
+            rates: &[10, 0, 10, 25, 25],
+            holds: &[0, 0, 10, 0, 1],
+            pairs: &[],
+        },
         order: &[0, 1, 4, 2, 3],
         pay: 340,
     },
-    Film {
-        casts: &[0b0010, 0b1000, 0b1001, 0b1011, 0b1100, 0b0110],
-        days: &[1, 5, 3, 1, 1, 1],
-        rates: &[40, 0, 0, 25],
-        holds: &[40, 5, 5, 5],
-        pairs: &[(0, 5), (1, 2), (2, 5)],
+    Kept {
+        film: Lists {
+            casts: &[0b0010, 0b1000, 0b1001, 0b1011, 0b1100, 0b0110],
+            days: &[1, 5, 3, 1, 1, 1],
+            rates: &[40, 0, 0, 25],
+            holds: &[40, 5, 5, 5],
+            pairs: &[(0, 5), (1, 2), (2, 5)],
+        },
         order: &[1, 2, 3, 0, 4, 5],
         pay: 420,
     },
-    Film {
-        casts: &[0b00100, 0b01010, 0b10110, 0b10111, 0b01100, 0b01010],
-        days: &[3, 2, 3, 5, 3, 5],
-        rates: &[10, 0, 10, 0, 0],
-        holds: &[20, 20, 60, 60, 5],
-        pairs: &[(2, 1), (5, 2)],
+    Kept {
+        film: Lists {
+            casts: &[0b00100, 0b01010, 0b10110, 0b10111, 0b01100, 0b01010],
+            days: &[3, 2, 3, 5, 3, 5],
+            rates: &[10, 0, 10, 0, 0],
+            holds: &[20, 20, 60, 60, 5],
+            pairs: &[(2, 1), (5, 2)],
+        },
         order: &[5, 4, 2, 1, 3, 0],
         pay: 560,
     },
-    Film {
-        casts: &[0b110001, 0b011010, 0b101000, 0b001101, 0b111000, 0b000100],
-        days: &[1, 3, 1, 5, 2, 5],
-        rates: &[0, 40, 40, 3, 0, 40],
-        holds: &[1, 1, 0, 20, 0, 0],
-        pairs: &[(0, 5), (3, 2), (3, 4), (3, 5), (4, 5), (5, 2)],
+    Kept {
+        film: Lists {
+            casts: &[0b110001, 0b011010, 0b101000, 0b001101, 0b111000, 0b000100],
+            days: &[1, 3, 1, 5, 2, 5],
+            rates: &[0, 40, 40, 3, 0, 40],
+            holds: &[1, 1, 0, 20, 0, 0],
+            pairs: &[(0, 5), (3, 2), (3, 4), (3, 5), (4, 5), (5, 2)],
+        },
         order: &[0, 3, 1, 4, 5, 2],
         pay: 813,
     },
-    Film {
-        casts: &[0b11100, 0b01100, 0b10001, 0b11100, 0b00110, 0b00100],
-        days: &[2, 2, 5, 2, 2, 3],
-        rates: &[40, 10, 25, 3, 25],
-        holds: &[20, 20, 5, 0, 0],
-        pairs: &[],
+    Kept {
+        film: Lists {
+            casts: &[0b11100, 0b01100, 0b10001, 0b11100, 0b00110, 0b00100],
+            days: &[2, 2, 5, 2, 2, 3],
+            rates: &[40, 10, 25, 3, 25],
+            holds: &[20, 20, 5, 0, 0],
+            pairs: &[],
+        },
         order: &[0, 1, 3, 4, 5, 2],
         pay: 738,
     },
 ];
 
-fn instance(
-    alloc: Global,
-    casts: &[u64],
-    days: &[u64],
-    rates: &[u64],
-    holds: &[u64],
-) -> Result<Instance, Fail> {
-    let mut scenes = Vec::new(alloc);
-    for (number, (&cast, &days)) in casts.iter().zip(days).enumerate() {
-        let name = format!(in alloc; "s{number}")?;
-        scenes.push(Scene { name, days, cast })?;
-    }
-    let mut actors = Vec::new(alloc);
-    for (number, (&rate, &hold)) in rates.iter().zip(holds).enumerate() {
-        let name = format!(in alloc; "a{number}")?;
-        actors.push(Actor { name, rate, hold })?;
-    }
-    let inst = Instance::of(scenes, actors).ok_or("within the limits")?;
-    Ok(inst)
-}
-
-fn pairs_of(alloc: Global, pairs: &[(u16, u16)]) -> Result<Vec<Pair>, Fail> {
-    let mut list = Vec::new(alloc);
-    for &(first, then) in pairs {
-        list.push(Pair { first, then })?;
-    }
-    Ok(list)
-}
-
-fn with_pairs(alloc: Global, inst: Instance, pairs: &[(u16, u16)]) -> Result<Instance, Fail> {
-    let pairs = pairs_of(alloc, pairs)?;
-    if !inst.fits_pairs(&pairs) {
-        return Err("pairs that fit".into());
-    }
-    Ok(inst.with_pairs(pairs))
-}
-
 #[test]
 fn finds_the_cheapest_orders_that_keep_the_pairs(rt: HostRuntime) -> Result<(), Fail> {
     let alloc = rt.alloc();
-    for film in &FILMS {
-        let free = instance(alloc, film.casts, film.days, film.rates, film.holds)?;
-        let inst = with_pairs(alloc, free, film.pairs)?;
-        let best = cheapest_order(alloc, &inst)?;
-        assert_eq!(rt; best.pay, film.pay);
-        assert_eq!(rt; best.order.as_slice(), film.order);
-        assert!(rt; is_order(&inst, film.order));
-        assert!(rt; keeps_pairs(&inst, film.order));
+    for row in &FILMS {
+        let best = cheapest_order(alloc, &film_of(alloc, &row.film)?)?;
+        assert_eq!(rt; best.pay, row.pay);
+        assert_eq!(rt; best.order.as_slice(), row.order);
+        let inst = instance_of(alloc, &row.film)?;
+        let order = widened(alloc, row.order)?;
+        if !is_order(&inst, &order) {
+            return Err("an order".into());
+        }
+        assert_eq!(rt; pay(&inst, &order), row.pay);
+        assert!(rt; keeps_pairs(&inst, &order));
     }
     Ok(())
+}
+
+// A film's scene numbers as an instance's.
+fn widened(alloc: Global, order: &[u8]) -> Result<Vec<u16>, Fail> {
+    let mut scenes = Vec::new(alloc);
+    for &scene in order {
+        scenes.push(scene as u16)?;
+    }
+    Ok(scenes)
 }
 
 // Three scenes of two actors each, one day each.

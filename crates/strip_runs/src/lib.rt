@@ -1,7 +1,10 @@
 //! Tests: whole runs of the program over files and sinks in memory, what it prints and how it ends;
-//! rows and instance texts; words and jobs; films, their paths and their cheapest orders; files and sinks.
+//! rows and instance texts; words and jobs; films, their paths, their cheapest orders and their classes;
+//! files and sinks.
 #![tactic(auto)]
 
+#[cfg(test)]
+mod classes;
 #[cfg(test)]
 mod exports;
 #[cfg(test)]
@@ -13,7 +16,11 @@ mod jobs;
 #[cfg(test)]
 mod kept;
 #[cfg(test)]
+mod lists;
+#[cfg(test)]
 mod paths;
+#[cfg(test)]
+mod reduced;
 #[cfg(test)]
 mod refusals;
 #[cfg(test)]

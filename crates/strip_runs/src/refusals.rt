@@ -1,10 +1,12 @@
 // Files that are refused, and the rows that say so.
-use crate::runs::{SOLVE, check};
+use crate::lists::casts_of_two;
+use crate::runs::{EIGHT, SOLVE, check, of_one_actor};
 use std::alloc::{AllocError, Global};
 use std::test::Fail;
 use strip_answer::told_row;
 use strip_instance::InstanceFault;
 use strip_io::Memory;
+use strip_mask::Mask;
 use strip_text::Told;
 use strip_top::Refusal;
 
@@ -94,24 +96,41 @@ fn texts_that_say_no_film_are_refused(rt: HostRuntime) -> Result<(), Fail> {
     check(&rt, &SOLVE, latin, 5, "error,NotUtf8,3,1\n")
 }
 
-/// A film of this many scenes where nobody plays.
-fn with_scenes(alloc: Global, scenes: u64) -> Result<String, AllocError> {
-    let mut text = String::from_str(alloc, "scene,days\nrate,\n")?;
-    for number in 0..scenes {
-        let row = format!(in alloc; "s{number},1\n")?;
-        text.push_str(row.as_str())?;
+#[test]
+fn a_201st_scene_is_too_many(rt: HostRuntime) -> Result<(), Fail> {
+    let film = of_one_actor(rt.alloc(), 201)?;
+    check(&rt, &SOLVE, film.as_bytes(), 5, "error,TooManyScenes,,\n")
+}
+
+// A film of 200 scenes of two actors each, with so many casts.
+fn of_two_actors(alloc: Global, kinds: usize) -> Result<String, Fail> {
+    let head = "scene,days,a,b,c,d,e,f,g,h,i,j,k,l,m\nrate,,1,1,1,1,1,1,1,1,1,1,1,1,1\n";
+    let mut text = String::from_str(alloc, head)?;
+    for (number, cast) in casts_of_two(alloc, 200, kinds)?.iter().enumerate() {
+        let name = format!(in alloc; "s{number},1")?;
+        text.push_str(name.as_str())?;
+        push_marks(&mut text, *cast)?;
     }
     Ok(text)
 }
 
+fn push_marks(text: &mut String, cast: u64) -> Result<(), AllocError> {
+    for actor in 0..13 {
+        text.push_str(if Mask(cast).has(actor) { ",x" } else { ",." })?;
+    }
+    text.push('\n')
+}
+
 #[test]
-fn nine_scenes_are_too_many(rt: HostRuntime) -> Result<(), Fail> {
-    for (scenes, row) in [
-        (9, "error,TooManyClasses,9,\n"),
-        (200, "error,TooManyClasses,200,\n"),
-        (201, "error,TooManyScenes,,\n"),
+fn nine_classes_are_too_many(rt: HostRuntime) -> Result<(), Fail> {
+    let alloc = rt.alloc();
+    let nine = format!(in alloc; "{EIGHT}s9,1,.,.,x,.,x\n")?;
+    check(&rt, &SOLVE, nine.as_bytes(), 5, "error,TooManyClasses,9,\n")?;
+    for (kinds, row) in [
+        (64, "error,TooManyClasses,64,\n"),
+        (70, "error,TooManyClasses,70,\n"),
     ] {
-        let film = with_scenes(rt.alloc(), scenes)?;
+        let film = of_two_actors(alloc, kinds)?;
         check(&rt, &SOLVE, film.as_bytes(), 5, row)?;
     }
     Ok(())

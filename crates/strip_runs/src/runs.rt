@@ -55,8 +55,13 @@ pub(crate) fn solved(alloc: Global, pay: &str, order: &str) -> Result<String, Al
     format!(in alloc; "status,optimal\ncost,{pay}\nbound,{pay}\nlines,0\norder,{order}\n")
 }
 
-// A film, its least pay, and the first order that costs it.
-const WORKED: [(&str, &str, &str); 10] = [
+/// Eight scenes whose casts are pairs of five actors, and which are as many classes.
+pub(crate) const EIGHT: &str = "scene,days,a,b,c,d,e\nrate,,1,2,3,4,5\n\
+    s1,1,x,x,.,.,.\ns2,1,x,.,x,.,.\ns3,1,x,.,.,x,.\ns4,1,x,.,.,.,x\n\
+    s5,1,.,x,x,.,.\ns6,1,.,x,.,x,.\ns7,1,.,x,.,.,x\ns8,1,.,.,x,x,.\n";
+
+// A film, its least pay, and the order that is printed.
+const WORKED: [(&str, &str, &str); 12] = [
     (TRIANGLE, "13", "s1,s2,s3"),
     (
         "scene,days,a1,a2\nrate,,10,20\ns1,1,x,.\ns2,1,.,x\ns3,1,x,x\n",
@@ -64,6 +69,10 @@ const WORKED: [(&str, &str, &str); 10] = [
         "s1,s3,s2",
     ),
     ("scene,days,a\nrate,,100\ns1,2,x\n", "200", "s1"),
+    // nobody plays
+    ("scene,days\nrate,\ns1,1\ns2,2\n", "0", "s1,s2"),
+    // the most classes that are solved
+    (EIGHT, "51", "s2,s5,s8,s3,s6,s1,s7,s4"),
     // two scenes of one cast apart in the file
     (
         "scene,days,a,b,c\nrate,,1,2,3\ns1,1,x,x,.\ns2,1,.,x,x\ns3,1,x,.,x\ns4,1,x,x,.\n",
@@ -109,6 +118,37 @@ const WORKED: [(&str, &str, &str); 10] = [
 fn worked_films_are_solved(rt: HostRuntime) -> Result<(), Fail> {
     for (film, pay, order) in &WORKED {
         let printed = solved(rt.alloc(), pay, order)?;
+        check(&rt, &SOLVE, film.as_bytes(), 0, printed.as_str())?;
+    }
+    Ok(())
+}
+
+/// A film of this many scenes of one actor, a day each.
+pub(crate) fn of_one_actor(alloc: Global, scenes: u64) -> Result<String, AllocError> {
+    let mut text = String::from_str(alloc, "scene,days,a\nrate,,1\n")?;
+    for number in 0..scenes {
+        let row = format!(in alloc; "s{number},1,x\n")?;
+        text.push_str(row.as_str())?;
+    }
+    Ok(text)
+}
+
+// The names of its scenes in the order of the file.
+fn names(alloc: Global, scenes: u64) -> Result<String, AllocError> {
+    let mut text = String::from_str(alloc, "s0")?;
+    for number in 1..scenes {
+        let name = format!(in alloc; ",s{number}")?;
+        text.push_str(name.as_str())?;
+    }
+    Ok(text)
+}
+
+#[test]
+fn scenes_of_one_cast_are_one_class(rt: HostRuntime) -> Result<(), Fail> {
+    let alloc = rt.alloc();
+    for (scenes, pay) in [(9, "9"), (200, "200")] {
+        let film = of_one_actor(alloc, scenes)?;
+        let printed = solved(alloc, pay, names(alloc, scenes)?.as_str())?;
         check(&rt, &SOLVE, film.as_bytes(), 0, printed.as_str())?;
     }
     Ok(())

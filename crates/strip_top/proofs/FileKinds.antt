@@ -4,6 +4,8 @@ use Rattle.std.proofs.lemmas.Bool.{cond-true, cond-false, le-leb}
 use Rattle.std.proofs.lemmas.Bool.Decides.{nat_tests}
 use Rattle.std.proofs.lemmas.List.{length-replicate}
 use Rattle.strip_model.specs.Data.{InstanceData}
+use Rattle.strip_model.specs.Film.{film_of}
+use Rattle.strip_reduce.specs.Reduction.{class_count}
 use Rattle.strip_instance.specs.Text.{says}
 use Rattle.strip_answer.specs.declared.status.Status.{Status}
 use Rattle.strip_answer.specs.declared.status.Status.TheVariants.{Done, BadInstance}
@@ -16,8 +18,8 @@ pub long_kind : (text : List ℕ) → 1_048_576 < length text → file_kind text
 long_kind text long = cond-false (leb (length text) 1_048_576) (kind_of_reading (says text)) TooLong (not_short (length text) 1_048_576 long)
 
 -- an instance of few classes is solved
-pub few_kind : (inst : InstanceData) → length inst.scenes ≤ 8 → kind_of_reading (Ok inst) ≡ Fit inst
-few_kind inst few = cond-true (leb (length inst.scenes) 8) (Fit inst) (TooMany (length inst.scenes)) (le-leb (length inst.scenes) 8 few)
+pub few_kind : (inst : InstanceData) → class_count (film_of inst) ≤ 8 → kind_of_reading (Ok inst) ≡ Fit inst
+few_kind inst few = cond-true (leb (class_count (film_of inst)) 8) (Fit inst) (TooMany (class_count (film_of inst))) (le-leb (class_count (film_of inst)) 8 few)
 
 -- where a text tells too many bytes it is such a text, and where it isn't told there is one
 pub long_text : (limit : ℕ) (told : Option (List ℕ)) → ((bytes : List ℕ) → told ≡ Some bytes → limit < length bytes)

@@ -1,4 +1,5 @@
 mod Lists
 mod FileKinds
+mod Bests
 mod Endings
 mod Regrouped

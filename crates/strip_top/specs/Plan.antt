@@ -1,8 +1,7 @@
 -- The head rows of a plan whose order is optimal.
 use Rattle.std.specs.Prelude.{◌≡◌, ℕ, List, [], ◌∷◌, map, codes, slice_index_or}
 use Rattle.std.specs.Fmt.{decimal}
-use Rattle.strip_pay.specs.Order.{IsKeptOrder}
-use Rattle.strip_pay.specs.Pay.{IsLeast, pay_of}
+use Rattle.strip_pay.specs.Pay.{IsBestOrder}
 use Rattle.strip_model.specs.Data.{InstanceData, IsInstance}
 use Rattle.strip_model.specs.Film.{film_of}
 use Rattle.strip_text.specs.Rows.{Row, csv_text}
@@ -25,8 +24,8 @@ plan_rows inst order cost =
 -- the instance keeps the limits, and has no pairs, so that every order keeps them
 pub record IsPlan (inst : InstanceData) (text : List ℕ) : Type 0 where
   pub order : List ℕ
+  pub cost : ℕ
   pub is_instance : IsInstance inst
   pub no_pairs : inst.pairs ≡ []
-  pub is_order : IsKeptOrder (film_of inst) order
-  pub least : IsLeast (film_of inst) (pay_of (film_of inst) order)
-  pub rows : text ≡ csv_text (plan_rows inst order (pay_of (film_of inst) order))
+  pub best : IsBestOrder (film_of inst) order cost
+  pub rows : text ≡ csv_text (plan_rows inst order cost)

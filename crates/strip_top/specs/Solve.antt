@@ -1,6 +1,8 @@
 -- The command `solve`: what its file is, and what it asks for.
 use Rattle.std.specs.Prelude.{◌≡◌, ℕ, ◌<◌, ◌≤◌, nat_le, List, length, Some, Result, Ok, Err, if◌then◌else◌}
 use Rattle.strip_model.specs.Data.{InstanceData}
+use Rattle.strip_model.specs.Film.{film_of}
+use Rattle.strip_reduce.specs.Reduction.{class_count}
 use Rattle.strip_io.specs.Counts.{CameAtLeast, CameOnly}
 use Rattle.strip_text.specs.Told.{ToldData}
 use Rattle.strip_words.specs.Solve.{SolveData}
@@ -23,7 +25,8 @@ pub data FileKind : Type 0 where
   Fit : InstanceData → FileKind
 
 abbrev pub kind_of_reading : Result InstanceData InstanceFault → FileKind
-kind_of_reading (Ok inst) = if nat_le (length inst.scenes) 8 then Fit inst else TooMany (length inst.scenes)
+kind_of_reading (Ok inst) =
+    if nat_le (class_count (film_of inst)) 8 then Fit inst else TooMany (class_count (film_of inst))
 kind_of_reading (Err fault) = Faulty fault
 
 -- by the file's text

@@ -2,6 +2,7 @@
 #![tactic(auto)]
 
 mod answer;
+mod best;
 mod plan;
 mod program;
 mod refusal;
@@ -9,4 +10,4 @@ mod solve;
 
 pub use program::report;
 pub use refusal::Refusal;
-pub use solve::{MAX_CLASSES, MAX_FILE};
+pub use solve::{MAX_FILE, MAX_TRIED};

@@ -5,27 +5,26 @@ ghost use Rattle.strip_text.specs.Rows.{csv_row, csv_text};
 ghost use Rattle.strip_top.specs.Plan.{plan_rows, scene_name};
 
 use std::alloc::Global;
-use strip_exhaustive::Cheapest;
 use strip_io::Memory;
 use strip_model::Instance;
 use strip_text::Text;
 
-/// The five head rows of a plan whose order is optimal.
+/// The five head rows of a plan whose order is optimal: it costs this, in units of money.
 pub(crate) fn optimal_head(
     alloc: Global,
     inst: &Instance,
-    best: &Cheapest,
+    order: &[u16],
+    cost: u64,
 ) -> Result<Vec<u8>, Memory>
-    requires { All (λ scene. scene < length inst.now.scenes) best.now.order.items }
-    ensures { IfOk result (λ text. text.items ≡ csv_text (plan_rows inst.now best.now.order.items best.now.pay)) }
+    requires { All (λ scene. scene < length inst.now.scenes) order.now }
+    ensures { IfOk result (λ text. text.items ≡ csv_text (plan_rows inst.now order.now cost)) }
 {
-    let cost = best.pay;
     let mut text = Text::new(alloc);
     push_word(alloc, &mut text, b"status", b"optimal")?;
     push_number(alloc, &mut text, b"cost", cost)?;
     push_number(alloc, &mut text, b"bound", cost)?;
     push_word(alloc, &mut text, b"lines", b"0")?;
-    push_order(alloc, &mut text, inst, &best.order)?;
+    push_order(alloc, &mut text, inst, order)?;
     text.into_bytes()
 }
 

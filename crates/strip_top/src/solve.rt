@@ -2,6 +2,10 @@
 ghost use Rattle.std.specs.Prelude.{◌≡◌, ◌≢◌, ◌≤◌, [], length, string_bytes, Ok, Err, IfOk, OnOk};
 ghost use Rattle.strip_io.specs.Counts.{ReadFailed};
 ghost use Rattle.strip_words.specs.Shown.{solve_data};
+ghost use Rattle.strip_model.specs.Film.{film_of};
+ghost use Rattle.strip_reduce.specs.Law.{StandsFor};
+ghost use Rattle.strip_reduce.specs.Reduction.{reduced as reduction};
+ghost use Rattle.strip_reduce.specs.Shown.{reduced_data};
 ghost use Rattle.strip_instance.specs.declared.fault.InstanceFault.TheVariants.{Memory as OutOfMemory};
 ghost use Rattle.strip_answer.specs.declared.status.Status.TheVariants.{BadInstance};
 ghost use Rattle.strip_answer.specs.Rows.{error_row};
@@ -9,22 +13,23 @@ ghost use Rattle.strip_answer.specs.Run.{FilesStay, files_data};
 ghost use Rattle.strip_top.specs.Refusal.{told_of};
 ghost use Rattle.strip_top.specs.Solve.{IsAnswerTo, IsSolveDue, file_kind, kind_of_reading};
 
+use crate::best::best_order;
 use crate::plan::optimal_head;
 use crate::refusal::Refusal;
 use std::alloc::Global;
 use strip_answer::{Answer, Status, Stop};
-use strip_exhaustive::cheapest_order;
 use strip_instance::laws::what_is_said_has_no_pairs;
 use strip_instance::{InstanceFault, read_instance};
 use strip_io::{Files, LoadFault, Memory, load};
 use strip_model::Instance;
+use strip_reduce::{ReduceFault, Reduced, reduce};
 use strip_words::SolveJob;
 
 /// How many bytes an instance file may have.
 pub const MAX_FILE: u64 = 1_048_576;
 
-/// How many classes of scenes are solved. Each scene is a class of its own: scenes aren't merged.
-pub const MAX_CLASSES: usize = 8;
+/// How many classes are tried in every order.
+pub const MAX_TRIED: usize = 8;
 
 /// The answer to a job: an order of its file's film that pays least, or why there is none. The
 /// options of the job change nothing so far.
@@ -66,12 +71,30 @@ fn solve_instance(alloc: Global, inst: &Instance) -> Result<Answer, Memory>
     requires { inst.now.pairs ≡ [] }
     ensures { IfOk result (λ answer. IsAnswerTo (kind_of_reading (Ok inst.now)) answer.status answer.text.items) }
 {
-    let classes = inst.scenes().len();
-    if classes > MAX_CLASSES {
+    match reduce(alloc, inst) {
+        Ok(reduced) => solve_classes(alloc, inst, &reduced),
+        Err(ReduceFault::TooManyClasses { count }) => refused(
+            alloc,
+            Refusal::TooManyClasses(count),
+        ),
+        Err(ReduceFault::Memory) => Err(Memory),
+    }
+}
+
+/// The answer to an instance that was reduced to these classes.
+fn solve_classes(alloc: Global, inst: &Instance, reduced: &Reduced) -> Result<Answer, Memory>
+    requires no_pairs { inst.now.pairs ≡ [] }
+    requires reduced { reduced_data reduced.now ≡ reduction (film_of inst.now) }
+    requires stands { StandsFor (film_of inst.now) (reduced_data reduced.now) }
+    ensures { IfOk result (λ answer. IsAnswerTo (kind_of_reading (Ok inst.now)) answer.status answer.text.items) }
+{
+    let classes = reduced.film.scenes();
+    if classes > MAX_TRIED {
         return refused(alloc, Refusal::TooManyClasses(classes as u64));
     }
-    let best = cheapest_order(alloc, inst)?;
-    let text = optimal_head(alloc, inst, &best)?;
+    inst.keeps_limits();
+    let best = best_order(alloc, reduced)?;
+    let text = optimal_head(alloc, inst, &best.order, best.pay)?;
     let status = Status::Done;
     Ok(Answer { status, text })
 }
