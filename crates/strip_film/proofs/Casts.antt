@@ -25,7 +25,7 @@ has-fold casts acc actor (s ∷ scenes) =
     ∙ ap (λ (b : Bool). b || list_any (λ scene. has (slice_index casts scene) actor) scenes) (has-union acc (slice_index casts s) actor)
     ∙ or_assoc (has acc actor) (has (slice_index casts s) actor) (list_any (λ scene. has (slice_index casts scene) actor) scenes)
 
-has-cast_of : (film : FilmData) (set actor : ℕ) → has (cast_of film set) actor ≡ list_any (works film actor) (members set)
+pub has-cast_of : (film : FilmData) (set actor : ℕ) → has (cast_of film set) actor ≡ list_any (works film actor) (members set)
 has-cast_of film set actor =
     has-fold film.casts 0 actor (members set) ∙ ap (λ (b : Bool). b || list_any (works film actor) (members set)) (has-empty actor)
 

@@ -1,16 +1,17 @@
 -- Costs stay within the limits.
-use Rattle.std.proofs.Common.{◌≡◌, ℕ, ◌+◌, ◌*◌, ◌≤◌, Bool, true, false, cond, not, List, [], ◌∷◌, length, sum, slice_index, ap, ◌∙◌, arith}
+use Rattle.std.proofs.Common.{◌≡◌, ℕ, ◌+◌, ◌*◌, ◌<◌, ◌≤◌, Bool, true, false, cond, not, List, [], ◌∷◌, length, sum, slice_index, ap, ◌∙◌, arith}
 use Rattle.std.proofs.lemmas.List.{take_all}
+use Rattle.std.proofs.lemmas.Nat.{mul-le}
 use Rattle.std.proofs.Math.Nat.{mul-le-mul_left}
 use Rattle.strip_mask.specs.Set.{IsSet, has, without, minus, sum_over}
 use Rattle.strip_mask.specs.Sums.{sum_below}
 use Rattle.strip_mask.proofs.ByMembers.{IsSet-without, has-minus, has_from_minus}
-use Rattle.strip_mask.proofs.Below.{and_true}
+use Rattle.strip_mask.proofs.Below.{and_true, has_full, IsSet-full}
 use Rattle.strip_mask.proofs.Sums.{sum_below_mono, sum_below-take}
-use Rattle.strip_mask.proofs.Totals.{sum_over_within, sum_over-without, sum_over_mono}
+use Rattle.strip_mask.proofs.Totals.{sum_over_within, sum_over-without, sum_over_mono, value_le_sum_over}
 use Rattle.strip_pay.specs.Film.{FilmData}
 use Rattle.strip_film.specs.declared.limits.TheConstants.{MAX_DAY_SUM, MAX_RATE_SUM}
-use Rattle.strip_film.specs.Film.{IsFilm}
+use Rattle.strip_film.specs.Film.{IsFilm, all_scenes}
 use Rattle.strip_film.specs.Shoot.{on_location, step_cost}
 use Rattle.strip_film.specs.Finish.{steps_cost}
 use Rattle.strip_film.proofs.Lists.{AllRemained}
@@ -71,6 +72,21 @@ steps_limit film set scenes is lies remained = omega (arith, steps_small film se
 pub step_limit : (film : FilmData) (set scene : ℕ) → IsFilm film → IsSet set → has set scene ≡ true
     → step_cost film set scene ≤ MAX_DAY_SUM * most_a_day
 step_limit film set scene is lies there = omega (arith, steps_limit film set (scene ∷ []) is lies (there, tt))
+
+-- so does a scene with any actors on location
+pub scene_limit : (film : FilmData) (on scene : ℕ) → IsFilm film → scene < length film.casts
+    → slice_index film.days scene * (sum_over film.rates (slice_index film.casts scene) + sum_over film.holds (minus on (slice_index film.casts scene)))
+    ≤ MAX_DAY_SUM * most_a_day
+scene_limit film on scene is known =
+    let cast : ℕ = slice_index film.casts scene in
+    let days : slice_index film.days scene ≤ MAX_DAY_SUM
+    = omega (
+      arith,
+      value_le_sum_over film.days (all_scenes film) scene (IsSet-full (length film.casts) is.scene_count.1) (has_full (length film.casts) scene known),
+      days_small film (all_scenes film) is,
+    ) in
+    mul-le (slice_index film.days scene) (sum_over film.rates cast + sum_over film.holds (minus on cast)) MAX_DAY_SUM most_a_day days
+    (omega (arith, rate_limit film cast is, hold_limit film (minus on cast) is))
 
 -- fewer actors on location never cost more
 pub step_monotone : (film : FilmData) (scene few many : ℕ) → ((actor : ℕ) → has few actor ≡ true → has many actor ≡ true)

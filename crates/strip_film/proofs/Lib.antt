@@ -4,6 +4,8 @@ pub mod Table
 pub mod Chosen
 pub mod Casts
 pub mod Located
+pub mod Counts
+pub mod Turned
 pub mod Walk
 pub mod StepSum
 pub mod Orders
@@ -11,6 +13,8 @@ pub mod Optimum
 pub mod Least
 pub mod Costs
 pub mod Paths
+pub mod Moves
+pub mod Started
 pub mod Justified
 pub mod Ahead
 pub mod Rows

@@ -4,6 +4,7 @@ use Rattle.strip_mask.specs.Set.{has, union, meet, minus, with, without, members
 use Rattle.strip_pay.specs.Film.{FilmData}
 use Rattle.strip_film.specs.Shoot.{on_location, ready, step_cost}
 use Rattle.strip_film.specs.Finish.{steps_cost}
+use Rattle.strip_film.specs.Running.{scenes_with}
 use Rattle.strip_film.specs.Bounds.{plain_bound}
 use Rattle.strip_film.specs.Rules.{Rules, known, ahead}
 
@@ -50,6 +51,23 @@ look_at_triangle = refl
 known_of_triangle : known triangle_rules (record { set = 6; bound = 10 } ∷ record { set = 5; bound = 11 } ∷ []) 6 ≡ 10
 unfolding has members numbers_below sum_over
 known_of_triangle = refl
+
+-- after the first scene the first actor has one done and one left, and the third has two left; after the second these two wait
+one_left_of_first : scenes_with triangle 6 0 ≡ 1
+unfolding has members numbers_below
+one_left_of_first = refl
+
+one_done_of_first : scenes_with triangle (minus 7 6) 0 ≡ 1
+unfolding has minus members numbers_below
+one_done_of_first = refl
+
+two_left_of_third : scenes_with triangle 6 2 ≡ 2
+unfolding has members numbers_below
+two_left_of_third = refl
+
+located_after_two : on_location triangle 4 ≡ 5
+unfolding has union meet minus with full members numbers_below
+located_after_two = refl
 
 -- the same scenes with hold rates of their own
 abbrev held : FilmData

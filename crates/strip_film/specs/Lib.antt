@@ -2,6 +2,7 @@ pub mod Film
 pub mod Shoot
 pub mod Finish
 pub mod Path
+pub mod Running
 pub mod Bounds
 pub mod Rules
 pub mod Shown

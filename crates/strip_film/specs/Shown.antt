@@ -1,9 +1,11 @@
--- What contracts see of paths and cursors.
+-- What contracts see of paths, cursors and running states.
 use Rattle.std.specs.Prelude.{ℕ, take, Option}
 use Rattle.std.specs.Option.{option_map}
 use Rattle.strip_film.specs.declared.path.Path.{Path}
 use Rattle.strip_film.specs.declared.cursor.Cursor.{Cursor}
+use Rattle.strip_film.specs.declared.running.Running.{Running}
 use Rattle.strip_film.specs.Path.{PathData}
+use Rattle.strip_film.specs.Running.{RunningData}
 
 -- a path: its scenes in shooting order, what remains, and what was paid
 abbrev pub path_data : Path → PathData
@@ -16,3 +18,13 @@ pub record CursorData : Type 0 where
 -- a cursor: its task, and its last path, if it has one
 abbrev pub cursor_data : Cursor → CursorData
 cursor_data cursor = record { task = cursor.task; last = option_map path_data cursor.last }
+
+-- a running state: its path, and its numbers
+abbrev pub running_data : Running → RunningData
+running_data running = record {
+  path = path_data running.path;
+  done = running.done;
+  left = running.left;
+  on = running.on.0;
+  before = running.before;
+}

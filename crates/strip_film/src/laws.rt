@@ -10,6 +10,7 @@ ghost use Rattle.strip_film.specs.Shoot.{cast_of, on_location, ready, step_cost}
 ghost use Rattle.strip_film.specs.Located.{IsReady, WorksInside, WorksOutside};
 ghost use Rattle.strip_film.specs.Finish.{AreFirsts, EachOnce, IsAtMostFinish, IsFinish, steps_cost};
 ghost use Rattle.strip_film.specs.Path.{IsPath, PathData};
+ghost use Rattle.strip_film.specs.Running.{IsRunning, RunningData};
 ghost use Rattle.strip_film.specs.Rules.{AreJustified, BeginLeast, BoundsFinish, FirstsAreReady, Rules, ahead, known};
 
 /// A set's cast is who works in a scene of it. On location is who also works in a scene outside it,
@@ -68,6 +69,13 @@ pub fn ready_firsts_begin_least_tails()
 /// What remains after a path lies in the film.
 pub fn what_remains_lies_in_the_film()
     ensures { (film : FilmData) (path : PathData) → IsPath film path → LiesIn film path.rest }
+{}
+
+/// The counts of a running state say who is on location: who of the film's actors has a scene done and
+/// a scene left.
+pub fn counts_tell_who_is_on_location()
+    ensures { (film : FilmData) (state : RunningData) (actor : ℕ) → IsRunning film state → actor < length film.rates
+        → (has state.on actor ≡ true) ↔ ((0 < slice_index state.done actor) × (0 < slice_index state.left actor)) }
 {}
 
 /// Fewer actors on location never cost more.

@@ -7,6 +7,7 @@ mod film;
 pub mod laws;
 mod limits;
 mod path;
+mod running;
 mod shared;
 mod shoot;
 
@@ -14,5 +15,6 @@ pub use cursor::Cursor;
 pub use film::Film;
 pub use limits::{MAX_COUNT, MAX_DAY_SUM, MAX_RATE_SUM};
 pub use path::Path;
+pub use running::Running;
 pub use shared::{Known, Line, Listed, Noted, Probe};
 pub use shoot::{cast_of, on, ready, step};

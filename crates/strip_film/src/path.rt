@@ -1,6 +1,6 @@
 // The scenes shot so far.
-ghost use Rattle.std.specs.Prelude.{◌≡◌, ◌↔◌, ◌+◌, ◌≤◌, true, [], ◌∷◌, ◌++◌, IsTrue};
-ghost use Rattle.strip_mask.specs.Set.{has, without};
+ghost use Rattle.std.specs.Prelude.{◌≡◌, ◌↔◌, ◌+◌, ◌<◌, ◌≤◌, ◌^◌, true, [], ◌∷◌, ◌++◌, length, All, IsTrue};
+ghost use Rattle.strip_mask.specs.Set.{has, with, without};
 ghost use Rattle.strip_film.specs.declared.limits.TheConstants.{MAX_COUNT};
 ghost use Rattle.strip_film.specs.Film.{all_scenes};
 ghost use Rattle.strip_film.specs.Shoot.{ready, step_cost};
@@ -74,11 +74,40 @@ impl Path {
     {
         film.keeps_limits();
         let mut next = *self;
-        next.paid += step(film, self.rest, s);
-        next.rest = self.rest.without(s);
-        next.list[next.len] = s as u8;
-        next.len += 1;
+        next.push(s, step(film, self.rest, s));
         next
+    }
+
+    /// Scene `s` shot next, in place, for a step that costs `step`.
+    pub(crate) fn push(&mut self, s: u32, step: u64)
+        requires scene { s < MAX_COUNT }
+        requires room { length (path_data self.old).scenes < MAX_COUNT }
+        requires sum { (path_data self.old).paid + step < 2 ^ 64 }
+        ensures { path_data self.new ≡ record {
+          scenes = (path_data self.old).scenes ++ s ∷ [];
+          rest = without (path_data self.old).rest s;
+          paid = (path_data self.old).paid + step;
+        } }
+    {
+        self.paid += step;
+        self.rest = self.rest.without(s);
+        self.list[self.len] = s as u8;
+        self.len += 1;
+    }
+
+    /// Takes back the last scene, in place, and answers it; `paid` is what was paid before it.
+    pub(crate) fn pop(&mut self, paid: u64) -> u32
+        requires some { 0 < length (path_data self.old).scenes }
+        requires known { All (λ scene. scene < MAX_COUNT) (path_data self.old).scenes }
+        ensures scenes { (path_data self.old).scenes ≡ (path_data self.new).scenes ++ result ∷ [] }
+        ensures rest { (path_data self.new).rest ≡ with (path_data self.old).rest result }
+        ensures paid { (path_data self.new).paid ≡ paid }
+    {
+        self.len -= 1;
+        let s = self.list[self.len] as u32;
+        self.rest = self.rest.with(s);
+        self.paid = paid;
+        s
     }
 
     /// Whether this path comes before the other, by the order of their scenes in which a proper

@@ -1,6 +1,6 @@
 // The state of a shoot, when a set of scenes remains.
-ghost use Rattle.std.specs.Prelude.{◌≡◌, true};
-ghost use Rattle.strip_mask.specs.Set.{has};
+ghost use Rattle.std.specs.Prelude.{◌≡◌, ◌+◌, ◌*◌, ◌<◌, true, length, slice_index};
+ghost use Rattle.strip_mask.specs.Set.{LiesBelow, has, minus, sum_over};
 ghost use Rattle.strip_film.specs.Film.{LiesIn};
 ghost use Rattle.strip_film.specs.Shoot.{cast_of, on_location, ready, step_cost};
 
@@ -38,8 +38,20 @@ pub fn step(film: &Film, q: Mask, s: u32) -> u64
     ensures { result ≡ step_cost film.now q.0 s }
 {
     film.keeps_limits();
+    step_with(film, on(film, q), s)
+}
+
+/// What it costs to shoot scene `s` next while the actors of the set are on location, like `step`. One
+/// turn for each actor who is paid.
+pub(crate) fn step_with(film: &Film, on: Mask, s: u32) -> u64
+    requires known { s < length film.now.casts }
+    requires actors { LiesBelow (length film.now.rates) on.0 }
+    ensures { result ≡ slice_index film.now.days s * (sum_over film.now.rates (slice_index film.now.casts s)
+        + sum_over film.now.holds (minus on.0 (slice_index film.now.casts s))) }
+{
+    film.keeps_limits();
     let cast = Mask(film.casts()[s as usize]);
-    let waiting = on(film, q).minus(cast);
+    let waiting = on.minus(cast);
     let (rates, holds) = (film.rates(), film.holds());
     film.days()[s as usize] * (sum_over(rates, cast) + sum_over(holds, waiting))
 }

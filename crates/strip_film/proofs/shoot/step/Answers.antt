@@ -1,33 +1,8 @@
-use Rattle.std.proofs.Common.{length, slice_index, arith}
-use Rattle.strip_mask.proofs.Below.{is_set_below}
-use Rattle.strip_film.proofs.Located.{waiting_lies}
-use Rattle.strip_film.proofs.Costs.{rate_limit, hold_limit, step_limit}
+use Rattle.strip_film.proofs.Located.{location_lies}
 use Rattle.strip_film.proofs.shoot.step.Goals as goal
 
-pub sum_over-requires-clause-fits : goal.sum_over-requires-clause-fits
-sum_over-requires-clause-fits c = rw (c.casts.ensures, c.rates-rates.ensures)
-    (omega (arith, rate_limit c.args.film.now (slice_index c.args.film.now.casts c.args.s) c.keeps_limits.ensures))
+pub step_with-requires-clause-known : goal.step_with-requires-clause-known
+step_with-requires-clause-known c = c.requires.lies c.args.s c.requires.remains
 
-pub sum_over-requires-2-clause-within : goal.sum_over-requires-2-clause-within
-sum_over-requires-2-clause-within c = rw (c.holds-holds.ensures, c.keeps_limits.ensures.hold_count, c.minus-waiting.ensures, c.on.ensures, c.casts.ensures)
-    (waiting_lies c.args.film.now c.args.q.0 (slice_index c.args.film.now.casts c.args.s) c.keeps_limits.ensures)
-
-pub sum_over-requires-2-clause-fits : goal.sum_over-requires-2-clause-fits
-sum_over-requires-2-clause-fits c = rw c.holds-holds.ensures (omega (arith, hold_limit c.args.film.now c.minus-waiting.result.0 c.keeps_limits.ensures))
-
-pub overflow_add-result : goal.overflow_add-result
-overflow_add-result c = rw (c.sum_over.ensures, c.sum_over-2.ensures, c.casts.ensures, c.rates-rates.ensures, c.holds-holds.ensures)
-    (omega (
-      arith,
-      rate_limit c.args.film.now (slice_index c.args.film.now.casts c.args.s) c.keeps_limits.ensures,
-      hold_limit c.args.film.now c.minus-waiting.result.0 c.keeps_limits.ensures,
-    ))
-
-pub overflow_mul-result : goal.overflow_mul-result
-overflow_mul-result c =
-    rw (c.sum_over.ensures, c.sum_over-2.ensures, c.minus-waiting.ensures, c.on.ensures, c.casts.ensures, c.rates-rates.ensures, c.holds-holds.ensures, c.days.ensures)
-    (omega (
-      arith,
-      step_limit c.args.film.now c.args.q.0 c.args.s c.keeps_limits.ensures
-          (is_set_below (length c.args.film.now.casts) c.args.q.0 c.keeps_limits.ensures.scene_count.1 c.requires.lies) c.requires.remains,
-    ))
+pub step_with-requires-clause-actors : goal.step_with-requires-clause-actors
+step_with-requires-clause-actors c = rw c.on.ensures (location_lies c.args.film.now c.args.q.0 c.keeps_limits.ensures)
