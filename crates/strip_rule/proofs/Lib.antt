@@ -1,0 +1,6 @@
+pub mod Left
+pub mod Fits
+pub mod Exchange
+pub mod Open
+pub mod Held
+pub mod Rows
