@@ -1,0 +1,13 @@
+pub mod Members
+pub mod Extra
+pub mod Waits
+pub mod Least
+pub mod Attained
+pub mod Tails
+pub mod Together
+pub mod Pieces
+pub mod Finish
+pub mod Small
+pub mod Weights
+pub mod Turns
+pub mod Rows

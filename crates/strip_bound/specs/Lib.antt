@@ -1,0 +1,4 @@
+pub mod Bounds
+pub mod Waiting
+pub mod Tables
+pub mod Kept

@@ -1,0 +1,38 @@
+//! Laws of the definitions. Each function does nothing: its contract is the law.
+ghost use Rattle.std.specs.Prelude.{◌≡◌, ℕ, ◌+◌, ◌≤◌, true, List};
+ghost use Rattle.strip_mask.specs.Set.{IsSet, has};
+ghost use Rattle.strip_pay.specs.declared.kind.Kind.{Kind};
+ghost use Rattle.strip_pay.specs.declared.kind.Kind.TheVariants.{Groups, Pairs, Plain};
+ghost use Rattle.strip_pay.specs.Film.{FilmData};
+ghost use Rattle.strip_film.specs.Bounds.{plain_bound};
+ghost use Rattle.strip_film.specs.Film.{IsFilm, LiesIn};
+ghost use Rattle.strip_film.specs.Finish.{IsAtMostFinish, steps_cost};
+ghost use Rattle.strip_film.specs.Shoot.{cast_of, on_location};
+ghost use Rattle.strip_group.specs.Group.{group_extra};
+ghost use Rattle.strip_bound.specs.Bounds.{bound, group_data, groups_extra};
+ghost use Rattle.strip_bound.specs.Waiting.{AreGroups, HasEach, wait_pay};
+
+/// The extra of a group, of any size and however chosen, is the least that it is paid for waiting
+/// along any list of the set: no list has less, and some list no more.
+pub fn the_extra_is_the_least_waiting()
+    ensures least { (film : FilmData) (set group : ℕ) (scenes : List ℕ) → IsFilm film → LiesIn film set → IsSet group
+        → ((actor : ℕ) → has group actor ≡ true → has (cast_of film set) actor ≡ true) → HasEach set scenes
+        → group_extra (group_data film) set group ≤ wait_pay film group set scenes }
+    ensures attained { (film : FilmData) (set group : ℕ) → IsFilm film → LiesIn film set → IsSet group
+        → ((actor : ℕ) → has group actor ≡ true → has (cast_of film set) actor ≡ true)
+        → (scenes : List ℕ) × HasEach set scenes × (wait_pay film group set scenes ≤ group_extra (group_data film) set group) }
+{}
+
+/// Groups of actors on location that share no actor, of any sizes and however chosen: the plain bound
+/// and their extras are at most the tail of every list of the set, whether it keeps the pairs or not.
+pub fn groups_bound_every_tail()
+    ensures { (film : FilmData) (set : ℕ) (groups scenes : List ℕ) → IsFilm film → LiesIn film set → AreGroups film set groups
+        → HasEach set scenes → plain_bound film set + groups_extra film set groups ≤ steps_cost film set scenes }
+{}
+
+/// A wider bound is no lower, and each is at most the cost of finishing.
+pub fn the_bounds_are_true()
+    ensures plain { (film : FilmData) (set : ℕ) → bound Plain film set ≤ bound Pairs film set }
+    ensures pairs { (film : FilmData) (set : ℕ) → IsFilm film → LiesIn film set → bound Pairs film set ≤ bound Groups film set }
+    ensures finish { (kind : Kind) (film : FilmData) (set : ℕ) → IsFilm film → LiesIn film set → IsAtMostFinish film set (bound kind film set) }
+{}

@@ -1,0 +1,76 @@
+// What the static bounds of a film go by.
+ghost use Rattle.std.specs.Prelude.{◌≡◌, ℕ, ◌<◌, ◌≤◌, IfOk, length, slice_index};
+ghost use Rattle.strip_mask.specs.Set.{has};
+ghost use Rattle.strip_bound.specs.Tables.{ArePlays, AreTables, AreWeights};
+
+use std::alloc::{AllocError, Global};
+use strip_film::Film;
+use strip_group::GroupTable;
+use strip_io::Memory;
+use strip_mask::{Mask, sum_over};
+
+/// What the bounds of a film's sets go by, made once: a number for each scene and for each actor, and
+/// the table of the extras of groups.
+#[derive(Debug, Drop)]
+pub struct BoundTables {
+    /// Each scene's days at the rates of its cast, in whole units of money.
+    pub(crate) weights: Vec<u64>,
+    /// For each actor the set of the scenes with him.
+    pub(crate) plays: Vec<u64>,
+    pub(crate) groups: GroupTable,
+}
+
+impl BoundTables {
+    /// The tables of the film. It fails only where memory runs out. One turn for each scene and actor.
+    pub fn of(alloc: Global, film: &Film) -> Result<BoundTables, Memory>
+        ensures { IfOk result (λ tables. AreTables film.now tables) }
+    {
+        film.keeps_limits();
+        Ok(BoundTables {
+            weights: weights_of(alloc, film)?,
+            plays: plays_of(alloc, film)?,
+            groups: GroupTable::of(alloc, film.casts(), film.days(), film.holds())?,
+        })
+    }
+}
+
+/// For each scene its days at the rates of its cast.
+fn weights_of(alloc: Global, film: &Film) -> Result<Vec<u64>, AllocError>
+    ensures { IfOk result (λ weights. AreWeights film.now weights.items) }
+{
+    film.keeps_limits();
+    let (casts, days, rates) = (film.casts(), film.days(), film.rates());
+    let mut weights = Vec::new(alloc);
+    for scene in 0..casts.len() {
+        weights.push(days[scene] * sum_over(rates, Mask(casts[scene])))?;
+    }
+    Ok(weights)
+}
+
+/// For each actor the set of the scenes with him.
+fn plays_of(alloc: Global, film: &Film) -> Result<Vec<u64>, AllocError>
+    ensures { IfOk result (λ plays. ArePlays film.now plays.items) }
+{
+    film.keeps_limits();
+    let casts = film.casts();
+    let mut plays = Vec::new(alloc);
+    for actor in 0..film.rates().len() {
+        plays.push(scenes_with(casts, actor as u32).0)?;
+    }
+    Ok(plays)
+}
+
+/// The scenes whose cast has the actor.
+fn scenes_with(casts: &[u64], actor: u32) -> Mask
+    requires few { length casts.now ≤ 64 }
+    requires known { actor < 64 }
+    ensures { (scene : ℕ) → has result.0 scene ≡ has (slice_index casts.now scene) actor }
+{
+    let mut scenes = Mask(0);
+    for scene in 0..casts.len() {
+        if Mask(casts[scene]).has(actor) {
+            scenes = scenes.with(scene as u32);
+        }
+    }
+    scenes
+}

@@ -1,0 +1,7 @@
+mod Lists
+pub mod Least
+mod Places
+mod Fits
+mod Turned
+mod Extra
+mod Rows

@@ -1,0 +1,176 @@
+// Bounds of small films that were worked by hand, each asked for through a stored bound.
+ghost use Rattle.strip_bound.specs.Tables.{AreTables};
+
+use std::alloc::Global;
+use std::test::Fail;
+use strip_bound::{BoundTables, Kept, plain, static_bound};
+use strip_film::Film;
+use strip_mask::Mask;
+use strip_pay::Kind;
+
+struct Row {
+    casts: &'static [u64],
+    days: &'static [u64],
+    rates: &'static [u64],
+    holds: &'static [u64],
+    set: u64,
+    bounds: [u64; 3],
+}
+
+// The bounds are the plain one, that with pairs, and that with groups.
+static ROWS: [Row; 12] = [
+    Row {
+        casts: &[0b11, 0b01, 0b10],
+        days: &[1, 1, 1],
+        rates: &[1, 10],
+        holds: &[1, 10],
+        set: 0b110,
+        bounds: [11, 12, 12],
+    },
+    Row {
+        casts: &[0b011, 0b110, 0b101],
+        days: &[1, 1, 1],
+        rates: &[1, 2, 3],
+        holds: &[1, 2, 3],
+        set: 0b111,
+        bounds: [12, 12, 12],
+    },
+    Row {
+        casts: &[0b011, 0b110, 0b101],
+        days: &[1, 1, 1],
+        rates: &[1, 2, 3],
+        holds: &[1, 2, 3],
+        set: 0b110,
+        bounds: [9, 10, 10],
+    },
+    Row {
+        casts: &[0b111, 0b001, 0b010, 0b100],
+        days: &[1, 1, 1, 1],
+        rates: &[1, 1, 1],
+        holds: &[1, 1, 1],
+        set: 0b1110,
+        bounds: [3, 4, 6],
+    },
+    Row {
+        casts: &[0b011, 0b110, 0b101],
+        days: &[1, 1, 1],
+        rates: &[1, 2, 3],
+        holds: &[5, 1, 4],
+        set: 0b110,
+        bounds: [9, 10, 10],
+    },
+    Row {
+        casts: &[0b011, 0b110, 0b101],
+        days: &[1, 1, 1],
+        rates: &[1, 2, 3],
+        holds: &[5, 1, 4],
+        set: 0b101,
+        bounds: [7, 8, 8],
+    },
+    Row {
+        casts: &[0b011, 0b110, 0b101],
+        days: &[1, 1, 1],
+        rates: &[1, 2, 3],
+        holds: &[5, 1, 4],
+        set: 0b011,
+        bounds: [8, 12, 12],
+    },
+    // Scenes of some days.
+    Row {
+        casts: &[0b11, 0b01, 0b10],
+        days: &[1, 2, 3],
+        rates: &[1, 10],
+        holds: &[4, 5],
+        set: 0b110,
+        bounds: [32, 42, 42],
+    },
+    // Eight actors on location: four pairs, and groups of six and two.
+    Row {
+        casts: &[0xff, 0x01, 0x02, 0x04, 0x08, 0x10, 0x20, 0x40, 0x80],
+        days: &[1; 9],
+        rates: &[1; 8],
+        holds: &[1; 8],
+        set: 0b111111110,
+        bounds: [8, 12, 24],
+    },
+    // Seven: three pairs and a single one, a group of six and a single one.
+    Row {
+        casts: &[0x7f, 0x01, 0x02, 0x04, 0x08, 0x10, 0x20, 0x40],
+        days: &[1; 8],
+        rates: &[1; 7],
+        holds: &[1; 7],
+        set: 0xfe,
+        bounds: [7, 10, 22],
+    },
+    // Twelve: two groups of six.
+    Row {
+        casts: &[
+            0xfff, 0x01, 0x02, 0x04, 0x08, 0x10, 0x20, 0x40, 0x80, 0x100, 0x200, 0x400, 0x800,
+        ],
+        days: &[1; 13],
+        rates: &[1; 12],
+        holds: &[1; 12],
+        set: 0x1ffe,
+        bounds: [12, 18, 42],
+    },
+    // Thirteen: the last one is in a group of his own.
+    Row {
+        casts: &[
+            0x1fff, 0x01, 0x02, 0x04, 0x08, 0x10, 0x20, 0x40, 0x80, 0x100, 0x200, 0x400, 0x800,
+            0x1000,
+        ],
+        days: &[1; 14],
+        rates: &[1; 13],
+        holds: &[1; 13],
+        set: 0x3ffe,
+        bounds: [13, 19, 43],
+    },
+];
+
+#[test]
+fn bounds_are_those_worked_by_hand(rt: HostRuntime) -> Result<(), Fail> {
+    let alloc = rt.alloc();
+    for row in &ROWS {
+        let film = film_of(alloc, row)?;
+        let tables = BoundTables::of(alloc, &film)?;
+        let set = Mask(row.set);
+        let [plain, pairs, groups] = row.bounds;
+        assert_eq!(rt; kept_plain(&film, &tables, set), Some(plain));
+        assert_eq!(rt; kept(&film, &tables, Kind::Plain, set), Some(plain));
+        assert_eq!(rt; kept(&film, &tables, Kind::Pairs, set), Some(pairs));
+        assert_eq!(rt; kept(&film, &tables, Kind::Groups, set), Some(groups));
+    }
+    Ok(())
+}
+
+fn film_of(alloc: Global, row: &Row) -> Result<Film, Fail> {
+    let casts = Vec::from_slice(alloc, row.casts)?;
+    let days = Vec::from_slice(alloc, row.days)?;
+    let rates = Vec::from_slice(alloc, row.rates)?;
+    let holds = Vec::from_slice(alloc, row.holds)?;
+    let film = Film::of(casts, days, rates, holds, Vec::new(alloc)).ok_or("within the limits")?;
+    Ok(film)
+}
+
+// None where the set has a number that is no scene.
+fn kept_plain(film: &Film, tables: &BoundTables, set: Mask) -> Option<u64>
+    requires { AreTables film.now tables.now }
+{
+    film.keeps_limits();
+    if !set.lies_below(film.scenes() as u32) {
+        return None;
+    }
+    let kept = Kept::new(film, Kind::Plain, |q, _| plain(film, tables, Mask(q)));
+    Some(kept.reach(set, 0))
+}
+
+fn kept(film: &Film, tables: &BoundTables, kind: Kind, set: Mask) -> Option<u64>
+    requires { AreTables film.now tables.now }
+{
+    film.keeps_limits();
+    if !set.lies_below(film.scenes() as u32) {
+        return None;
+    }
+    let kept = Kept::new(film, kind, |q, _| static_bound(film, tables, kind, Mask(q)));
+    Some(kept.at(set))
+}

@@ -1,0 +1,112 @@
+// Which scenes are left open to be shot first, worked by hand.
+use std::alloc::Global;
+use std::test::Fail;
+use strip_film::Film;
+use strip_mask::Mask;
+use strip_pay::Pair;
+use strip_rule::{open_firsts, yields};
+
+struct Row {
+    casts: &'static [u64],
+    pairs: &'static [(u16, u16)],
+    set: u64,
+    open: u64,
+}
+
+static ROWS: [Row; 6] = [
+    // Each scene has an actor who waits while the other is shot.
+    Row {
+        casts: &[0b11, 0b01, 0b10],
+        pairs: &[],
+        set: 0b110,
+        open: 0b110,
+    },
+    // Whoever plays in the last scene plays in one of the others, and each of these rules it out.
+    Row {
+        casts: &[0b01, 0b10, 0b11],
+        pairs: &[],
+        set: 0b111,
+        open: 0b011,
+    },
+    // Two equal casts: the lesser rules the greater out.
+    Row {
+        casts: &[0b1, 0b1],
+        pairs: &[],
+        set: 0b11,
+        open: 0b01,
+    },
+    // The first scene would rule out the second, and waits for the third.
+    Row {
+        casts: &[0b001, 0b011, 0b100],
+        pairs: &[],
+        set: 0b111,
+        open: 0b101,
+    },
+    Row {
+        casts: &[0b001, 0b011, 0b100],
+        pairs: &[(2, 0)],
+        set: 0b111,
+        open: 0b110,
+    },
+    // Nothing remains.
+    Row {
+        casts: &[0b1],
+        pairs: &[],
+        set: 0,
+        open: 0,
+    },
+];
+
+#[test]
+fn open_firsts_are_those_worked_by_hand(rt: HostRuntime) -> Result<(), Fail> {
+    for row in &ROWS {
+        let film = film_of(rt.alloc(), row)?;
+        assert_eq!(rt; opens(&film, Mask(row.set)), Some(row.open));
+    }
+    Ok(())
+}
+
+#[test]
+fn of_two_equal_casts_the_lesser_rules(rt: HostRuntime) -> Result<(), Fail> {
+    let film = film_of(rt.alloc(), &ROWS[2])?;
+    assert_eq!(rt; rules(&film, 0, 1), Some(true));
+    assert_eq!(rt; rules(&film, 1, 0), Some(false));
+    Ok(())
+}
+
+// None where the set has a number that is no scene.
+fn opens(film: &Film, set: Mask) -> Option<u64> {
+    film.keeps_limits();
+    if !set.lies_below(film.scenes() as u32) {
+        return None;
+    }
+    Some(open_firsts(film, set).0)
+}
+
+fn rules(film: &Film, t: u32, s: u32) -> Option<bool> {
+    film.keeps_limits();
+    let all = film.all();
+    if t >= 64 || s >= 64 || !all.has(t) || !all.has(s) || !all.lies_below(film.scenes() as u32) {
+        return None;
+    }
+    Some(yields(film, all, t, s))
+}
+
+fn film_of(alloc: Global, row: &Row) -> Result<Film, Fail> {
+    let casts = Vec::from_slice(alloc, row.casts)?;
+    let mut days = Vec::new(alloc);
+    for _scene in row.casts {
+        days.push(1)?;
+    }
+    let rates = Vec::from_slice(alloc, &[1, 2, 3])?;
+    let holds = Vec::from_slice(alloc, &[1, 2, 3])?;
+    let mut pairs = Vec::new(alloc);
+    for (first, then) in row.pairs {
+        pairs.push(Pair {
+            first: *first,
+            then: *then,
+        })?;
+    }
+    let film = Film::of(casts, days, rates, holds, pairs).ok_or("within the limits")?;
+    Ok(film)
+}

@@ -1,0 +1,65 @@
+// A path that is moved in place, worked by hand on three scenes of two actors each.
+ghost use Rattle.std.specs.Prelude.{◌≡◌, ℕ, ◌<◌, length, IsTrue};
+ghost use Rattle.strip_film.specs.Running.{IsRunning};
+ghost use Rattle.strip_film.specs.Shown.{running_data};
+
+use std::alloc::Global;
+use std::test::Fail;
+use strip_film::{Film, Path, Running, laws, ready};
+
+#[test]
+fn moves_forward_and_back(rt: HostRuntime) -> Result<(), Fail> {
+    let film = triangle(rt.alloc())?;
+    let mut state = Running::of(&film, &Path::start(&film));
+    assert!(&rt; takes(&mut state, &film, 0));
+    assert!(&rt; is_after_the_first(&state, &film));
+    assert!(&rt; takes(&mut state, &film, 1));
+    assert!(&rt; state.rest().0 == 0b100 && state.on().0 == 0b101 && state.paid() == 9);
+    assert!(&rt; takes_back(&mut state, &film));
+    assert!(&rt; is_after_the_first(&state, &film));
+    Ok(())
+}
+
+// False where the scene can't be shot next.
+fn takes(state: &mut Running, film: &Film, scene: u32) -> bool
+    requires { IsRunning film.now (running_data state.old) }
+    ensures { IsRunning film.now (running_data state.new) }
+{
+    laws::what_remains_lies_in_the_film();
+    if scene >= 64 || !ready(film, state.rest()).has(scene) {
+        return false;
+    }
+    state.take(film, scene);
+    true
+}
+
+// False where nothing was shot.
+fn takes_back(state: &mut Running, film: &Film) -> bool
+    requires { IsRunning film.now (running_data state.old) }
+    ensures { IsRunning film.now (running_data state.new) }
+{
+    if state.path().scenes().is_empty() {
+        return false;
+    }
+    state.back(film);
+    true
+}
+
+fn is_after_the_first(state: &Running, film: &Film) -> bool
+    requires { IsRunning film.now (running_data state.now) }
+{
+    let counts = state.done(0) == 1 && state.left(0) == 1 && state.left(2) == 2;
+    if !counts || state.on().0 != 0b011 || state.paid() != 3 {
+        return false;
+    }
+    state.rest().has(1) && state.step(film, 1) == 6
+}
+
+fn triangle(alloc: Global) -> Result<Film, Fail> {
+    let casts = Vec::from_slice(alloc, &[0b011, 0b110, 0b101])?;
+    let days = Vec::from_slice(alloc, &[1, 1, 1])?;
+    let rates = Vec::from_slice(alloc, &[1, 2, 3])?;
+    let holds = Vec::from_slice(alloc, &[1, 2, 3])?;
+    let film = Film::of(casts, days, rates, holds, Vec::new(alloc)).ok_or("within the limits")?;
+    Ok(film)
+}
