@@ -106,7 +106,7 @@ fn days_apart(film: &Film, tables: &BoundTables, q: Mask, a: u32, b: u32) -> u64
     film.keeps_limits();
     let of_a = Mask(tables.plays[a as usize]).meet(q);
     let of_b = Mask(tables.plays[b as usize]).meet(q);
-    sum_over(film.days(), of_a.minus(of_b))
+    tables.groups.day_sums().sum(of_a.minus(of_b))
 }
 
 /// The extras of the actors on location, six by six by rising number.

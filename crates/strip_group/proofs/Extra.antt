@@ -1,247 +1,275 @@
--- The extra of a set of places is that of the actors there.
-use Rattle.std.proofs.Common.{◌≡◌, ◌≢◌, ℕ, zero, suc, ◌+◌, ◌-◌, ◌*◌, ◌^◌, ◌<◌, ◌≤◌, Bool, true, false, not, ◌&&◌, eqb, List, [], ◌∷◌, Contains, fold, min, slice_index, refl, sym, ap, ◌∙◌, subst, inl, inr, arith}
-use Rattle.std.proofs.Math.Nat.{mul-le-mul}
-use Rattle.std.proofs.lemmas.Bool.{cases_lt, cases_eq, false≢true, eqb-true, eq-eqb}
+-- The extra of a group is what it is paid for waiting through all days of others, but for what it saves at most.
+use Rattle.std.proofs.Common.{◌≡◌, ℕ, zero, suc, ◌+◌, ◌-◌, ◌*◌, ◌^◌, ◌<◌, ◌≤◌, Bool, true, false, not, ◌&&◌, cond}
+use Rattle.std.proofs.Common.{eqb, List, [], ◌∷◌, filter, length, slice_index, sum_by, refl, sym, ap, ◌∙◌, subst, inl, inr, arith}
+use Rattle.std.proofs.lemmas.Bool.{cases_lt, false≢true}
 use Rattle.std.proofs.lemmas.List.Elements.{All-contains}
-use Rattle.strip_mask.specs.Set.{IsSet, LiesBelow, full, has, meet, members, size, with, without}
-use Rattle.strip_mask.proofs.ByMembers.{IsSet-without, below_64, has-empty, has-meet, has-with_same, has-without_other, has_from_meet, has_from_with, below_width, empty_from, same_has, some_member}
-use Rattle.strip_mask.proofs.Below.{and_true, LiesBelow-full, LiesBelow-without, IsSet-full, is_set_below}
-use Rattle.strip_mask.proofs.Members.{Contains-members, has_from_members}
-use Rattle.strip_mask.proofs.Sizes.{size-without, size-empty, size-le, empty_from_size}
-use Rattle.strip_group.specs.Group.{GroupData, waited_days, least_at, least_over, extra_by_last, group_extra, is_waited}
-use Rattle.strip_group.specs.Pattern.{actor_at, pick, pattern_of, pattern_to, days_of, fits, by_last, extra_to, places_extra}
+use Rattle.std.proofs.lemmas.Nat.Bits.{bit_at_ones}
+use Rattle.strip_mask.specs.Set.{IsSet, LiesBelow, full, has, meet, members, numbers_below, size, sum_over, with, without}
+use Rattle.strip_mask.specs.Sums.{sum_below}
+use Rattle.strip_mask.proofs.Bits.{has_from_bit}
+use Rattle.strip_mask.proofs.ByMembers.{below_64, below_width, has-empty, has-meet, has-with_same, has-without_other}
+use Rattle.strip_mask.proofs.ByMembers.{has-without_same, has_from_meet, has_from_with, has_from_without, same_has, some_member}
+use Rattle.strip_mask.proofs.Below.{and_true, has_full, is_set_below}
+use Rattle.strip_mask.proofs.Members.{Contains-members, has_from_members, members_is}
+use Rattle.strip_mask.proofs.Sizes.{size-without, size-empty, empty_from_size}
+use Rattle.strip_mask.proofs.Sums.{sum_below-ext, sum_below-none, sum_below-point}
+use Rattle.strip_group.specs.Group.{GroupData, waited_days, least_over, extra_by_last, group_extra, is_waited}
+use Rattle.strip_group.specs.Places.{IsTable, actor_at, pick}
+use Rattle.strip_group.specs.Saved.{IsSavedMost, Saves, left_by}
+use Rattle.strip_group.proofs.Left.{has_from_left, has_left}
 use Rattle.strip_group.proofs.Lists.{least_over-attained, least_over-le}
-use Rattle.strip_group.proofs.Places.{refuted, same_test, by_bit, pick-without, pick-one, pick-full, has_from_pick, has_pick, actor_there}
-use Rattle.strip_group.proofs.Places.{has-pattern, pattern_past_end, one_small, without_less, size-full, lies_small}
-use Rattle.strip_group.proofs.Fits.{mark, days_same, days_split, fits_all}
+use Rattle.strip_group.proofs.Places.{actor_there, by_bit, full_small, has_from_pick, has_pick, one_small, pick-one, pick-without, place_of, refuted, same_test, without_less}
+use Rattle.strip_group.proofs.Waits.{days_of, days_split, met, unmet, waits}
 
--- ---- the least over two lists
+-- ---- a sum over a list's numbers that pass a test
 
-no_more : (f g : ℕ → ℕ) (xs ys : List ℕ) (z : ℕ) → Contains ys z → ((y : ℕ) → Contains ys y → (x : ℕ) × Contains xs x × (f x ≡ g y)) → least_over f xs ≤ least_over g ys
-no_more f g xs ys z there found =
-    let best = least_over-attained g ys z there in
-    let other = found best.0 best.1 in
-    let le : least_over f xs ≤ f other.0 = All-contains (λ x. least_over f xs ≤ f x) xs other.0 (least_over-le f xs) other.1 in
-    omega (arith, le, other.2, best.2)
-
-pub least_moved : (f g : ℕ → ℕ) (xs ys : List ℕ) (z : ℕ) → Contains ys z → ((y : ℕ) → Contains ys y → (x : ℕ) × Contains xs x × (f x ≡ g y)) → ((x : ℕ) → Contains xs x → (y : ℕ) × Contains ys y × (f x ≡ g y))
-    → least_over f xs ≡ least_over g ys
-least_moved f g xs ys z there found back =
-    let other = found z there in
-    let le : least_over f xs ≤ least_over g ys = no_more f g xs ys z there found in
-    let ge : least_over g ys ≤ least_over f xs = no_more g f ys xs other.0 other.1 (λ x among. (let one = back x among in (one.0, one.1, sym one.2))) in
-    omega (arith, le, ge)
-
--- the least by one running least, from one that is no less
-pub fold_least : (f : ℕ → ℕ) (most x : ℕ) (xs : List ℕ) → fold (λ least y. min least (f y)) (min most (f x)) xs ≡ min most (least_at f x xs)
-fold_least f most x [] = refl
-fold_least f most x (y ∷ ys) = (let rest : fold (λ least z. min least (f z)) (min (min most (f x)) (f y)) ys ≡ min (min most (f x)) (least_at f y ys) = fold_least f (min most (f x)) y ys in
-    rest ∙ omega arith)
-
-pub fold_all : (f : ℕ → ℕ) (most z : ℕ) (xs : List ℕ) → Contains xs z → f z ≤ most → fold (λ least y. min least (f y)) most xs ≡ least_over f xs
-fold_all f most z [] (k, within, at) le = absurd (omega (arith, within))
-fold_all f most z (x ∷ xs) there le =
-    let low : least_at f x xs ≤ f z = All-contains (λ y. least_over f (x ∷ xs) ≤ f y) (x ∷ xs) z (least_over-le f (x ∷ xs)) there in
-    fold_least f most x xs ∙ omega (arith, low, le)
-
--- ---- a bound
-
-module _ (lacking holds : List ℕ) (days : (set : ℕ) → set < 64 → slice_index lacking set ≤ 19800) (hold : (place : ℕ) → slice_index holds place ≤ 64000000000) where
-  pub pay_small : (set place : ℕ) → place < 6 → slice_index holds place * (slice_index lacking (with 0 place) - slice_index lacking set) ≤ 1267200000000000
-  pay_small set place lt =
-      let most : slice_index lacking (with 0 place) - slice_index lacking set ≤ 19800 = omega (arith, days (with 0 place) (one_small 6 place lt)) in
-      mul-le-mul (hold place) most
-
-  -- the pay of an order whose last is this one fits
-  pub by_last_small : (extras : List ℕ) (set place : ℕ) → set < 64 → has set place ≡ true → ((less : ℕ) → less < set → slice_index extras less ≤ 100000000000000000)
-      → by_last lacking holds (slice_index extras) set place ≤ 200000000000000000
-  by_last_small extras set place small there known =
-      omega (arith, known (without set place) (without_less set place there), pay_small set place (below_width set 6 place small there))
-
-  extra_small : (n set : ℕ) → set < 64 → size set ≡ n → extra_to lacking holds n set ≤ n * 1267200000000000
-  extra_small zero set small is = omega arith
-  extra_small (suc n) set small is =
-      let low : IsSet set = omega (arith, small) in
-      let some = some_member set low (λ none. omega (arith, is, ap size none ∙ size-empty)) in
-      let last : ℕ = some.0 in
-      let le : extra_to lacking holds (suc n) set ≤ by_last lacking holds (extra_to lacking holds n) set last
-      = All-contains (λ y. least_over (by_last lacking holds (extra_to lacking holds n) set) (members set) ≤ by_last lacking holds (extra_to lacking holds n) set y) (members set) last
-      (least_over-le (by_last lacking holds (extra_to lacking holds n) set) (members set)) (Contains-members set last low some.2) in
-      let fewer : size (without set last) ≡ n = omega (arith, size-without set last low some.2, is) in
-      let others : extra_to lacking holds n (without set last) ≤ n * 1267200000000000 = extra_small n (without set last) (omega (arith, without_less set last some.2, small)) fewer in
-      omega (arith, le, others, pay_small set last (below_width set 6 last small some.2))
-
-  pub places_small : (set : ℕ) → set < 64 → places_extra lacking holds set ≤ 100000000000000000
-  places_small set lt = omega (arith, extra_small (size set) set lt refl, size-le set)
-
--- the extra of a set by those of the sets without one
-pub extra_step : (lacking holds extras : List ℕ) (set : ℕ) → IsSet set → set ≢ 0 → ((less : ℕ) → less < set → slice_index extras less ≡ places_extra lacking holds less)
-    → least_over (by_last lacking holds (slice_index extras) set) (members set) ≡ places_extra lacking holds set
-extra_step lacking holds extras set small some told = by_size (size set) refl
-  where
-    by_size : (n : ℕ) → size set ≡ n → least_over (by_last lacking holds (slice_index extras) set) (members set) ≡ extra_to lacking holds (size set) set
-    by_size zero is = absurd (some (empty_from_size set small is))
-    by_size (suc n) is =
-        let one = some_member set small some in
-        let each : (place : ℕ) → Contains (members set) place → by_last lacking holds (slice_index extras) set place ≡ by_last lacking holds (extra_to lacking holds n) set place
-        = λ place among. (let there : has set place ≡ true = has_from_members set place among in
-        let fewer : size (without set place) ≡ n = omega (arith, size-without set place small there, is) in
-        ap (λ (x : ℕ). x + slice_index holds place * (slice_index lacking (with 0 place) - slice_index lacking set))
-        (told (without set place) (without_less set place there) ∙ ap (λ (k : ℕ). extra_to lacking holds k (without set place)) fewer)) in
-        least_moved (by_last lacking holds (slice_index extras) set) (by_last lacking holds (extra_to lacking holds n) set) (members set) (members set) one.0 (Contains-members set one.0 small one.2)
-        (λ y among. (y, among, each y among)) (λ x among. (x, among, each x among))
-        ∙ ap (λ (k : ℕ). extra_to lacking holds k set) (sym is)
-
--- ---- the days that the last one waits
-
--- the set has someone of the other, or no one
-met : (cast actors i : ℕ) → has cast i ≡ true → has actors i ≡ true → eqb (meet cast actors) 0 ≡ false
-met cast actors i here there = refuted (eqb (meet cast actors) 0) (λ none.
-    false≢true (sym (has-empty i) ∙ ap (λ (s : ℕ). has s i) (sym (eqb-true (meet cast actors) 0 none)) ∙ has-meet cast actors i ∙ and_true (has cast i) (has actors i) here there))
-
-unmet : (cast actors : ℕ) → ((i : ℕ) → has cast i ≡ true → has actors i ≡ true → ⊥) → eqb (meet cast actors) 0 ≡ true
-unmet cast actors apart = eq-eqb (meet cast actors) 0 (empty_from (meet cast actors) (λ i. refuted (has (meet cast actors) i) (λ there. (let both = has_from_meet cast actors i there in apart i both.0 both.1))))
-
-waits : (cast actors actor : ℕ) → has actors actor ≡ true
-    → mark (not (eqb (meet cast (without actors actor)) 0) && not (has cast actor)) + mark (eqb (meet cast actors) 0) ≡ mark (eqb (meet cast (with 0 actor)) 0)
-waits cast actors actor there = elim (by_bit (has cast actor)) [
-  | inl works ↦ (
-      let first : mark (not (eqb (meet cast (without actors actor)) 0) && not (has cast actor)) ≡ 0
-      = ap (λ (b : Bool). mark (not (eqb (meet cast (without actors actor)) 0) && not b)) works ∙ never (not (eqb (meet cast (without actors actor)) 0)) in
-      let second : mark (eqb (meet cast actors) 0) ≡ 0 = ap mark (met cast actors actor works there) in
-      let third : mark (eqb (meet cast (with 0 actor)) 0) ≡ 0 = ap mark (met cast (with 0 actor) actor works (has-with_same 0 actor)) in
-      omega (arith, first, second, third))
-  | inr lacks ↦ (
-      let first : mark (not (eqb (meet cast (without actors actor)) 0) && not (has cast actor)) + mark (eqb (meet cast (without actors actor)) 0) ≡ 1
-      = ap (λ (b : Bool). mark (not (eqb (meet cast (without actors actor)) 0) && not b) + mark (eqb (meet cast (without actors actor)) 0)) lacks ∙ either (eqb (meet cast (without actors actor)) 0) in
-      let second : mark (eqb (meet cast (without actors actor)) 0) ≡ mark (eqb (meet cast actors) 0) = ap (λ (s : ℕ). mark (eqb s 0)) (same lacks) in
-      let third : mark (eqb (meet cast (with 0 actor)) 0) ≡ 1 = ap mark (unmet cast (with 0 actor) (λ i here one. elim (has_from_with 0 actor i one) [
-        | inl is ↦ false≢true (sym lacks ∙ ap (has cast) is ∙ here)
-        | inr none ↦ false≢true (sym (has-empty i) ∙ none)
-      ])) in
-      omega (arith, first, second, third))
+filtered : (p q r : ℕ → Bool) (xs : List ℕ) → ((x : ℕ) → r x ≡ (q x && p x)) → filter p (filter q xs) ≡ filter r xs
+filtered p q r [] both = refl
+filtered p q r (x ∷ xs) both = elim (by_bit (q x)) [
+  | inl passes ↦ ap (λ (b : Bool). filter p (cond {A = List ℕ} b (x ∷ filter q xs) (filter q xs))) passes ∙ elim (by_bit (p x)) [
+    | inl also ↦ ap (λ (b : Bool). cond {A = List ℕ} b (x ∷ filter p (filter q xs)) (filter p (filter q xs))) also ∙ ap (λ (ys : List ℕ). x ∷ ys) (filtered p q r xs both)
+        ∙ sym (ap (λ (b : Bool). cond {A = List ℕ} b (x ∷ filter r xs) (filter r xs)) (both x ∙ ap (λ (b : Bool). b && p x) passes ∙ ap (λ (b : Bool). true && b) also))
+    | inr fails ↦ ap (λ (b : Bool). cond {A = List ℕ} b (x ∷ filter p (filter q xs)) (filter p (filter q xs))) fails ∙ filtered p q r xs both
+        ∙ sym (ap (λ (b : Bool). cond {A = List ℕ} b (x ∷ filter r xs) (filter r xs)) (both x ∙ ap (λ (b : Bool). b && p x) passes ∙ ap (λ (b : Bool). true && b) fails))
+  ]
+  | inr fails ↦ ap (λ (b : Bool). filter p (cond {A = List ℕ} b (x ∷ filter q xs) (filter q xs))) fails ∙ filtered p q r xs both
+      ∙ sym (ap (λ (b : Bool). cond {A = List ℕ} b (x ∷ filter r xs) (filter r xs)) (both x ∙ ap (λ (b : Bool). b && p x) fails))
 ]
-  where
-    never : (b : Bool) → mark (b && not true) ≡ 0
-    never true = refl
-    never false = refl
 
-    either : (b : Bool) → mark (not b && not false) + mark b ≡ 1
-    either true = refl
-    either false = refl
+sum_of_part : (days : List ℕ) (test : ℕ → Bool) (scenes part : ℕ) → ((i : ℕ) → has part i ≡ (has scenes i && test i)) → sum_over days part ≡ days_of days test (members scenes)
+unfolding sum_over
+sum_of_part days test scenes part each = ap (sum_by (slice_index days)) (members_is part ∙ sym (ap (filter test) (members_is scenes) ∙ filtered test (has scenes) (has part)
+    (numbers_below 64) each))
 
-    same : has cast actor ≡ false → meet cast (without actors actor) ≡ meet cast actors
-    same lacks = same_has (meet cast (without actors actor)) (meet cast actors) (λ i. has-meet cast (without actors actor) i ∙ elim (cases_eq actor i) [
-      | inl is ↦ (let none : has cast i ≡ false = ap (has cast) (sym is) ∙ lacks in
-          ap (λ (b : Bool). b && has (without actors actor) i) none ∙ sym (has-meet cast actors i ∙ ap (λ (b : Bool). b && has actors i) none))
-      | inr other ↦ ap (λ (b : Bool). has cast i && b) (has-without_other actors actor i other) ∙ sym (has-meet cast actors i)
-    ])
+-- ---- the extra of the actors at the places of a set
 
--- ---- the extra of the actors there
+module _ (film : GroupData) (scenes group : ℕ) (stays rates : List ℕ) (small : IsSet group) (few : size group ≤ 6) (lies : LiesBelow (length film.casts) scenes)
+    (short : length film.casts ≤ 64)
+    (stay : (place scene : ℕ) → place < size group → scene < length film.casts → has (slice_index stays place) scene ≡ not (has (slice_index film.casts scene)
+    (actor_at group place)))
+    (all_stay : (place : ℕ) → size group ≤ place → place < 6 → slice_index stays place ≡ 2 ^ 64 - 1)
+    (rate : (place : ℕ) → place < size group → slice_index rates place ≡ slice_index film.holds (actor_at group place))
+    (no_rate : (place : ℕ) → size group ≤ place → place < 6 → slice_index rates place ≡ 0) where
+  abbrev left : ℕ → ℕ
+  left set = left_by stays 6 set scenes
 
-module _ (film : GroupData) (scenes group : ℕ) where
+  -- the days of the scenes that are left by each set of places
+  abbrev pub left_days : ℕ → ℕ
+  left_days set = sum_over film.days (left_by stays 6 set scenes)
+
   abbrev free : ℕ → ℕ → Bool
   free actors scene = eqb (meet (slice_index film.casts scene) actors) 0
 
-  -- the days without anyone of each set of places, and the hold rates by place
-  abbrev pub TellsDays : List ℕ → Type 0
-  TellsDays lacking = (set : ℕ) → LiesBelow (size group) set → slice_index lacking set ≡ days_of film.days (free (pick group set)) (members scenes)
+  -- left are the scenes without anyone there
+  left_free : (set i : ℕ) → set < 64 → has (left set) i ≡ (has scenes i && free (pick group set) i)
+  left_free set i low = same_test (has (left set) i) (has scenes i && free (pick group set) i)
+      (λ there. (let found = has_from_left stays 6 set scenes i there in
+      and_true (has scenes i) (free (pick group set) i) found.0 (unmet (slice_index film.casts i) (pick group set) (λ actor works picked. (
+      let at = has_from_pick group set actor picked in
+      let stayed : has (slice_index stays at.0) i ≡ true = found.1 at.0 (omega (arith, at.1, few)) at.2 in
+      let works_there : has (slice_index film.casts i) (actor_at group at.0) ≡ true = ap (has (slice_index film.casts i)) at.3 ∙ works in
+      false≢true (sym (stay at.0 i at.1 (lies i found.0) ∙ ap not works_there) ∙ stayed))))))
+      (λ both. (let parts = and_both (has scenes i) (free (pick group set) i) both in
+      has_left stays 6 set scenes i parts.0 (λ place lt there. elim (cases_lt place (size group)) [
+        | inl real ↦ stay place i real (lies i parts.0) ∙ ap not (refuted (has (slice_index film.casts i) (actor_at group place)) (λ works.
+            false≢true (sym (met (slice_index film.casts i) (pick group set) (actor_at group place) works (has_pick group set place real there)) ∙ parts.1)))
+        | inr past ↦ ap (λ (s : ℕ). has s i) (all_stay place past lt) ∙ has_from_bit (2 ^ 64 - 1) i (bit_at_ones 64 i (omega (arith, lies i parts.0, short)))
+      ])))
+    where
+      and_both : (a b : Bool) → (a && b) ≡ true → (a ≡ true) × (b ≡ true)
+      and_both true b both = (refl, both)
+      and_both false b both = absurd (false≢true both)
 
-  abbrev pub TellsHolds : List ℕ → Type 0
-  TellsHolds holds = (place : ℕ) → place < size group → slice_index holds place ≡ slice_index film.holds (actor_at group place)
+  days_free : (set : ℕ) → set < 64 → left_days set ≡ days_of film.days (free (pick group set)) (members scenes)
+  days_free set low = sum_of_part film.days (free (pick group set)) scenes (left set) (λ i. left_free set i low)
 
-  waited : (actors actor : ℕ) → has actors actor ≡ true
-      → waited_days film scenes (without actors actor) actor + days_of film.days (free actors) (members scenes) ≡ days_of film.days (free (with 0 actor)) (members scenes)
-  waited actors actor there = days_split film.days (is_waited film (without actors actor) actor) (free actors) (free (with 0 actor)) (members scenes)
-      (λ scene. waits (slice_index film.casts scene) actors actor there)
+  -- of one place alone
+  pub left_one : (place : ℕ) → place < 6 → left_by stays 6 (with 0 place) scenes ≡ meet scenes (slice_index stays place)
+  left_one place lt = same_has (left (with 0 place)) (meet scenes (slice_index stays place)) (λ i. same_test (has (left (with 0 place)) i) (has (meet scenes
+      (slice_index stays place)) i)
+      (λ there. (let found = has_from_left stays 6 (with 0 place) scenes i there in
+      has-meet scenes (slice_index stays place) i ∙ and_true (has scenes i) (has (slice_index stays place) i) found.0 (found.1 place lt (has-with_same 0 place))))
+      (λ there. (let both = has_from_meet scenes (slice_index stays place) i there in
+      has_left stays 6 (with 0 place) scenes i both.0 (λ other below one. elim (has_from_with 0 place other one) [
+        | inl is ↦ subst (λ (k : ℕ). has (slice_index stays k) i ≡ true) is both.1
+        | inr none ↦ absurd (false≢true (sym (has-empty other) ∙ none))
+      ]))))
 
+  -- ---- what a place is paid alone
+
+  abbrev pub cost : ℕ → ℕ
+  cost place = slice_index rates place * left_days (with 0 place)
+
+  abbrev costs : ℕ → ℕ
+  costs set = sum_below 6 (λ place. cond {A = ℕ} (has set place) (cost place) 0)
+
+  costs_without : (set place : ℕ) → place < 6 → has set place ≡ true → costs (without set place) + cost place ≡ costs set
+  costs_without set place lt there =
+      let apart = sum_below-point 6 place (λ p. cond {A = ℕ} (has set p) (cost p) 0) (λ p. cond {A = ℕ} (has (without set place) p) (cost p) 0) lt
+      (λ p _ other. ap (λ (b : Bool). cond {A = ℕ} b (cost p) 0) (sym (has-without_other set place p other))) in
+      let here : cond {A = ℕ} (has set place) (cost place) 0 ≡ cost place = ap (λ (b : Bool). cond {A = ℕ} b (cost place) 0) there in
+      let gone : cond {A = ℕ} (has (without set place) place) (cost place) 0 ≡ 0 = ap (λ (b : Bool). cond {A = ℕ} b (cost place) 0) (has-without_same set place) in
+      omega (arith, apart, here, gone)
+
+  -- a place past the group's adds nothing
+  no_cost : (place : ℕ) → size group ≤ place → place < 6 → (days : ℕ) → slice_index rates place * days ≡ 0
+  no_cost place past lt days = ap (λ (r : ℕ). r * days) (no_rate place past lt) ∙ grind arith
+
+  pick_past : (set place : ℕ) → size group ≤ place → pick group (without set place) ≡ pick group set
+  pick_past set place past = same_has (pick group (without set place)) (pick group set) (λ i. same_test (has (pick group (without set place)) i) (has (pick group set) i)
+      (λ there. (let found = has_from_pick group (without set place) i there in
+      subst (λ (k : ℕ). has (pick group set) k ≡ true) found.3 (has_pick group set found.0 found.1 (has_from_without set place found.0 found.2).1)))
+      (λ there. (let found = has_from_pick group set i there in
+      subst (λ (k : ℕ). has (pick group (without set place)) k ≡ true) found.3
+      (has_pick group (without set place) found.0 found.1 (has-without_other set place found.0 (λ same. omega (arith, past, same, found.1)) ∙ found.2)))))
+
+  IsSet-pick : (set : ℕ) → IsSet (pick group set)
+  IsSet-pick set = is_set_below 64 (pick group set) (omega arith) (λ i there. (let found = has_from_pick group set i there in
+      below_64 group i small (subst (λ (k : ℕ). has group k ≡ true) found.3 (actor_there group found.0 found.1))))
+
+  abbrev extra : ℕ → ℕ
+  extra set = group_extra film scenes (pick group set)
+
+  -- who leaves last of the actors there
   abbrev leaving_last : ℕ → ℕ → ℕ → ℕ
   leaving_last n actors last = extra_by_last film scenes n (without actors last) + slice_index film.holds last * waited_days film scenes (without actors last) last
 
-  IsSet-pick : (set : ℕ) → IsSet group → IsSet (pick group set)
-  IsSet-pick set small = is_set_below 64 (pick group set) (omega arith) (λ i there. (let found = has_from_pick group set i there in
-      below_64 group i small (subst (λ (k : ℕ). has group k ≡ true) found.3 (actor_there group found.0 found.1))))
+  last_pay : (n set place : ℕ) → set < 64 → place < size group → has set place ≡ true → size (pick group set) ≡ suc n
+      → leaving_last n (pick group set) (actor_at group place) + slice_index rates place * left_days set ≡ extra (without set place) + cost place
+  last_pay n set place low lt there is =
+      let actor : ℕ = actor_at group place in
+      let picked : has (pick group set) actor ≡ true = has_pick group set place lt there in
+      let fewer : size (without (pick group set) actor) ≡ n = omega (arith, size-without (pick group set) actor (IsSet-pick set) picked, is) in
+      let others : extra_by_last film scenes n (without (pick group set) actor) ≡ extra (without set place)
+      = ap (λ (k : ℕ). extra_by_last film scenes k (without (pick group set) actor)) (sym fewer) ∙ ap (group_extra film scenes) (sym (pick-without group set place lt)) in
+      let alone : left_days (with 0 place) ≡ days_of film.days (free (with 0 actor)) (members scenes)
+      = days_free (with 0 place) (one_small 6 place (omega (arith, lt, few))) ∙ ap (λ (s : ℕ). days_of film.days (free s) (members scenes)) (pick-one group place lt) in
+      let waited : waited_days film scenes (without (pick group set) actor) actor + days_of film.days (free (pick group set)) (members scenes) ≡ days_of film.days (free
+      (with 0 actor)) (members scenes)
+      = days_split film.days (is_waited film (without (pick group set) actor) actor) (free (pick group set)) (free (with 0 actor)) (members scenes) (λ scene. waits
+      (slice_index film.casts scene) (pick group set) actor picked) in
+      let days : waited_days film scenes (without (pick group set) actor) actor + left_days set ≡ left_days (with 0 place) = omega (arith, waited, days_free set low, alone) in
+      let pay : slice_index rates place * (waited_days film scenes (without (pick group set) actor) actor + left_days set) ≡ cost place = ap (λ
+      (d : ℕ). slice_index rates place * d) days in
+      let parts : slice_index rates place * (waited_days film scenes (without (pick group set) actor) actor + left_days set)
+      ≡ slice_index rates place * waited_days film scenes (without (pick group set) actor) actor + slice_index rates place * left_days set = grind arith in
+      let hold : slice_index film.holds actor * waited_days film scenes (without (pick group set) actor) actor ≡ slice_index rates place * waited_days film scenes (without
+      (pick group set) actor) actor
+      = ap (λ (r : ℕ). r * waited_days film scenes (without (pick group set) actor) actor) (sym (rate place lt)) in
+      omega (arith, others, pay, parts, hold)
 
-  module _ (lacking holds : List ℕ) (small : IsSet group) (days : TellsDays lacking) (hold : TellsHolds holds) where
-    -- what one place more costs
-    one_more : (n set place : ℕ) → LiesBelow (size group) set → has set place ≡ true → extra_to lacking holds n (without set place) ≡ extra_by_last film scenes n (pick group (without set place))
-        → by_last lacking holds (extra_to lacking holds n) set place ≡ leaving_last n (pick group set) (actor_at group place)
-    one_more n set place lies there others =
-        let lt : place < size group = lies place there in
-        let actor : ℕ = actor_at group place in
-        let gone : pick group (without set place) ≡ without (pick group set) actor = pick-without group set place lt in
-        let single : slice_index lacking (with 0 place) ≡ days_of film.days (free (with 0 actor)) (members scenes)
-        = days (with 0 place) (λ i one. elim (has_from_with 0 place i one) [ inl is ↦ omega (arith, is, lt) | inr none ↦ absurd (false≢true (sym (has-empty i) ∙ none)) ])
-        ∙ ap (λ (s : ℕ). days_of film.days (free s) (members scenes)) (pick-one group place lt) in
-        let wait : slice_index lacking (with 0 place) - slice_index lacking set ≡ waited_days film scenes (without (pick group set) actor) actor
-        = omega (arith, single, days set lies, waited (pick group set) actor (has_pick group set place lt there)) in
-        ap (λ (x : ℕ). x + slice_index holds place * (slice_index lacking (with 0 place) - slice_index lacking set)) (others ∙ ap (extra_by_last film scenes n) gone)
-        ∙ ap (λ (w : ℕ). extra_by_last film scenes n (without (pick group set) actor) + slice_index holds place * w) wait
-        ∙ ap (λ (h : ℕ). extra_by_last film scenes n (without (pick group set) actor) + h * waited_days film scenes (without (pick group set) actor) actor) (hold place lt)
+  module _ (saved : ℕ → ℕ) (saves : Saves 6 rates left_days (λ _. 0) saved) where
+    abbrev AddsUp : ℕ → Type 0
+    AddsUp set = saved set + extra set ≡ costs set
 
-    same_extra : (n set : ℕ) → LiesBelow (size group) set → IsSet set → size set ≡ n → extra_to lacking holds n set ≡ extra_by_last film scenes n (pick group set)
-    same_extra zero set lies low is = refl
-    same_extra (suc n) set lies low is =
-        let some = some_member set low (λ none. omega (arith, is, ap size none ∙ size-empty)) in
-        let each : (place : ℕ) → has set place ≡ true → by_last lacking holds (extra_to lacking holds n) set place ≡ leaving_last n (pick group set) (actor_at group place)
-        = λ place there. one_more n set place lies there
-        (same_extra n (without set place) (LiesBelow-without (size group) set place lies) (IsSet-without set place low) (omega (arith, size-without set place low there, is))) in
-        least_moved (by_last lacking holds (extra_to lacking holds n) set) (leaving_last n (pick group set)) (members set) (members (pick group set)) (actor_at group some.0)
-        (Contains-members (pick group set) (actor_at group some.0) (IsSet-pick set small) (has_pick group set some.0 (lies some.0 some.2) some.2))
-        (λ y among. (let found = has_from_pick group set y (has_from_members (pick group set) y among) in
-        (found.0, Contains-members set found.0 low found.2, each found.0 found.2 ∙ ap (leaving_last n (pick group set)) found.3)))
-        (λ x among. (let there : has set x ≡ true = has_from_members set x among in
-        (actor_at group x, Contains-members (pick group set) (actor_at group x) (IsSet-pick set small) (has_pick group set x (lies x there) there), each x there)))
+    -- where a place past the group's is gone
+    past_up : (set place : ℕ) → set < 64 → has set place ≡ true → size group ≤ place → AddsUp (without set place) → saved set ≡ saved
+        (without set place) + slice_index rates place * left_days set → AddsUp set
+    past_up set place low there past before step =
+        let lt : place < 6 = below_width set 6 place low there in
+        omega (
+          arith,
+          before,
+          step,
+          no_cost place past lt (left_days set),
+          no_cost place past lt (left_days (with 0 place)),
+          costs_without set place lt there,
+          ap
+              (group_extra film scenes) (pick_past set place past),
+        )
 
-    pub whole_extra : size group ≤ 6 → places_extra lacking holds (full (size group)) ≡ group_extra film scenes group
-    whole_extra few =
-        let all : size (full (size group)) ≡ size group = size-full (size group) (omega (arith, few)) in
-        ap (λ (n : ℕ). extra_to lacking holds n (full (size group))) all
-        ∙ same_extra (size group) (full (size group)) (LiesBelow-full (size group)) (IsSet-full (size group) (omega (arith, few))) all
-        ∙ ap (extra_by_last film scenes (size group)) (pick-full group small)
+    -- with no one there
+    none_up : (set : ℕ) → set < 64 → size (pick group set) ≡ 0 → ((less : ℕ) → less < set → AddsUp less) → AddsUp set
+    none_up set low is before =
+        let none : extra set ≡ 0 = ap (λ (n : ℕ). extra_by_last film scenes n (pick group set)) is in
+        let empty : pick group set ≡ 0 = empty_from_size (pick group set) (IsSet-pick set) is in
+        let past : (place : ℕ) → has set place ≡ true → size group ≤ place
+        = λ place there. elim (cases_lt place (size group)) [
+          | inl real ↦ absurd (false≢true (sym (has-empty (actor_at group place)) ∙ ap (λ (s : ℕ). has s (actor_at group place)) (sym empty) ∙ has_pick group set place real there))
+          | inr le ↦ le
+        ] in
+        elim (saves.attained set low) [
+          | inl alone ↦ (
+              let nothing : costs set ≡ 0 = sum_below-none 6 (λ place. cond {A = ℕ} (has set place) (cost place) 0) (λ place lt. elim (by_bit (has set place)) [
+                | inl there ↦ ap (λ (b : Bool). cond {A = ℕ} b (cost place) 0) there ∙ no_cost place (past place there) lt (left_days (with 0 place))
+                | inr missing ↦ ap (λ (b : Bool). cond {A = ℕ} b (cost place) 0) missing
+              ]) in
+              omega (arith, alone, none, nothing))
+          | inr step ↦ past_up set step.0 low step.1 (past step.0 step.1) (before (without set step.0) (without_less set step.0 step.1)) step.2
+        ]
 
-  -- the days by patterns tell them
-  pub days_told : (lacking : List ℕ) → size group ≤ 6 → ((set : ℕ) → set < 64 → slice_index lacking set ≡ days_of film.days (λ scene. fits 6 set (pattern_of film.casts group scene)) (members scenes)) → TellsDays lacking
-  days_told lacking few told set lies =
-      let low : set < 2 ^ 6 = lies_small 6 set (λ i there. (let lt : i < size group = lies i there in omega (arith, lt, few))) in
-      told set low ∙ days_same film.days (λ scene. fits 6 set (pattern_of film.casts group scene)) (free (pick group set)) (members scenes) (λ scene.
-      fits_all 6 set (pattern_of film.casts group scene) low (pattern_below (slice_index film.casts scene)) ∙ by_places (slice_index film.casts scene))
-    where
-      pattern_below : (cast : ℕ) → pattern_to cast group (size group) < 2 ^ 6
-      pattern_below cast = lies_small 6 (pattern_to cast group (size group)) (λ i there. elim (cases_lt i (size group)) [
-        | inl lt ↦ omega (arith, lt, few)
-        | inr past ↦ absurd (false≢true (sym (pattern_past_end cast group (size group) i past) ∙ there))
-      ])
+    -- with some one there
+    some_up : (n set : ℕ) → set < 64 → size (pick group set) ≡ suc n → ((less : ℕ) → less < set → AddsUp less) → AddsUp set
+    some_up n set low is before =
+        let actors : ℕ = pick group set in
+        let by_last : extra set ≡ least_over (leaving_last n actors) (members actors) = ap (λ (k : ℕ). extra_by_last film scenes k actors) is in
+        let each : (place : ℕ) → place < size group → has set place ≡ true
+        → leaving_last n actors (actor_at group place) + (saved (without set place) + slice_index rates place * left_days set) ≡ costs set
+        = λ place lt there. omega (
+          arith,
+          last_pay n set place low lt there is,
+          before (without set place) (without_less set place there),
+          costs_without set place (omega
+              (arith, lt, few)) there,
+        ) in
+        let le : (place : ℕ) → place < size group → has set place ≡ true → extra set ≤ leaving_last n actors (actor_at group place)
+        = λ place lt there. omega (
+          arith,
+          by_last,
+          All-contains (λ y. least_over (leaving_last n actors) (members actors) ≤ leaving_last n actors y) (members actors) (actor_at group place)
+              (least_over-le (leaving_last n actors) (members actors)) (Contains-members actors (actor_at group place) (IsSet-pick set) (has_pick group set place lt there)),
+        ) in
+        let someone = some_member actors (IsSet-pick set) (λ empty. omega (arith, is, ap size empty ∙ size-empty)) in
+        let one = has_from_pick group set someone.0 someone.2 in
+        let best = least_over-attained (leaving_last n actors) (members actors) someone.0 (Contains-members actors someone.0 (IsSet-pick set) someone.2) in
+        let at = has_from_pick group set best.0 (has_from_members actors best.0 best.1) in
+        let last : extra set ≡ leaving_last n actors (actor_at group at.0) = by_last ∙ sym best.2 ∙ ap (leaving_last n actors) (sym at.3) in
+        let most : saved (without set at.0) + slice_index rates at.0 * left_days set ≤ saved set = saves.after_least set at.0 low at.2 in
+        elim (saves.attained set low) [
+          | inl alone ↦ omega (arith, alone, last, most, each at.0 at.1 at.2, le one.0 one.1 one.2, each one.0 one.1 one.2)
+          | inr step ↦ elim (cases_lt step.0 (size group)) [
+            | inl real ↦ omega (arith, last, most, each at.0 at.1 at.2, step.2, le step.0 real step.1, each step.0 real step.1)
+            | inr past ↦ past_up set step.0 low step.1 past (before (without set step.0) (without_less set step.0 step.1)) step.2
+          ]
+        ]
 
-      by_places : (cast : ℕ) → eqb (meet (pattern_to cast group (size group)) set) 0 ≡ eqb (meet cast (pick group set)) 0
-      by_places cast = same_test (eqb (meet (pattern_to cast group (size group)) set) 0) (eqb (meet cast (pick group set)) 0)
-          (λ none. unmet cast (pick group set) (λ i works there. (let found = has_from_pick group set i there in
-          false≢true (sym (met (pattern_to cast group (size group)) set found.0 (has-pattern cast group (size group) found.0 found.1 ∙ ap (has cast) found.3 ∙ works) found.2) ∙ none))))
-          (λ none. unmet (pattern_to cast group (size group)) set (λ place here there. (let lt : place < size group = lies place there in
-          false≢true (sym (met cast (pick group set) (actor_at group place) (sym (has-pattern cast group (size group) place lt) ∙ here) (has_pick group set place lt there)) ∙ none))))
+    either_up : (n set : ℕ) → size (pick group set) ≡ n → set < 64 → ((less : ℕ) → less < set → AddsUp less) → AddsUp set
+    either_up zero set is low before = none_up set low is before
+    either_up (suc n) set is low before = some_up n set low is before
 
--- nobody has no extra
-pub extra_none : (lacking holds : List ℕ) (set : ℕ) → set < 1 → 0 ≡ places_extra lacking holds set
-extra_none lacking holds set lt =
-    let is : set ≡ 0 = omega (arith, lt) in
-    sym (ap (λ (n : ℕ). extra_to lacking holds n set) (ap size is ∙ size-empty))
+    adds_up : (m set : ℕ) → set < m → set < 64 → AddsUp set
+    adds_up zero set bound low = absurd (omega (arith, bound))
+    adds_up (suc m) set bound low = either_up (size (pick group set)) set refl low (λ less lt. adds_up m less (omega (arith, lt, bound)) (omega (arith, lt, low)))
 
--- the least that a walk over the places found
-pub least_is : (lacking holds extras : List ℕ) (set : ℕ) → set < 64 → set ≢ 0 → ((place : ℕ) → has set place ≡ true → by_last lacking holds (slice_index extras) set place < 2 ^ 64)
-    → fold (λ least place. min least (by_last lacking holds (slice_index extras) set place)) (2 ^ 64 - 1) (members set) ≡ least_over (by_last lacking holds (slice_index extras) set) (members set)
-least_is lacking holds extras set small some each =
-    let low : IsSet set = omega (arith, small) in
-    let one = some_member set low some in
-    fold_all (by_last lacking holds (slice_index extras) set) (2 ^ 64 - 1) one.0 (members set) (Contains-members set one.0 low one.2) (omega (arith, each one.0 one.2))
+    pick_all : pick group (full 6) ≡ group
+    pick_all = same_has (pick group (full 6)) group (λ i. same_test (has (pick group (full 6)) i) (has group i)
+        (λ there. (let found = has_from_pick group (full 6) i there in ap (has group) (sym found.3) ∙ actor_there group found.0 found.1))
+        (λ there. (let found = place_of group i small there in
+        subst (λ (k : ℕ). has (pick group (full 6)) k ≡ true) found.2 (has_pick group (full 6) found.0 found.1 (has_full 6 found.0 (omega (arith, found.1, few)))))))
 
--- the extra of all places is that of the group
-pub extra_is : (film : GroupData) (scenes group : ℕ) (casts days holds lacking by_place : List ℕ) → casts ≡ film.casts → days ≡ film.days → holds ≡ film.holds → IsSet group → size group ≤ 6
-    → ((set : ℕ) → set < 64 → slice_index lacking set ≡ days_of days (λ scene. fits 6 set (pattern_of casts group scene)) (members scenes))
-    → ((place : ℕ) → place < size group → slice_index by_place place ≡ slice_index holds (actor_at group place))
-    → places_extra lacking by_place (full (size group)) ≡ group_extra film scenes group
-extra_is film scenes group casts days holds lacking by_place same_casts same_days same_holds small few told hold =
-    whole_extra film scenes group lacking by_place small
-    (days_told film scenes group lacking few (λ set lt. told set lt
-    ∙ ap (λ (xs : List ℕ). days_of days (λ scene. fits 6 set (pattern_of xs group scene)) (members scenes)) same_casts
-    ∙ ap (λ (xs : List ℕ). days_of xs (λ scene. fits 6 set (pattern_of film.casts group scene)) (members scenes)) same_days))
-    (λ place lt. hold place lt ∙ ap (λ (xs : List ℕ). slice_index xs (actor_at group place)) same_holds) few
+    -- what all save, and the extra, are what each is paid alone
+    pub whole : saved (full 6) + group_extra film scenes group ≡ sum_below 6 (λ place. slice_index rates place * sum_over film.days (meet scenes (slice_index stays place)))
+    whole =
+        let all : costs (full 6) ≡ sum_below 6 (λ place. slice_index rates place * sum_over film.days (meet scenes (slice_index stays place)))
+        = sum_below-ext 6 (λ place. cond {A = ℕ} (has (full 6) place) (cost place) 0) (λ place. slice_index rates place * sum_over film.days (meet scenes
+        (slice_index stays place)))
+        (λ place lt. ap (λ (b : Bool). cond {A = ℕ} b (cost place) 0) (has_full 6 place lt) ∙ ap (λ (s : ℕ). slice_index rates place * sum_over film.days s) (left_one place lt)) in
+        omega (arith, adds_up 64 (full 6) (full_small 6 6 (omega arith)) (full_small 6 6 (omega arith)), ap (group_extra film scenes) pick_all, all)
+
+-- by what a table has, the stays and rates by place
+pub paid_and_saved : (casts days holds all_stays stays rates : List ℕ) (scenes group most : ℕ) → IsTable casts all_stays days holds → size group ≤ 6 → LiesBelow
+    (length holds) group → LiesBelow (length casts) scenes
+    → ((place : ℕ) → place < size group → slice_index stays place ≡ slice_index all_stays (actor_at group place)) → ((place : ℕ) → size group ≤ place → place < 6
+    → slice_index stays place ≡ 2 ^ 64 - 1)
+    → ((place : ℕ) → place < size group → slice_index rates place ≡ slice_index holds (actor_at group place)) → ((place : ℕ) → size group ≤ place → place < 6
+    → slice_index rates place ≡ 0)
+    → IsSavedMost rates (λ set. sum_over days (left_by stays 6 set scenes)) most
+    → most + group_extra (record { casts = casts; days = days; holds = holds }) scenes group ≡ sum_below 6 (λ place. slice_index rates place * sum_over days (meet scenes
+    (slice_index stays place)))
+paid_and_saved casts days holds all_stays stays rates scenes group most table few known lies stay all_stay rate no_rate saved =
+    let small : IsSet group = is_set_below (length holds) group table.limits.actor_count known in
+    ap (λ (m : ℕ). m + group_extra (record { casts = casts; days = days; holds = holds }) scenes group) saved.is
+    ∙ whole (record { casts = casts; days = days; holds = holds }) scenes group stays rates small few lies table.limits.scene_count
+    (λ place scene lt within. ap (λ (s : ℕ). has s scene) (stay place lt) ∙ table.told.each (actor_at group place) scene (known (actor_at group place)
+    (actor_there group place lt)) within)
+    all_stay rate no_rate saved.saved saved.saves

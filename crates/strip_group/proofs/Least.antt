@@ -1,5 +1,6 @@
 -- The extra is what the cheapest order of leaving is paid, by who leaves last.
-use Rattle.std.proofs.Common.{◌≡◌, ◌≢◌, ℕ, zero, suc, ◌+◌, ◌*◌, ◌≤◌, ◌<◌, Bool, true, false, get_or, List, [], ◌∷◌, ◌++◌, All, slice_index, refl, sym, ap, ◌∙◌, subst, inl, inr, arith}
+use Rattle.std.proofs.Common.{◌≡◌, ◌≢◌, ℕ, zero, suc, ◌+◌, ◌*◌, ◌≤◌, ◌<◌, Bool, true, false, get_or}
+use Rattle.std.proofs.Common.{List, [], ◌∷◌, ◌++◌, All, slice_index, refl, sym, ap, ◌∙◌, subst, inl, inr, arith}
 use Rattle.std.proofs.lemmas.Bool.{false≢true}
 use Rattle.std.proofs.lemmas.Bool.Decides.{eqb_tells}
 use Rattle.std.proofs.lemmas.List.Elements.{All-head, All-tail, All-nil, All-push, All-weaker, All-contains}
@@ -47,7 +48,8 @@ gone_group group xs leaving = same_has (gone_after 0 xs) group same
       where
         by_test : (b : Bool) → has group i ≡ b → has (gone_after 0 xs) i ≡ has group i
         by_test true there = listed_gone 0 i xs (leaving.once i there) ∙ sym there
-        by_test false missing = not_listed 0 i xs (All-weaker (λ y. has group y ≡ true) (λ y. y ≢ i) (λ y known is. false≢true (sym missing ∙ ap (has group) (sym is) ∙ known)) xs leaving.known)
+        by_test false missing = not_listed 0 i xs (All-weaker (λ y. has group y ≡ true) (λ y. y ≢ i) (λ y known is. false≢true (sym missing ∙ ap (has group) (sym is)
+            ∙ known)) xs leaving.known)
             ∙ has-empty i ∙ sym missing
 
 -- ---- the one who leaves last
@@ -66,7 +68,8 @@ pay_by_last film set group last begin leaving = pay-append film set 0 last begin
 -- who leaves last of a group, after an order of the others
 leaves_last : (group last : ℕ) (begin : List ℕ) → has group last ≡ true → IsLeaving (without group last) begin → IsLeaving group (begin ++ last ∷ [])
 leaves_last group last begin there leaving = record {
-  known = All-push (λ y. has group y ≡ true) begin last (All-weaker (λ y. has (without group last) y ≡ true) (λ y. has group y ≡ true) (λ y known. (has_from_without group last y known).1) begin leaving.known) there;
+  known = All-push (λ y. has group y ≡ true) begin last (All-weaker (λ y. has (without group last) y ≡ true) (λ y. has group y ≡ true) (λ y known.
+      (has_from_without group last y known).1) begin leaving.known) there;
   once = λ i known. elim (eqb_tells last i) [
     | inl is ↦ subst (λ (y : ℕ). count y (begin ++ last ∷ []) ≡ 1) is.1 (count_last last begin ∙ ap (λ (n : ℕ). n + 1) none)
     | inr is_not ↦ count_before i last begin is_not.1 ∙ leaving.once i (has-without_other group last i is_not.1 ∙ known)
@@ -74,14 +77,16 @@ leaves_last group last begin there leaving = record {
 }
   where
     none : count last begin ≡ 0
-    none = count_none last begin (All-weaker (λ y. has (without group last) y ≡ true) (λ y. y ≢ last) (λ y known is. (has_from_without group last y known).0 (sym is)) begin leaving.known)
+    none = count_none last begin (All-weaker (λ y. has (without group last) y ≡ true) (λ y. y ≢ last) (λ y known is. (has_from_without group last y known).0
+        (sym is)) begin leaving.known)
 
 -- the others are an order of the group without the last
 others_leave : (group last : ℕ) (begin : List ℕ) → IsLeaving group (begin ++ last ∷ []) → (has group last ≡ true) × IsLeaving (without group last) begin
 others_leave group last begin leaving = (
   there,
   record {
-    known = λ k d lt. has-without_other group last (get_or begin k d) (λ same. differs k d lt (sym same)) ∙ All-begin (λ y. has group y ≡ true) begin (last ∷ []) leaving.known k d lt;
+    known = λ k d lt. has-without_other group last (get_or begin k d) (λ same. differs k d lt (sym same)) ∙ All-begin (λ y. has group y ≡ true) begin
+        (last ∷ []) leaving.known k d lt;
     once = λ i known. (let parts : (last ≢ i) × (has group i ≡ true) = has_from_without group last i known in
         sym (count_before i last begin parts.0) ∙ leaving.once i parts.1);
   },
@@ -136,8 +141,10 @@ module _ (film : GroupData) (set : ℕ) where
       by_split begin last leaves is rest =
           let parts : (has group last ≡ true) × IsLeaving (without group last) begin = others_leave group last begin leaves in
           let fewer : size (without group last) ≡ n = omega (arith, size-without group last small parts.0, more) in
-          let others : extra_by_last film set n (without group last) ≤ leaving_pay film set 0 begin = rest (without group last) (IsSet-without group last small) fewer begin parts.1 in
-          let one : least_over (by_last n group) (members group) ≤ by_last n group last = All-contains (λ y. least_over (by_last n group) (members group) ≤ by_last n group y) (members group) last (least_over-le (by_last n group) (members group)) (Contains-members group last small parts.0) in
+          let others : extra_by_last film set n (without group last) ≤ leaving_pay film set 0 begin = rest (without group last)
+          (IsSet-without group last small) fewer begin parts.1 in
+          let one : least_over (by_last n group) (members group) ≤ by_last n group last = All-contains (λ y. least_over (by_last n group) (members group) ≤ by_last n group y)
+          (members group) last (least_over-le (by_last n group) (members group)) (Contains-members group last small parts.0) in
           let pay : leaving_pay film set 0 order ≡ leaving_pay film set 0 begin + slice_index film.holds last * waited_days film set (without group last) last
           = ap (leaving_pay film set 0) is ∙ pay_by_last film set group last begin parts.1 in
           omega (arith, others, one, pay)

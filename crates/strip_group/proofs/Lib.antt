@@ -1,7 +1,12 @@
 mod Lists
 pub mod Least
 mod Places
-mod Fits
-mod Turned
+mod Left
+mod Saved
+mod Four
+mod Alone
+mod Lanes
+mod Blocks
+mod Waits
 mod Extra
 mod Rows

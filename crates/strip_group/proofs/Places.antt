@@ -1,21 +1,24 @@
--- The actors of a group by place, and the patterns of casts.
-use Rattle.std.proofs.Common.{◌≡◌, ◌≢◌, ℕ, zero, suc, ◌+◌, ◌^◌, ◌<◌, ◌≤◌, ◌⊎◌, Bool, true, false, replicate, set, sum, get_or-set_same, get_or-set_other, cond, bit_and}
+-- The actors of a group by place.
+use Rattle.std.proofs.Common.{◌≡◌, ◌≢◌, ℕ, zero, suc, ◌+◌, ◌^◌, ◌<◌, ◌≤◌, ◌⊎◌, Bool, true, false, not, replicate, set, sum, get_or-set_same, get_or-set_other, cond, bit_and}
 use Rattle.std.proofs.Common.{◌&&◌, List, ◌∷◌, ◌++◌, Contains, get_or, slice_index, length, refl, sym, ap, ◌∙◌, subst, inl, inr, arith, length-append, pow_pos}
-use Rattle.std.proofs.Math.Nat.{pow-suc}
 use Rattle.std.proofs.Math.Seq.{get_or-append_seam}
 use Rattle.std.proofs.lemmas.Bool.{cases_lt, cases_eq, false≢true}
 use Rattle.std.proofs.lemmas.Grind.{get_or_default_zero}
 use Rattle.std.proofs.lemmas.List.{get_or-replicate, get_or_past, length-replicate}
 use Rattle.std.proofs.lemmas.List.Sums.{get_or-le-sum_by}
 use Rattle.std.proofs.lemmas.List.Kept.{AllPairs-from_increasing}
-use Rattle.std.proofs.lemmas.Nat.{or_lt, pow_below, le_or_l, and_le_r}
+use Rattle.std.proofs.lemmas.Nat.{or_lt, pow_below, le_or_l, and_le_l, and_le_r}
 use Rattle.strip_mask.specs.Set.{IsSet, LiesBelow, full, has, meet, members, size, union, with, without}
-use Rattle.strip_mask.proofs.ByMembers.{below_width, empty_from, has-empty, has-meet, has-with_same, has-with_other, has-without_same}
+use Rattle.strip_mask.proofs.ByMembers.{empty_from, has-empty, has-meet, has-with_same, has-with_other, has-without_same}
 use Rattle.strip_mask.proofs.ByMembers.{has-without_other, has_from_with, has_from_without, same_has, with-without, without_absent}
-use Rattle.strip_mask.proofs.Below.{LiesBelow-full, full-zero, full-more, has_full}
+use Rattle.strip_mask.proofs.Below.{full-zero, full-more, has_full}
 use Rattle.strip_mask.proofs.Members.{Contains-members, members_in, members_rise}
-use Rattle.strip_mask.proofs.Sizes.{length-members, size-empty, size-with}
-use Rattle.strip_group.specs.Pattern.{actor_at, picked, pick, pattern_of, pattern_to}
+use Rattle.strip_mask.specs.Set.{sum_over}
+use Rattle.strip_mask.specs.Sums.{sum_below}
+use Rattle.strip_mask.proofs.Sums.{sum_below_mono, sum_below-slice}
+use Rattle.strip_mask.proofs.Totals.{sum_over_within}
+use Rattle.strip_mask.proofs.Sizes.{length-members}
+use Rattle.strip_group.specs.Places.{actor_at, picked, pick}
 
 -- ---- tests
 
@@ -71,19 +74,13 @@ full_small (suc n) most le =
 pub lies_small : (n set : ℕ) → LiesBelow n set → set < 2 ^ n
 unfolding meet
 lies_small n set lies =
-    let same : set ≡ bit_and set (full n) = same_has set (meet set (full n)) (λ i. kept (has set i) (has (full n) i) (λ there. has_full n i (lies i there)) ∙ sym (has-meet set (full n) i)) in
+    let same : set ≡ bit_and set (full n) = same_has set (meet set (full n)) (λ i. kept (has set i) (has (full n) i) (λ there. has_full n i (lies i there)) ∙ sym
+    (has-meet set (full n) i)) in
     omega (arith, same, and_le_r set (full n), full_small n n (omega arith))
   where
     kept : (a b : Bool) → (a ≡ true → b ≡ true) → a ≡ (a && b)
     kept true b within = sym (within refl)
     kept false b within = refl
-
-pub size-full : (n : ℕ) → n ≤ 64 → size (full n) ≡ n
-size-full zero le = ap size full-zero ∙ size-empty
-size-full (suc n) le =
-    let more : suc n ≡ n + 1 = omega arith in
-    ap size (ap full more ∙ full-more n) ∙ size-with (full n) n (omega (arith, le)) (refuted (has (full n) n) (λ there. omega (arith, LiesBelow-full n n there)))
-    ∙ (let before : size (full n) ≡ n = size-full n (omega (arith, le)) in omega (arith, before))
 
 -- ---- the actor at a place
 
@@ -99,15 +96,21 @@ actor_there group place lt = members_in group place 0 (let long : length (member
 
 pub place_of : (group i : ℕ) → IsSet group → has group i ≡ true → (place : ℕ) × (place < size group) × (actor_at group place ≡ i)
 place_of group i small there =
-    let found : Contains (members group) i = Contains-members group i small there in
-    (found.0, (let long : length (members group) ≡ size group = length-members group in omega (arith, long, found.1)), sym (get_or_default_zero (members group) found.0 i found.1) ∙ found.2)
+    let found : Contains (members group) i = Contains-members group i small there in (
+      found.0,
+      (let long : length (members group) ≡ size group = length-members group in omega (arith, long, found.1)),
+      sym (get_or_default_zero
+          (members group) found.0 i found.1) ∙ found.2,
+    )
 
 pub places_apart : (group i j : ℕ) → i < size group → j < size group → i ≢ j → actor_at group i ≢ actor_at group j
 places_apart group i j here there other same =
     let long : length (members group) ≡ size group = length-members group in
     elim (cases_lt i j) [
-      | inl less ↦ (let rise : actor_at group i < actor_at group j = AllPairs-from_increasing (members group) (members_rise group) i j 0 less (omega (arith, long, there)) in omega (arith, rise, same))
-      | inr more ↦ (let rise : actor_at group j < actor_at group i = AllPairs-from_increasing (members group) (members_rise group) j i 0 (omega (arith, more, other)) (omega (arith, long, here)) in omega (arith, rise, same))
+      | inl less ↦ (let rise : actor_at group i < actor_at group j = AllPairs-from_increasing (members group) (members_rise group) i j 0 less (omega
+          (arith, long, there)) in omega (arith, rise, same))
+      | inr more ↦ (let rise : actor_at group j < actor_at group i = AllPairs-from_increasing (members group) (members_rise group) j i 0 (omega (arith, more, other)) (omega
+          (arith, long, here)) in omega (arith, rise, same))
     ]
 
 -- ---- the actors at the places of a set
@@ -138,7 +141,8 @@ has_picked group set (suc n) place lt there = elim (cases_eq place n) [
       ∙ ap (λ (k : ℕ). has (with (picked group set n) (actor_at group n)) (actor_at group k)) is ∙ has-with_same (picked group set n) (actor_at group n)
   | inr other ↦ (let before : has (picked group set n) (actor_at group place) ≡ true = has_picked group set n place (omega (arith, lt, other)) there in
       elim (by_bit (has set n)) [
-        | inl in_set ↦ ap (λ (s : ℕ). has s (actor_at group place)) (picked_with group set n in_set) ∙ has_with (picked group set n) (actor_at group n) (actor_at group place) before
+        | inl in_set ↦ ap (λ (s : ℕ). has s (actor_at group place)) (picked_with group set n in_set) ∙ has_with (picked group set n) (actor_at group n)
+            (actor_at group place) before
         | inr out ↦ ap (λ (s : ℕ). has s (actor_at group place)) (picked_past group set n out) ∙ before
       ])
 ]
@@ -156,7 +160,8 @@ pub has_pick : (group set place : ℕ) → place < size group → has set place 
 has_pick group set place lt there = has_picked group set (size group) place lt there
 
 pub pick-empty : (group : ℕ) → pick group 0 ≡ 0
-pick-empty group = empty_from (pick group 0) (λ i. refuted (has (pick group 0) i) (λ there. (let found = has_from_pick group 0 i there in false≢true (sym (has-empty found.0) ∙ found.2))))
+pick-empty group = empty_from (pick group 0) (λ i. refuted (has (pick group 0) i) (λ there. (let found = has_from_pick group 0 i there in false≢true (sym (has-empty found.0)
+    ∙ found.2))))
 
 pub pick-full : (group : ℕ) → IsSet group → pick group (full (size group)) ≡ group
 pick-full group small = same_has (pick group (full (size group))) group (λ i. same_test (has (pick group (full (size group))) i) (has group i)
@@ -165,7 +170,8 @@ pick-full group small = same_has (pick group (full (size group))) group (λ i. s
     subst (λ (k : ℕ). has (pick group (full (size group))) k ≡ true) found.2 (has_pick group (full (size group)) found.0 found.1 (has_full (size group) found.0 found.1)))))
 
 pub pick-one : (group place : ℕ) → place < size group → pick group (with 0 place) ≡ with 0 (actor_at group place)
-pick-one group place lt = same_has (pick group (with 0 place)) (with 0 (actor_at group place)) (λ i. same_test (has (pick group (with 0 place)) i) (has (with 0 (actor_at group place)) i)
+pick-one group place lt = same_has (pick group (with 0 place)) (with 0 (actor_at group place)) (λ i. same_test (has (pick group (with 0 place)) i) (has (with 0
+    (actor_at group place)) i)
     (λ there. (let found = has_from_pick group (with 0 place) i there in elim (has_from_with 0 place found.0 found.2) [
       | inl is ↦ subst (λ (k : ℕ). has (with 0 (actor_at group place)) k ≡ true) (ap (actor_at group) is ∙ found.3) (has-with_same 0 (actor_at group place))
       | inr none ↦ absurd (false≢true (sym (has-empty found.0) ∙ none))
@@ -176,64 +182,17 @@ pick-one group place lt = same_has (pick group (with 0 place)) (with 0 (actor_at
     ]))
 
 pub pick-without : (group set place : ℕ) → place < size group → pick group (without set place) ≡ without (pick group set) (actor_at group place)
-pick-without group set place lt = same_has (pick group (without set place)) (without (pick group set) (actor_at group place)) (λ i. same_test (has (pick group (without set place)) i) (has (without (pick group set) (actor_at group place)) i)
+pick-without group set place lt = same_has (pick group (without set place)) (without (pick group set) (actor_at group place)) (λ i. same_test (has (pick group
+    (without set place)) i) (has (without (pick group set) (actor_at group place)) i)
     (λ there. (let found = has_from_pick group (without set place) i there in
     let parts = has_from_without set place found.0 found.2 in
     subst (λ (k : ℕ). has (without (pick group set) (actor_at group place)) k ≡ true) found.3
-    (has-without_other (pick group set) (actor_at group place) (actor_at group found.0) (places_apart group place found.0 lt found.1 parts.0) ∙ has_pick group set found.0 found.1 parts.1)))
+    (has-without_other (pick group set) (actor_at group place) (actor_at group found.0) (places_apart group place found.0 lt found.1 parts.0)
+    ∙ has_pick group set found.0 found.1 parts.1)))
     (λ there. (let parts = has_from_without (pick group set) (actor_at group place) i there in
     let found = has_from_pick group set i parts.1 in
     subst (λ (k : ℕ). has (pick group (without set place)) k ≡ true) found.3
     (has_pick group (without set place) found.0 found.1 (has-without_other set place found.0 (λ same. parts.0 (ap (actor_at group) same ∙ found.3)) ∙ found.2)))))
-
--- ---- patterns
-
-pattern_with : (cast group n : ℕ) → has cast (actor_at group n) ≡ true → pattern_to cast group (suc n) ≡ with (pattern_to cast group n) n
-pattern_with cast group n there = ap (λ (b : Bool). cond {A = ℕ} b (with (pattern_to cast group n) n) (pattern_to cast group n)) there
-
-pattern_past : (cast group n : ℕ) → has cast (actor_at group n) ≡ false → pattern_to cast group (suc n) ≡ pattern_to cast group n
-pattern_past cast group n missing = ap (λ (b : Bool). cond {A = ℕ} b (with (pattern_to cast group n) n) (pattern_to cast group n)) missing
-
--- a turn over the group
-pub pattern-more : (cast group n : ℕ) → has cast (actor_at group n) ≡ true → pattern_to cast group (n + 1) ≡ with (pattern_to cast group n) n
-pattern-more cast group n there = (let next : n + 1 ≡ suc n = omega arith in ap (pattern_to cast group) next) ∙ pattern_with cast group n there
-
-pub pattern-same : (cast group n : ℕ) → has cast (actor_at group n) ≡ false → pattern_to cast group (n + 1) ≡ pattern_to cast group n
-pattern-same cast group n missing = (let next : n + 1 ≡ suc n = omega arith in ap (pattern_to cast group) next) ∙ pattern_past cast group n missing
-
-pub pattern_small : (cast group n : ℕ) → pattern_to cast group n < 2 ^ n
-pattern_small cast group zero = omega arith
-pattern_small cast group (suc n) =
-    let before : pattern_to cast group n < 2 ^ suc n = omega (arith, pattern_small cast group n, pow-suc 2 n) in
-    elim (by_bit (has cast (actor_at group n))) [
-      | inl there ↦ subst (λ (s : ℕ). s < 2 ^ suc n) (sym (pattern_with cast group n there)) (with_small (suc n) (pattern_to cast group n) n before (omega arith))
-      | inr missing ↦ subst (λ (s : ℕ). s < 2 ^ suc n) (sym (pattern_past cast group n missing)) before
-    ]
-
-pub pattern_past_end : (cast group n place : ℕ) → n ≤ place → has (pattern_to cast group n) place ≡ false
-pattern_past_end cast group n place past = refuted (has (pattern_to cast group n) place) (λ there. omega (arith, past, below_width (pattern_to cast group n) n place (pattern_small cast group n) there))
-
-pub has-pattern : (cast group n place : ℕ) → place < n → has (pattern_to cast group n) place ≡ has cast (actor_at group place)
-has-pattern cast group zero place lt = absurd (omega (arith, lt))
-has-pattern cast group (suc n) place lt = elim (cases_eq place n) [
-  | inl is ↦ elim (by_bit (has cast (actor_at group n))) [
-    | inl there ↦ ap (λ (s : ℕ). has s place) (pattern_with cast group n there) ∙ subst (λ (k : ℕ). has (with (pattern_to cast group n) n) k ≡ true) (sym is) (has-with_same (pattern_to cast group n) n)
-        ∙ sym (ap (λ (k : ℕ). has cast (actor_at group k)) is ∙ there)
-    | inr missing ↦ ap (λ (s : ℕ). has s place) (pattern_past cast group n missing) ∙ pattern_past_end cast group n place (omega (arith, is))
-        ∙ sym (ap (λ (k : ℕ). has cast (actor_at group k)) is ∙ missing)
-  ]
-  | inr other ↦ (let before : has (pattern_to cast group n) place ≡ has cast (actor_at group place) = has-pattern cast group n place (omega (arith, lt, other)) in
-      elim (by_bit (has cast (actor_at group n))) [
-        | inl there ↦ ap (λ (s : ℕ). has s place) (pattern_with cast group n there) ∙ has-with_other (pattern_to cast group n) n place (λ same. other (sym same)) ∙ before
-        | inr missing ↦ ap (λ (s : ℕ). has s place) (pattern_past cast group n missing) ∙ before
-      ])
-]
-
-pub pattern_of_small : (casts : List ℕ) (group scene : ℕ) → size group ≤ 6 → pattern_of casts group scene < 64
-pattern_of_small casts group scene few = lies_small 6 (pattern_of casts group scene) (λ i there. elim (cases_lt i (size group)) [
-  | inl lt ↦ omega (arith, lt, few)
-  | inr past ↦ absurd (false≢true (sym (pattern_past_end (slice_index casts scene) group (size group) i past) ∙ there))
-])
 
 -- ---- numbers not yet written
 
@@ -261,3 +220,34 @@ slice_le_sum xs i = elim (cases_lt i (length xs)) [
   | inl lt ↦ get_or-le-sum_by (λ x. x) xs i 0 lt
   | inr past ↦ omega (arith, get_or_past xs i 0 past)
 ]
+
+pub meet_most : (a b : ℕ) → meet a b ≤ a
+unfolding meet
+meet_most a b = and_le_l a b
+
+-- the days of a set are within those of all scenes
+pub sum_over_le_all : (v : List ℕ) (a : ℕ) → length v ≤ 64 → sum_over v a ≤ sum v
+sum_over_le_all v a long =
+    let part : sum_below (length v) (λ i. cond (has a i) (slice_index v i) 0) ≤ sum_below (length v) (slice_index v)
+    = sum_below_mono (length v) (λ i. cond (has a i) (slice_index v i) 0) (slice_index v) (λ i _. within (has a i) (slice_index v i)) in
+    omega (arith, sum_over_within v a (length v) long (omega arith), part, sum_below-slice v)
+  where
+    within : (b : Bool) (x : ℕ) → cond {A = ℕ} b x 0 ≤ x
+    within true x = omega arith
+    within false x = omega arith
+
+-- ---- the scenes without an actor, so far
+
+module _ (casts : List ℕ) (actor scene scenes : ℕ) (told : (s : ℕ) → s < scene → has scenes s ≡ not (has (slice_index casts s) actor)) where
+  pub told_with : has (slice_index casts scene) actor ≡ false → (s : ℕ) → s < scene + 1 → has (with scenes scene) s ≡ not (has (slice_index casts s) actor)
+  told_with lacks s lt = elim (cases_eq scene s) [
+    | inl is ↦ subst (λ (k : ℕ). has (with scenes scene) k ≡ not (has (slice_index casts k) actor)) is (has-with_same scenes scene ∙ ap not (sym lacks))
+    | inr other ↦ has-with_other scenes scene s other ∙ told s (omega (arith, lt, other))
+  ]
+
+  pub told_past : LiesBelow scene scenes → has (slice_index casts scene) actor ≡ true → (s : ℕ) → s < scene + 1 → has scenes s ≡ not (has (slice_index casts s) actor)
+  told_past lies works s lt = elim (cases_eq scene s) [
+    | inl is ↦ subst (λ (k : ℕ). has scenes k ≡ not (has (slice_index casts k) actor)) is (refuted (has scenes scene) (λ there. (let below = lies scene there in omega
+        (arith, below))) ∙ ap not (sym works))
+    | inr other ↦ told s (omega (arith, lt, other))
+  ]

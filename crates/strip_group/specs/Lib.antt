@@ -1,2 +1,4 @@
 pub mod Group
-pub mod Pattern
+pub mod Days
+pub mod Places
+pub mod Saved

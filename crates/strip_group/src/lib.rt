@@ -1,9 +1,10 @@
 //! What a group of actors on location is paid for waiting at least.
 #![tactic(auto)]
 
-mod extras;
+mod by_set;
+mod days;
 pub mod laws;
-mod pattern;
 mod table;
 
+pub use days::DaySums;
 pub use table::GroupTable;
