@@ -15,6 +15,4 @@ pub mod Costs
 pub mod Paths
 pub mod Moves
 pub mod Started
-pub mod Justified
-pub mod Ahead
 pub mod Rows

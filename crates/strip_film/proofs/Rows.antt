@@ -6,7 +6,6 @@ use Rattle.strip_film.specs.Shoot.{on_location, ready, step_cost}
 use Rattle.strip_film.specs.Finish.{steps_cost}
 use Rattle.strip_film.specs.Running.{scenes_with}
 use Rattle.strip_film.specs.Bounds.{plain_bound}
-use Rattle.strip_film.specs.Rules.{Rules, known, ahead}
 
 -- three scenes of two actors each, one day each
 abbrev triangle : FilmData
@@ -39,18 +38,6 @@ rising_triangle = refl
 turned_triangle : steps_cost triangle 7 (1 ∷ 2 ∷ 0 ∷ []) ≡ 14
 unfolding has union meet minus with without full members numbers_below sum_over
 turned_triangle = refl
-
-abbrev triangle_rules : Rules
-triangle_rules = record { film = triangle; bound = plain_bound triangle; firsts = ready triangle }
-
--- the best first step of the whole costs 3, and what then remains at least 9; a line on that rest raises it
-look_at_triangle : ahead triangle_rules 7 ≡ 12
-unfolding has union meet minus with without full members numbers_below sum_over
-look_at_triangle = refl
-
-known_of_triangle : known triangle_rules (record { set = 6; bound = 10 } ∷ record { set = 5; bound = 11 } ∷ []) 6 ≡ 10
-unfolding has members numbers_below sum_over
-known_of_triangle = refl
 
 -- after the first scene the first actor has one done and one left, and the third has two left; after the second these two wait
 one_left_of_first : scenes_with triangle 6 0 ≡ 1

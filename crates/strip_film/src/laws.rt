@@ -1,17 +1,16 @@
 //! Laws of the definitions. Each function does nothing: its contract is the law.
-ghost use Rattle.std.specs.Prelude.{◌≡◌, ◌≢◌, ◌↔◌, ℕ, ◌+◌, ◌*◌, ◌^◌, ◌<◌, ◌≤◌, true, List, [], length, slice_index, All};
+ghost use Rattle.std.specs.Prelude.{◌≡◌, ◌≢◌, ◌↔◌, ℕ, ◌+◌, ◌*◌, ◌^◌, ◌<◌, ◌≤◌, true, List, [], length, slice_index};
 ghost use Rattle.strip_mask.specs.Set.{IsSet, has, minus, sum_over};
 ghost use Rattle.strip_pay.specs.Film.{FilmData};
 ghost use Rattle.strip_pay.specs.Order.{IsKeptOrder, IsOrder};
 ghost use Rattle.strip_pay.specs.Pay.{IsOptimum, pay_of};
-ghost use Rattle.strip_film.specs.declared.shared.Line.{Line};
 ghost use Rattle.strip_film.specs.Film.{IsFilm, LiesIn, all_scenes};
 ghost use Rattle.strip_film.specs.Shoot.{cast_of, on_location, ready, step_cost};
 ghost use Rattle.strip_film.specs.Located.{IsReady, WorksInside, WorksOutside};
 ghost use Rattle.strip_film.specs.Finish.{AreFirsts, EachOnce, IsAtMostFinish, IsFinish, steps_cost};
 ghost use Rattle.strip_film.specs.Path.{IsPath, PathData};
 ghost use Rattle.strip_film.specs.Running.{IsRunning, RunningData};
-ghost use Rattle.strip_film.specs.Rules.{AreJustified, BeginLeast, BoundsFinish, FirstsAreReady, Rules, ahead, known};
+ghost use Rattle.strip_film.specs.Rules.{BeginLeast};
 
 /// A set's cast is who works in a scene of it. On location is who also works in a scene outside it,
 /// which was shot before.
@@ -95,19 +94,4 @@ pub fn costs_stay_small()
     ensures steps { (film : FilmData) (set : ℕ) (scenes : List ℕ) → IsFilm film → IsSet set → AreFirsts (λ q. q) set scenes
         → steps_cost film set scenes < 2 ^ 63 }
     ensures paid { (film : FilmData) (path : PathData) → IsFilm film → IsPath film path → path.paid < 2 ^ 63 }
-{}
-
-/// What a justified list of lines makes known is true: each bound is at most the cost of finishing its
-/// set.
-pub fn a_justified_list_is_true()
-    ensures lines { (rules : Rules) (lines : List Line) → IsFilm rules.film → BoundsFinish rules → BeginLeast rules
-        → AreJustified rules lines → All (λ line. IsAtMostFinish rules.film line.set line.bound) lines }
-    ensures known { (rules : Rules) (lines : List Line) (set : ℕ) → IsFilm rules.film → BoundsFinish rules → BeginLeast rules
-        → AreJustified rules lines → LiesIn rules.film set → IsAtMostFinish rules.film set (known rules lines set) }
-{}
-
-/// The look-ahead of a set of the film's scenes is at most the cost of finishing it.
-pub fn the_look_ahead_is_true()
-    ensures { (rules : Rules) → IsFilm rules.film → BoundsFinish rules → BeginLeast rules → FirstsAreReady rules
-        → (set : ℕ) → LiesIn rules.film set → IsAtMostFinish rules.film set (ahead rules set) }
 {}

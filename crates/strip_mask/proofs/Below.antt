@@ -1,9 +1,10 @@
 -- All numbers below a limit, and sets of such numbers.
 use Rattle.std.proofs.Common.{◌≡◌, ◌↔◌, ℕ, zero, suc, ◌+◌, ◌<◌, ◌≤◌, Bool, true, false, not, ◌&&◌, ltb, inl, inr, refl, sym, ap, ◌∙◌, subst, arith, add-one}
-use Rattle.std.proofs.lemmas.Bool.{cases_lt, lt-ltb, ltb-true}
+use Rattle.std.proofs.lemmas.Bool.{cases_lt, le-ltb, lt-ltb, ltb-true}
 use Rattle.std.proofs.lemmas.Bool.Decides.{nat_tests}
-use Rattle.strip_mask.specs.Set.{IsSet, has, with, without, meet, minus, full, LiesBelow}
+use Rattle.strip_mask.specs.Set.{IsSet, has, with, without, meet, minus, size, full, LiesBelow}
 use Rattle.strip_mask.proofs.ByMembers.{has-with, has-meet, has-minus, has-empty, has_from_minus, has_from_without, empty_from, IsSet-empty, IsSet-with, IsSet-meet_right, same_has}
+use Rattle.strip_mask.proofs.Sizes.{size-empty, size-with}
 
 pub and_true : (a b : Bool) → a ≡ true → b ≡ true → (a && b) ≡ true
 and_true a b p q = rw (p, q) refl
@@ -69,3 +70,12 @@ LiesBelow-minus n a b lies i there = lies i (has_from_minus a b i there).0
 
 pub LiesBelow-without : (n set s : ℕ) → LiesBelow n set → LiesBelow n (without set s)
 LiesBelow-without n set s lies i there = lies i (has_from_without set s i there).1
+
+-- there are n numbers below n
+pub size-full : (n : ℕ) → n ≤ 64 → size (full n) ≡ n
+size-full zero le = ap size full-zero ∙ size-empty
+size-full (suc n) le =
+    let more : suc n ≡ n + 1 = omega arith in
+    let past : has (full n) n ≡ false = has-full n n ∙ le-ltb n n (omega arith) in
+    let before : size (full n) ≡ n = size-full n (omega (arith, le)) in
+    ap size (ap full more ∙ full-more n) ∙ size-with (full n) n (omega (arith, le)) past ∙ omega (arith, before)

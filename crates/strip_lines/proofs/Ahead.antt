@@ -9,7 +9,8 @@ use Rattle.strip_pay.proofs.Lists.{contains_cases, contains_none}
 use Rattle.strip_film.specs.Film.{IsFilm, LiesIn}
 use Rattle.strip_film.specs.Shoot.{step_cost}
 use Rattle.strip_film.specs.Finish.{IsAtMostFinish, steps_cost}
-use Rattle.strip_film.specs.Rules.{Rules, least_of, least_step, ahead, BoundsFinish, BeginLeast, FirstsAreReady}
+use Rattle.strip_film.specs.Rules.{Rules, BoundsFinish, BeginLeast, FirstsAreReady}
+use Rattle.strip_lines.specs.Lines.{least_of, least_step, ahead}
 use Rattle.strip_film.proofs.Lists.{ready_there}
 
 least_of_le : (f : ℕ → ℕ) (x : ℕ) (xs : List ℕ) (y : ℕ) → Contains (x ∷ xs) y → least_of f x xs ≤ f y

@@ -1,5 +1,5 @@
-use Rattle.strip_film.proofs.Justified.{known_is_true, lines_are_true}
-use Rattle.strip_film.proofs.laws.a_justified_list_is_true.Goals as goal
+use Rattle.strip_lines.proofs.Justified.{known_is_true, lines_are_true}
+use Rattle.strip_lines.proofs.laws.a_justified_list_is_true.Goals as goal
 
 pub returns-clause-lines : goal.returns-clause-lines
 returns-clause-lines c = lines_are_true

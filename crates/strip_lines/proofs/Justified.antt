@@ -9,7 +9,8 @@ use Rattle.strip_film.specs.declared.shared.Line.{Line}
 use Rattle.strip_film.specs.Film.{IsFilm, LiesIn}
 use Rattle.strip_film.specs.Shoot.{step_cost}
 use Rattle.strip_film.specs.Finish.{IsAtMostFinish, steps_cost}
-use Rattle.strip_film.specs.Rules.{Rules, known, IsJustified, AreJustified, BoundsFinish, BeginLeast}
+use Rattle.strip_film.specs.Rules.{Rules, BoundsFinish, BeginLeast}
+use Rattle.strip_lines.specs.Lines.{known, IsJustified, AreJustified}
 use Rattle.strip_film.proofs.Lists.{ready_there}
 
 -- a maximum that is taken on a test

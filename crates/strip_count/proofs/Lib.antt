@@ -1,0 +1,6 @@
+pub mod Sums
+pub mod Enumerated
+pub mod Length
+pub mod Later
+pub mod Shares
+pub mod Rows

@@ -1,0 +1,71 @@
+//! Laws of the definitions. Each function does nothing but cite other laws: its contract is the law.
+ghost use Rattle.std.specs.Prelude.{◌≡◌, ℕ, ◌<◌, ◌≤◌, List, [], ◌∷◌, ◌++◌, length, All};
+ghost use Rattle.strip_pay.specs.declared.kind.Kind.{Kind};
+ghost use Rattle.strip_pay.specs.Film.{FilmData};
+ghost use Rattle.strip_film.specs.declared.shared.Line.{Line};
+ghost use Rattle.strip_film.specs.Film.{IsFilm, LiesIn};
+ghost use Rattle.strip_film.specs.Finish.{IsAtMostFinish};
+ghost use Rattle.strip_film.specs.Rules.{BeginLeast, BoundsFinish, FirstsAreReady, Rules};
+ghost use Rattle.strip_lines.specs.Lines.{AreJustified, GrowTo, IsJustified, ahead, known, line_at, rules_of, with_raised};
+
+use strip_bound::laws::the_bounds_are_true;
+use strip_rule::laws::an_open_first_begins_a_least_tail;
+
+/// What lines go by holds of the static bounds and the open firsts of every film and kind: the bounds
+/// are at most the cost of finishing, and some open first begins a least tail; and open firsts are
+/// ready.
+pub fn the_rules_are_true()
+    ensures bounds { (kind : Kind) (film : FilmData) → IsFilm film → BoundsFinish (rules_of kind film) }
+    ensures begin { (kind : Kind) (film : FilmData) → IsFilm film → BeginLeast (rules_of kind film) }
+    ensures ready { (kind : Kind) (film : FilmData) → IsFilm film → FirstsAreReady (rules_of kind film) }
+{
+    the_bounds_are_true();
+    an_open_first_begins_a_least_tail();
+}
+
+/// What a justified list of lines makes known is true: each bound is at most the cost of finishing its
+/// set.
+pub fn a_justified_list_is_true()
+    ensures lines { (rules : Rules) (lines : List Line) → IsFilm rules.film → BoundsFinish rules → BeginLeast rules
+        → AreJustified rules lines → All (λ line. IsAtMostFinish rules.film line.set line.bound) lines }
+    ensures known { (rules : Rules) (lines : List Line) (set : ℕ) → IsFilm rules.film → BoundsFinish rules → BeginLeast rules
+        → AreJustified rules lines → LiesIn rules.film set → IsAtMostFinish rules.film set (known rules lines set) }
+{}
+
+/// The look-ahead of a set of the film's scenes is at most the cost of finishing it.
+pub fn the_look_ahead_is_true()
+    ensures { (rules : Rules) → IsFilm rules.film → BoundsFinish rules → BeginLeast rules → FirstsAreReady rules
+        → (set : ℕ) → LiesIn rules.film set → IsAtMostFinish rules.film set (ahead rules set) }
+{}
+
+/// What is known of a set is the greatest of its static bound and the bounds of the lines with this
+/// set.
+pub fn what_is_known_is_the_greatest()
+    ensures bound { (rules : Rules) (lines : List Line) (set : ℕ) → rules.bound set ≤ known rules lines set }
+    ensures line { (rules : Rules) (lines : List Line) (place : ℕ) → place < length lines
+        → (line_at lines place).bound ≤ known rules lines (line_at lines place).set }
+    ensures least { (rules : Rules) (lines : List Line) (set most : ℕ) → rules.bound set ≤ most
+        → ((place : ℕ) → place < length lines → (line_at lines place).set ≡ set → (line_at lines place).bound ≤ most)
+        → known rules lines set ≤ most }
+{}
+
+/// Where lines grow, what they make known doesn't fall, and what they justify stays justified.
+pub fn what_is_known_stays()
+    ensures known { (rules : Rules) (lines more : List Line) (set : ℕ) → GrowTo lines more
+        → known rules lines set ≤ known rules more set }
+    ensures justified { (rules : Rules) (lines more : List Line) (line : Line) → GrowTo lines more
+        → IsJustified rules lines line → IsJustified rules more line }
+{}
+
+/// A list stays justified where a line with the static bound of its set is added, and where the bound
+/// of one of its lines is raised to a justified one; and it grows so.
+pub fn justified_lists_grow()
+    ensures added { (rules : Rules) (lines : List Line) (line : Line) → AreJustified rules lines → LiesIn rules.film line.set
+        → line.bound ≤ rules.bound line.set → AreJustified rules (lines ++ line ∷ []) }
+    ensures added_grows { (lines : List Line) (line : Line) → GrowTo lines (lines ++ line ∷ []) }
+    ensures raised { (rules : Rules) (lines : List Line) (place bound : ℕ) → AreJustified rules lines → place < length lines
+        → IsJustified rules lines (record { set = (line_at lines place).set; bound = bound })
+        → AreJustified rules (with_raised lines place bound) }
+    ensures raised_grows { (lines : List Line) (place bound : ℕ) → place < length lines
+        → GrowTo lines (with_raised lines place bound) }
+{}
