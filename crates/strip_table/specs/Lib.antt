@@ -1,0 +1,4 @@
+pub mod Home
+pub mod Bucket
+pub mod Stripe
+pub mod Shown

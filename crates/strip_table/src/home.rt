@@ -1,0 +1,31 @@
+// Where the entry of a set may stand.
+ghost use Rattle.std.specs.Prelude.{◌≡◌, ℕ, ◌<◌};
+ghost use Rattle.strip_table.specs.Home.{bucket_of, hash, stripe_of};
+
+/// How many stripes a table has.
+pub const STRIPES: u32 = 16;
+
+const MULTIPLIER: u64 = 0x9E37_79B9_7F4A_7C15;
+
+fn hash(set: u64) -> u64
+    ensures { result ≡ hash set }
+{
+    set.wrapping_mul(MULTIPLIER)
+}
+
+/// The stripe that the set belongs to, a number below 16.
+pub fn stripe_of(set: u64) -> u32
+    ensures stripe { result ≡ stripe_of set }
+    ensures below { result < STRIPES }
+{
+    (hash(set) >> 60) as u32
+}
+
+/// The bucket that the set belongs to among so many, of which there is at least 1: a number below theirs.
+pub fn bucket_of(set: u64, buckets: u32) -> u32
+    requires { 0 < buckets }
+    ensures bucket { result ≡ bucket_of set buckets }
+    ensures below { result < buckets }
+{
+    ((hash(set) >> 28) % (1 << 32)) as u32 % buckets
+}
