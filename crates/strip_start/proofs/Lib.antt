@@ -1,0 +1,13 @@
+pub mod Parts
+pub mod Along
+pub mod Turned
+pub mod Kept
+pub mod Places
+pub mod Tried
+pub mod Chains
+pub mod Leasts
+pub mod Past
+pub mod Small
+pub mod Onward
+pub mod Chosen
+pub mod Rows

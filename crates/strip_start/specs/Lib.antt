@@ -1,0 +1,4 @@
+pub mod Greedy
+pub mod Moves
+pub mod Sides
+pub mod Scan
