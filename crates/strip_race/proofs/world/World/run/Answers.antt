@@ -1,0 +1,49 @@
+use Rattle.std.proofs.Common.{◌≡◌, ℕ, IsTrue, length, refl, subst, arith}
+use Rattle.strip_race.proofs.Runs.{Took, ran_all, ran_to, took_next}
+use Rattle.strip_race.proofs.world.World.run.Goals as goal
+
+pub loop-count-init : goal.loop-count-init
+loop-count-init c = (refl, c.requires)
+
+pub allows-requires : goal.allows-requires
+allows-requires c = c.loop-count.invariant.1
+
+pub returns-then-not-allows-clause-runs : goal.returns-then-not-allows-clause-runs
+returns-then-not-allows-clause-runs c =
+    ran_to c.loop-count.count c.args.self.now c.args.events.now c.loop-count.self c.index-events-count.result c.loop-count.invariant.0 c.loop-count-test.true c.index-events-count.is
+    (λ allowed. absurd (let told = subst IsTrue c.if-not-allows.true (c.allows.ensures.1 allowed) in cc))
+
+pub returns-then-not-allows-clause-sound : goal.returns-then-not-allows-clause-sound
+returns-then-not-allows-clause-sound c = c.loop-count.invariant.1
+
+pub step-requires-clause-sound : goal.step-requires-clause-sound
+step-requires-clause-sound c = c.loop-count.invariant.1
+
+pub loop-count-preserved : goal.loop-count-preserved
+loop-count-preserved c = (
+  took_next c.loop-count.count c.args.self.now c.args.events.now c.loop-count.self c.step.new.self c.index-events-count.result c.step.result c.loop-count.invariant.0
+      c.loop-count-test.true c.index-events-count.is (c.allows.ensures.0 c.if-not-allows.false) c.step.ensures.steps,
+  c.step.ensures.sound,
+)
+
+pub returns-clause-runs : goal.returns-clause-runs
+returns-clause-runs c =
+    ran_all c.args.self.now c.args.events.now c.loop-count.self
+    (subst (λ (n : ℕ). Took c.args.self.now c.args.events.now n c.loop-count.self) (let all : c.loop-count.count ≡ length c.args.events.now = omega (arith, c.loop-count-test.false, c.loop-count.auto.count-end) in all) c.loop-count.invariant.0)
+
+pub returns-clause-sound : goal.returns-clause-sound
+returns-clause-sound c = c.loop-count.invariant.1
+
+pub returns-then-not-allows-clause-entries : goal.returns-then-not-allows-clause-entries
+returns-then-not-allows-clause-entries c = λ stripe bucket entry lt within there.
+    c.a_sound_world_is_true.ensures.entries c.loop-count.self stripe bucket entry c.loop-count.invariant.1 lt within there
+
+pub returns-then-not-allows-clause-least : goal.returns-then-not-allows-clause-least
+returns-then-not-allows-clause-least c = λ pay best. c.a_sound_world_is_true.ensures.least c.loop-count.self pay c.loop-count.invariant.1 best
+
+pub returns-clause-entries : goal.returns-clause-entries
+returns-clause-entries c = λ stripe bucket entry lt within there.
+    c.a_sound_world_is_true.ensures.entries c.loop-count.self stripe bucket entry c.loop-count.invariant.1 lt within there
+
+pub returns-clause-least : goal.returns-clause-least
+returns-clause-least c = λ pay best. c.a_sound_world_is_true.ensures.least c.loop-count.self pay c.loop-count.invariant.1 best
