@@ -26,7 +26,12 @@ fn film_of(
 }
 
 // A film whose actors get as much for waiting as for work, without pairs.
-fn film(alloc: Global, casts: &[u64], days: &[u64], rates: &[u64]) -> Result<Film, Fail> {
+pub(crate) fn film(
+    alloc: Global,
+    casts: &[u64],
+    days: &[u64],
+    rates: &[u64],
+) -> Result<Film, Fail> {
     let film = film_of(alloc, casts, days, rates, rates, &[])?.ok_or("within the limits")?;
     Ok(film)
 }
@@ -34,13 +39,18 @@ fn film(alloc: Global, casts: &[u64], days: &[u64], rates: &[u64]) -> Result<Fil
 // Three scenes of two actors each, one day each.
 const CASTS: [u64; 3] = [0b011, 0b110, 0b101];
 
-fn triangle(alloc: Global, rates: &[u64], holds: &[u64], pairs: &[Pair]) -> Result<Film, Fail> {
+pub(crate) fn triangle(
+    alloc: Global,
+    rates: &[u64],
+    holds: &[u64],
+    pairs: &[Pair],
+) -> Result<Film, Fail> {
     let film = film_of(alloc, &CASTS, &[1, 1, 1], rates, holds, pairs)?;
     let film = film.ok_or("within the limits")?;
     Ok(film)
 }
 
-fn plain_triangle(alloc: Global) -> Result<Film, Fail> {
+pub(crate) fn plain_triangle(alloc: Global) -> Result<Film, Fail> {
     triangle(alloc, &[1, 2, 3], &[1, 2, 3], &[])
 }
 
@@ -48,7 +58,7 @@ fn pair(first: u16, then: u16) -> Pair {
     Pair { first, then }
 }
 
-fn path(film: &Film, scenes: &[u32]) -> Result<Path, Fail>
+pub(crate) fn path(film: &Film, scenes: &[u32]) -> Result<Path, Fail>
     ensures { IfOk result (λ path. IsPath film.now (path_data path)) }
 {
     laws::what_remains_lies_in_the_film();

@@ -1,61 +1,299 @@
-// A world that is opened, and a list of events in it.
+// Worlds of small films: the replies to a run of events, and events that may not come. The triangle's three
+// scenes are each shot with two of three actors; its tasks are the paths of the scenes 0 and 1, of 0 and 2,
+// and of 2 and 1, and each order of it costs 13 or 14. All numbers are worked by hand.
+ghost use Rattle.std.specs.Prelude.{◌≤◌, IfOk};
+ghost use Rattle.strip_film.specs.Path.{IsComplete};
+ghost use Rattle.strip_film.specs.Shown.{path_data};
+ghost use Rattle.strip_race.specs.Sound.{IsSound};
+
+use crate::paths::{film, path, plain_triangle, triangle};
+use std::alloc::Global;
 use std::test::Fail;
-use strip_film::{Film, Known, Line, Path};
+use strip_film::{Film, Known, Line, Listed, Noted, Path, Probe};
+use strip_front::laws::tasks_are_starts;
+use strip_front::layers;
 use strip_pay::Kind;
-use strip_race::{Event, Limits, World};
+use strip_race::{Event, Limits, Reply, World};
 use strip_start::greedy;
 
-#[test]
-fn a_run_ends_at_an_unjustified_bound(rt: HostRuntime) -> Result<(), Fail> {
-    let alloc = rt.alloc();
-    let casts = Vec::from_slice(alloc, &[0b011, 0b110, 0b101])?;
-    let days = Vec::from_slice(alloc, &[1, 1, 1])?;
-    let rates = Vec::from_slice(alloc, &[1, 2, 3])?;
-    let holds = Vec::from_slice(alloc, &[1, 2, 3])?;
-    let film = Film::of(casts, days, rates, holds, Vec::new(alloc)).ok_or("within the limits")?;
+fn world(alloc: Global, film: &Film, start: &Path, kind: Kind, cap: u32) -> Result<World, Fail>
+    requires start { IsComplete film.now (path_data start.now) }
+    requires cap { (1 ≤ cap) × (cap ≤ 16777216) }
+    ensures { IfOk result IsSound }
+{
+    film.keeps_limits();
+    tasks_are_starts();
     let limits = Limits {
         workers: 2,
-        cap: 1,
+        cap,
         entries: 64,
     };
-    let start = greedy(&film);
-    let mut world = World::new(alloc, &film, Kind::Pairs, &start, &[], &limits)?;
-    // The first orders of the film cost 13, and no bound above that is justified.
-    let taken = world.run(&events(&film));
-    assert_eq!(rt; taken, 8);
+    let front = layers(alloc, film)?;
+    let world = World::new(alloc, film, kind, start, &front.tasks, &limits)?;
+    Ok(world)
+}
+
+/// The complete path along these scenes.
+fn order(film: &Film, scenes: &[u32]) -> Result<Path, Fail>
+    ensures { IfOk result (λ path. IsComplete film.now (path_data path)) }
+{
+    let path = path(film, scenes)?;
+    if !path.rest().is_empty() {
+        return Err("each scene once".into());
+    }
+    Ok(path)
+}
+
+/// The reply to an event, where it may come.
+fn reply(world: &mut World, event: &Event) -> Option<Reply>
+    requires { IsSound world.old }
+    ensures { IsSound world.new }
+{
+    if world.allows(event) {
+        Some(world.step(event))
+    } else {
+        None
+    }
+}
+
+fn known(line: u32, set: u64, bound: u64) -> Known {
+    Known { line, set, bound }
+}
+
+#[test]
+fn nine_events(rt: HostRuntime) -> Result<(), Fail> {
+    let alloc = rt.alloc();
+    let film = plain_triangle(alloc)?;
+    let mut world = world(alloc, &film, &greedy(&film), Kind::Pairs, 1)?;
+    let whole = known(0, 7, 13);
+    assert_eq!(rt;
+        reply(&mut world, &Event::Look { who: 0 }),
+        Some(Reply::Least(13))
+    );
+    assert_eq!(rt;
+        reply(&mut world, &Event::Claim { who: 0 }),
+        Some(Reply::Task(Some(0)))
+    );
+    assert_eq!(rt;
+        reply(&mut world, &Event::Claim { who: 1 }),
+        Some(Reply::Task(Some(1)))
+    );
+    let first = Event::Enlist {
+        who: 0,
+        task: 0,
+        path: Path::start(&film),
+    };
+    assert_eq!(rt;
+        reply(&mut world, &first),
+        Some(Reply::Listed(Listed::Line(0)))
+    );
+    let raise = Event::Raise {
+        who: 1,
+        line: 0,
+        bound: 13,
+    };
+    assert_eq!(rt; reply(&mut world, &raise), Some(Reply::Raised));
+    let note = Event::Note {
+        who: 0,
+        known: whole,
+    };
+    assert_eq!(rt; reply(&mut world, &note), Some(Reply::Noted(Noted::Fresh)));
+    let hit = Some(Reply::Probed(Probe::Hit(whole)));
+    assert_eq!(rt; reply(&mut world, &Event::Probe { who: 1, set: 7 }), hit);
+    let miss = Some(Reply::Probed(Probe::Miss));
+    assert_eq!(rt; reply(&mut world, &Event::Probe { who: 1, set: 6 }), miss);
+    let above = Event::Raise {
+        who: 0,
+        line: 0,
+        bound: 14,
+    };
+    assert_eq!(rt; reply(&mut world, &above), None);
     assert_eq!(rt; world.least(), 13);
     assert!(rt; world.lines() == [Line { set: 7, bound: 13 }].as_slice());
     Ok(())
 }
 
-fn events(film: &Film) -> [Event; 9] {
-    let path = Path::start(film);
-    let known = Known {
-        line: 0,
-        set: 7,
-        bound: 13,
-    };
+// The world of the triangle with plain bounds and an order that costs 14, in which worker 0 has the front and worker 1 the first task,
+// and the empty path and that of scene 1 are enlisted, with the bounds 12 and 9.
+fn begun(alloc: Global, film: &Film) -> Result<World, Fail>
+    ensures { IfOk result IsSound }
+{
+    let mut world = world(alloc, film, &order(film, &[0, 2, 1])?, Kind::Plain, 9)?;
+    reply(&mut world, &Event::Look { who: 0 });
+    reply(&mut world, &Event::Claim { who: 0 });
+    reply(&mut world, &Event::Claim { who: 1 });
+    reply(&mut world, &enlist(0, 0, path(film, &[])?));
+    reply(&mut world, &enlist(0, 0, path(film, &[0])?));
+    Ok(world)
+}
+
+fn enlist(who: u32, task: u32, path: Path) -> Event {
+    Event::Enlist { who, task, path }
+}
+
+#[test]
+fn spent_lines(rt: HostRuntime) -> Result<(), Fail> {
+    let alloc = rt.alloc();
+    let film = plain_triangle(alloc)?;
+    let mut world = world(alloc, &film, &greedy(&film), Kind::Plain, 1)?;
+    assert_eq!(rt;
+        reply(&mut world, &Event::Claim { who: 0 }),
+        Some(Reply::Task(Some(0)))
+    );
+    let line = Some(Reply::Listed(Listed::Line(0)));
+    assert_eq!(rt; reply(&mut world, &enlist(0, 0, path(&film, &[])?)), line);
+    let spent = Some(Reply::Listed(Listed::Spent { lines: 1 }));
+    assert_eq!(rt; reply(&mut world, &enlist(0, 0, path(&film, &[0])?)), spent);
+    Ok(())
+}
+
+fn unknown_workers(start: Path, first: Path) -> [Event; 7] {
     [
-        Event::Look { who: 0 },
-        Event::Claim { who: 0 },
-        Event::Claim { who: 1 },
-        Event::Enlist {
+        Event::Look { who: 2 },
+        Event::Offer {
+            who: 2,
+            path: start,
+        },
+        Event::Claim { who: 2 },
+        enlist(2, 0, first),
+        Event::Raise {
+            who: 2,
+            line: 0,
+            bound: 12,
+        },
+        Event::Probe { who: 2, set: 7 },
+        Event::Note {
+            who: 2,
+            known: known(0, 7, 12),
+        },
+    ]
+}
+
+// An unfinished path; a line that isn't there, and bounds that nothing justifies; a set that isn't in the
+// film; notes of a line that isn't there, of another set, and above the line's bound.
+fn unfit(unfinished: Path) -> [Event; 9] {
+    [
+        Event::Offer {
             who: 0,
-            task: 0,
-            path,
+            path: unfinished,
         },
         Event::Raise {
-            who: 1,
-            line: 0,
-            bound: 13,
+            who: 0,
+            line: 2,
+            bound: 9,
         },
-        Event::Note { who: 0, known },
-        Event::Probe { who: 1, set: 7 },
-        Event::Probe { who: 1, set: 6 },
         Event::Raise {
             who: 0,
             line: 0,
             bound: 14,
         },
+        Event::Raise {
+            who: 1,
+            line: 1,
+            bound: 11,
+        },
+        Event::Probe { who: 0, set: 8 },
+        Event::Note {
+            who: 0,
+            known: known(2, 6, 9),
+        },
+        Event::Note {
+            who: 0,
+            known: known(0, 6, 9),
+        },
+        Event::Note {
+            who: 0,
+            known: known(0, 7, 13),
+        },
+        Event::Note {
+            who: 1,
+            known: known(1, 6, 10),
+        },
     ]
+}
+
+#[test]
+fn events_that_may_not_come(rt: HostRuntime) -> Result<(), Fail> {
+    let alloc = rt.alloc();
+    let film = plain_triangle(alloc)?;
+    let world = begun(alloc, &film)?;
+    for event in &unknown_workers(greedy(&film), path(&film, &[1])?) {
+        assert!(rt; !world.allows(event));
+    }
+    for event in &unfit(path(&film, &[0, 1])?) {
+        assert!(rt; !world.allows(event));
+    }
+    for (who, task, scenes) in &PATHS {
+        let event = enlist(*who, *task, path(&film, scenes)?);
+        assert!(rt; !world.allows(&event));
+    }
+    Ok(())
+}
+
+// Paths that may not be enlisted: in a task of another worker, one that nobody claimed, one that isn't
+// there, the last path again, one before it, one that isn't of the front, one of another task, one with
+// nothing remaining, one of the task without a probe.
+static PATHS: [(u32, u32, &'static [u32]); 9] = [
+    (1, 0, &[1]),
+    (0, 3, &[2, 1]),
+    (0, 4, &[2, 1]),
+    (0, 0, &[0]),
+    (0, 0, &[]),
+    (0, 0, &[0, 1]),
+    (1, 1, &[2, 1]),
+    (1, 1, &[0, 1, 2]),
+    (1, 1, &[0, 1]),
+];
+
+#[test]
+fn paths_that_are_not_open(rt: HostRuntime) -> Result<(), Fail> {
+    let alloc = rt.alloc();
+    // The scenes of one actor each come before that of both.
+    let film = film(alloc, &[0b01, 0b10, 0b11], &[1, 1, 1], &[10, 20])?;
+    let mut world = world(alloc, &film, &greedy(&film), Kind::Plain, 9)?;
+    reply(&mut world, &Event::Claim { who: 0 });
+    assert!(rt; !world.allows(&enlist(0, 0, path(&film, &[2])?)));
+    assert!(rt; world.allows(&enlist(0, 0, path(&film, &[1])?)));
+    Ok(())
+}
+
+#[test]
+fn paths_of_other_films(rt: HostRuntime) -> Result<(), Fail> {
+    let alloc = rt.alloc();
+    let film = plain_triangle(alloc)?;
+    let other = triangle(alloc, &[1, 2, 4], &[1, 2, 4], &[])?;
+    let world = begun(alloc, &film)?;
+    let finished = Event::Offer {
+        who: 0,
+        path: greedy(&other),
+    };
+    assert!(rt; !world.allows(&finished));
+    assert!(rt; !world.allows(&enlist(0, 0, path(&other, &[1])?)));
+    assert!(rt; world.allows(&enlist(0, 0, path(&film, &[2])?)));
+    Ok(())
+}
+
+#[test]
+fn paths_that_a_bound_rules_out(rt: HostRuntime) -> Result<(), Fail> {
+    let alloc = rt.alloc();
+    let film = plain_triangle(alloc)?;
+    let mut world = world(alloc, &film, &greedy(&film), Kind::Pairs, 9)?;
+    reply(&mut world, &Event::Claim { who: 0 });
+    reply(&mut world, &enlist(0, 0, path(&film, &[])?));
+    // The first scene pays 3, and to finish costs 10 at least: no less than 13, which was told.
+    assert!(rt; !world.allows(&enlist(0, 0, path(&film, &[0])?)));
+    Ok(())
+}
+
+#[test]
+fn paths_that_no_probe_lets_through(rt: HostRuntime) -> Result<(), Fail> {
+    let alloc = rt.alloc();
+    let film = plain_triangle(alloc)?;
+    let mut world = begun(alloc, &film)?;
+    let event = enlist(1, 1, path(&film, &[0, 1])?);
+    reply(&mut world, &Event::Probe { who: 1, set: 2 });
+    assert!(rt; !world.allows(&event));
+    reply(&mut world, &Event::Probe { who: 1, set: 4 });
+    assert!(rt; world.allows(&event));
+    Ok(())
 }

@@ -6,27 +6,29 @@ use Rattle.strip_film.specs.declared.shared.Line.{Line}
 use Rattle.strip_lines.specs.Lines.{GrowTo}
 use Rattle.strip_count.specs.Parts.{lies_in}
 use Rattle.strip_table.specs.Stripe.{bucket_at}
-use Rattle.strip_race.specs.World.{PartData, SearchData, WorldData, depth_of, part_at}
-use Rattle.strip_race.specs.Sound.{IsClaimed, IsEntry, IsStripeOf}
+use Rattle.strip_hand.specs.Search.{SearchData, depth_of}
+use Rattle.strip_race.specs.World.{PartData, WorldData, part_at}
+use Rattle.strip_hand.specs.Hand.{Knows}
+use Rattle.strip_race.specs.Sound.{IsClaimed, IsStripeOf}
 
 pub grow_self : (lines : List Line) → GrowTo lines lines
 grow_self lines = record { count = omega arith; same_set = λ place lt. refl; no_lower = λ place lt. omega arith }
 
-pub entry_grows : (lines more : List Line) (entry : Known) → GrowTo lines more → IsEntry lines entry → IsEntry more entry
+pub entry_grows : (lines more : List Line) (entry : Known) → GrowTo lines more → Knows lines entry → Knows more entry
 entry_grows lines more entry grow is = record {
   there = omega (arith, is.there, grow.count);
   set = grow.same_set entry.line is.there ∙ is.set;
   as_great = omega (arith, is.as_great, grow.no_lower entry.line is.there);
 }
 
-pub stripe_grows : (world after : WorldData) (number : ℕ) (buckets : List (List Known)) → after.search ≡ world.search → GrowTo world.lines after.lines
+pub stripe_grows : (world after : WorldData) (number : ℕ) (buckets : List (List Known)) → after.buckets ≡ world.buckets → GrowTo world.lines after.lines
     → IsStripeOf world number buckets → IsStripeOf after number buckets
-stripe_grows world after number buckets search grow is = record {
+stripe_grows world after number buckets same grow is = record {
   stripe = is.stripe;
-  count = is.count ∙ sym (ap (λ (s : SearchData). s.buckets) search);
+  count = is.count ∙ sym same;
   own = is.own;
   entries = λ bucket lt.
-      All-weaker (IsEntry world.lines) (IsEntry after.lines) (λ entry. entry_grows world.lines after.lines entry grow) (bucket_at buckets bucket) (is.entries bucket lt);
+      All-weaker (Knows world.lines) (Knows after.lines) (λ entry. entry_grows world.lines after.lines entry grow) (bucket_at buckets bucket) (is.entries bucket lt);
 }
 
 -- a claim stays where the part does and was claimed as it is

@@ -13,3 +13,4 @@ pub mod Rows
 pub mod Runs
 pub mod Walked
 pub mod Reached
+pub mod Acting

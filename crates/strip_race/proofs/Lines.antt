@@ -13,7 +13,8 @@ use Rattle.strip_lines.proofs.Grown.{added-grows, justified-added, raised-grows,
 use Rattle.strip_count.specs.Paths.{is_candidate}
 use Rattle.strip_count.specs.Parts.{AreCounted, Enlists, lies_in}
 use Rattle.strip_count.proofs.Shares.{counted_then, is_candidate_from}
-use Rattle.strip_race.specs.World.{PartData, WorldData, depth_of, no_part, no_worker, part_at, search_rules, stripe_at, worker_at}
+use Rattle.strip_hand.specs.Search.{depth_of, search_rules}
+use Rattle.strip_race.specs.World.{PartData, WorldData, no_part, no_worker, part_at, stripe_at, worker_at}
 use Rattle.strip_race.specs.Allowed.{MayEnlist, MayRaise}
 use Rattle.strip_race.specs.Sound.{IsClaimed, IsSound}
 use Rattle.strip_race.specs.Steps.{enlisted, new_line, raised_in}

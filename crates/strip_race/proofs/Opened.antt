@@ -16,9 +16,11 @@ use Rattle.strip_table.specs.Home.{bucket_of, stripe_of}
 use Rattle.strip_table.specs.Bucket.{IsBucket}
 use Rattle.strip_table.specs.Stripe.{IsStripe, bucket_at}
 use Rattle.strip_race.specs.declared.event.Limits.{Limits}
-use Rattle.strip_race.specs.World.{AreStarts, PartData, WorkerData, WorldData, depth_of, no_part, no_worker, part_at, search_rules, stripe_at}
+use Rattle.strip_hand.specs.Search.{AreStarts, depth_of, search_rules}
+use Rattle.strip_race.specs.World.{PartData, WorkerData, WorldData, no_part, no_worker, part_at, stripe_at}
 use Rattle.strip_race.specs.Opened.{AreLimits, opened, search_of}
-use Rattle.strip_race.specs.Sound.{HasLeast, IsClaimed, IsEntry, IsSound, IsStripeOf, IsWorker}
+use Rattle.strip_hand.specs.Hand.{Knows}
+use Rattle.strip_race.specs.Sound.{HasLeast, IsClaimed, IsSound, IsStripeOf, IsWorker}
 
 -- ---- empty buckets
 
@@ -69,7 +71,7 @@ module _ (film : FilmData) (kind : Kind) (start : PathData) (tasks : List PathDa
         count = length-replicate {A = List Known} (limits.entries / 64) [];
         own = λ bucket lt. subst (λ (b : List Known). All (λ entry. stripe_of entry.set ≡ number) b) (sym (read_empty (limits.entries / 64) bucket))
             (All-nil (λ (entry : Known). stripe_of entry.set ≡ number));
-        entries = λ bucket lt. subst (λ (b : List Known). All (IsEntry world.lines) b) (sym (read_empty (limits.entries / 64) bucket)) (All-nil (IsEntry world.lines));
+        entries = λ bucket lt. subst (λ (b : List Known). All (Knows world.lines) b) (sym (read_empty (limits.entries / 64) bucket)) (All-nil (Knows world.lines));
       })
 
   read_part : (part : ℕ) → part_at world part ≡ no_part

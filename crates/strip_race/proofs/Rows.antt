@@ -20,8 +20,10 @@ use Rattle.strip_table.specs.Home.{hash, bucket_of, stripe_of}
 use Rattle.strip_race.specs.declared.event.Event.TheVariants.{Claim, Look}
 use Rattle.strip_race.specs.declared.event.Reply.TheVariants.{Least, Task}
 use Rattle.strip_race.specs.declared.event.Limits.{Limits}
-use Rattle.strip_race.specs.World.{AreStarts, WorldData, depth_of, part_at, worker_at}
-use Rattle.strip_race.specs.Allowed.{IsAllowed, LetsThrough, MayEnlist, MayNote, MayRaise}
+use Rattle.strip_hand.specs.Search.{AreStarts, depth_of}
+use Rattle.strip_race.specs.World.{WorldData, part_at, worker_at}
+use Rattle.strip_hand.specs.Hand.{Knows, LetsThrough}
+use Rattle.strip_race.specs.Allowed.{IsAllowed, MayEnlist, MayRaise}
 use Rattle.strip_race.specs.Opened.{opened}
 use Rattle.strip_race.specs.Steps.{IsNoted, Runs, claim_reply, claimed, enlist_reply, enlisted, found, looked, offered, probed, raised_in}
 use Rattle.strip_race.specs.Sound.{IsSound}
@@ -56,7 +58,7 @@ limits = record { workers = 2; cap = 1; entries = 64 }
 abbrev start : WorldData
 start = opened triangle Plain rising tasks limits
 
-opens : (start.least ≡ 13) × (length start.stripes ≡ 16) × (length start.parts ≡ 4) × (length start.workers ≡ 2) × (start.search.buckets ≡ 1)
+opens : (start.least ≡ 13) × (length start.stripes ≡ 16) × (length start.parts ≡ 4) × (length start.workers ≡ 2) × (start.buckets ≡ 1)
 opens = (refl, refl, refl, refl, refl)
 
 -- ---- the least cost
@@ -157,7 +159,7 @@ may_enlist = record {
   through = λ task. absurd (task refl);
 }
 
-may_note : MayNote one_line entry
+may_note : Knows one_line.lines entry
 unfolding has members numbers_below sum_over
 may_note = record { there = omega arith; set = refl; as_great = omega arith }
 

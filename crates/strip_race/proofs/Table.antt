@@ -11,8 +11,8 @@ use Rattle.strip_table.proofs.Homes.{bucket_below, stripe_below}
 use Rattle.strip_table.proofs.Kept.{all_after, bucket_after}
 use Rattle.strip_table.proofs.Stripes.{IsStripe-set}
 use Rattle.strip_race.specs.World.{WorkerData, WorldData, stripe_at, worker_at}
-use Rattle.strip_race.specs.Allowed.{MayNote}
-use Rattle.strip_race.specs.Sound.{IsEntry, IsSound, IsStripeOf}
+use Rattle.strip_hand.specs.Hand.{Knows}
+use Rattle.strip_race.specs.Sound.{IsSound, IsStripeOf}
 use Rattle.strip_race.specs.Steps.{IsNoted, with_worker}
 use Rattle.strip_race.proofs.Kept.{claim_stays, grow_self, stripe_grows}
 use Rattle.strip_race.proofs.Workers.{is_worker, least_stays, sound_changed}
@@ -29,7 +29,7 @@ written P buckets place bucket lt new all other within = elim (cases_eq other pl
   | inr apart ↦ subst (λ (b : List Known). All P b) (sym (get_or-set_other buckets place other bucket [] apart)) (all other within)
 ]
 
-module _ (world : WorldData) (known : Known) (bucket : List Known) (answer : Noted) (sound : IsSound world) (may : MayNote world known) where
+module _ (world : WorldData) (known : Known) (bucket : List Known) (answer : Noted) (sound : IsSound world) (may : Knows world.lines known) where
   abbrev stripe : ℕ
   stripe = stripe_of known.set
 
@@ -57,7 +57,7 @@ module _ (world : WorldData) (known : Known) (bucket : List Known) (answer : Not
     place_within : place < length old
     place_within = bucket_below (length old) known.set was.stripe.some
 
-    entry : IsEntry world.lines known
+    entry : Knows world.lines known
     entry = record { there = may.there; set = may.set; as_great = may.as_great }
 
     new_stripe : IsStripeOf tabled stripe new
@@ -70,8 +70,8 @@ module _ (world : WorldData) (known : Known) (bucket : List Known) (answer : Not
           own = λ other within. written (λ (e : Known). stripe_of e.set ≡ stripe) old place bucket place_within
               (all_after (λ (e : Known). stripe_of e.set ≡ stripe) (home old known.set) known bucket answer puts refl (was.own place place_within))
               was.own other (omega (arith, within, long));
-          entries = λ other within. written (IsEntry world.lines) old place bucket place_within
-              (all_after (IsEntry world.lines) (home old known.set) known bucket answer puts entry (was.entries place place_within))
+          entries = λ other within. written (Knows world.lines) old place bucket place_within
+              (all_after (Knows world.lines) (home old known.set) known bucket answer puts entry (was.entries place place_within))
               was.entries other (omega (arith, within, long));
         }
 
@@ -119,7 +119,7 @@ module _ (world : WorldData) (who : ℕ) (known : Known) (lt : who < length worl
       (least_stays world who noting world.least lt sound.least refl (λ is. refl))
 
 pub sound_noted : (world : WorldData) (who : ℕ) (known : Known) (after : WorldData) (answer : Noted) → who < length world.workers → IsSound world
-    → MayNote world known → IsNoted world who known after answer → IsSound after
+    → Knows world.lines known → IsNoted world who known after answer → IsSound after
 sound_noted world who known after answer lt sound may noted =
     subst IsSound
     (sym (noted.others ∙ ap (λ (t : List (List (List Known))). record (with_worker world who (noting world who known lt sound)) { stripes = t }) noted.table))

@@ -15,9 +15,11 @@ use Rattle.strip_count.specs.Paths.{few, ways}
 use Rattle.strip_count.specs.Parts.{AreTasks}
 use Rattle.strip_count.proofs.Shares.{lines_few, lines_room, lines_ways}
 use Rattle.strip_table.specs.Stripe.{bucket_at}
-use Rattle.strip_race.specs.World.{AreStarts, SearchData, WorldData, depth_of, no_worker, part_at, search_rules, stripe_at, worker_at}
+use Rattle.strip_hand.specs.Search.{AreStarts, SearchData, depth_of, search_rules}
+use Rattle.strip_race.specs.World.{WorldData, no_worker, part_at, stripe_at, worker_at}
 use Rattle.strip_race.specs.Allowed.{MayEnlist}
-use Rattle.strip_race.specs.Sound.{IsEntry, IsSound}
+use Rattle.strip_hand.specs.Hand.{Knows}
+use Rattle.strip_race.specs.Sound.{IsSound}
 use Rattle.strip_race.proofs.Lines.{is_candidate_of_start, part_within}
 
 -- ---- lines, entries and the least cost
@@ -28,7 +30,7 @@ module _ (world : WorldData) (sound : IsSound world) where
     true_lines = lines_are_true (search_rules world.search) world.lines sound.film bounds begin sound.lines
 
     -- an entry is as true as its line
-    true_entry : (entry : Known) → IsEntry world.lines entry → IsAtMostFinish world.search.film entry.set entry.bound
+    true_entry : (entry : Known) → Knows world.lines entry → IsAtMostFinish world.search.film entry.set entry.bound
     true_entry entry is scenes each =
         let line : Line = line_at world.lines entry.line in
         let most : line.bound ≤ steps_cost world.search.film line.set scenes
@@ -41,7 +43,7 @@ module _ (world : WorldData) (sound : IsSound world) where
         → Contains (bucket_at (stripe_at world stripe) bucket) entry → IsAtMostFinish world.search.film entry.set entry.bound
     true_entries stripe bucket entry below within stands =
         true_entry entry
-        (All-contains (IsEntry world.lines) (bucket_at (stripe_at world stripe) bucket) entry ((sound.stripes stripe below).entries bucket within) stands)
+        (All-contains (Knows world.lines) (bucket_at (stripe_at world stripe) bucket) entry ((sound.stripes stripe below).entries bucket within) stands)
 
   -- the least cost is what some order pays
   pub least_is_paid : (pay : ℕ) → IsOptimum world.search.film pay → pay ≤ world.least

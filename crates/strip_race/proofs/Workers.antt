@@ -4,7 +4,8 @@ use Rattle.std.proofs.lemmas.Bool.{cases_eq, cases_lt, cond-true, cond-false, co
 use Rattle.std.proofs.lemmas.List.{length-set, get_or-set_same, get_or-set_other}
 use Rattle.std.proofs.lemmas.List.Elements.{All-set, All-weaker}
 use Rattle.strip_film.specs.Path.{PathData, IsComplete}
-use Rattle.strip_race.specs.World.{SearchData, WorkerData, WorldData, no_worker, worker_at, stripe_at}
+use Rattle.strip_hand.specs.Search.{SearchData}
+use Rattle.strip_race.specs.World.{WorkerData, WorldData, no_worker, worker_at, stripe_at}
 use Rattle.strip_race.specs.Sound.{HasLeast, IsSound, IsWorker}
 use Rattle.strip_race.specs.Steps.{looked, offered, probed, with_worker, found}
 use Rattle.strip_race.proofs.Kept.{claim_stays, grow_self, stripe_grows}

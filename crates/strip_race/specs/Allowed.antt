@@ -1,8 +1,5 @@
 -- Which events may come in a world.
-use Rattle.std.specs.Prelude.{◌≡◌, ◌≢◌, ℕ, ◌+◌, ◌<◌, ◌≤◌, true, Option, Some, None, length, ⊤}
-use Rattle.strip_film.specs.declared.shared.Known.{Known}
-use Rattle.strip_film.specs.declared.shared.Probe.{Probe}
-use Rattle.strip_film.specs.declared.shared.Probe.TheVariants.{Hit, Miss}
+use Rattle.std.specs.Prelude.{◌≡◌, ◌≢◌, ℕ, ◌+◌, ◌<◌, true, Some, length, ⊤}
 use Rattle.strip_film.specs.Film.{LiesIn}
 use Rattle.strip_film.specs.Path.{PathData, IsComplete}
 use Rattle.strip_film.specs.Rules.{IsOpen}
@@ -13,17 +10,9 @@ use Rattle.strip_count.specs.Paths.{ComesAfter}
 use Rattle.strip_count.specs.Parts.{lies_in}
 use Rattle.strip_race.specs.declared.event.Event.{Event}
 use Rattle.strip_race.specs.declared.event.Event.TheVariants.{Look, Offer, Claim, Enlist, Raise, Probe as Ask, Note}
-use Rattle.strip_race.specs.World.{ProbeData, WorldData, depth_of, part_at, search_rules, worker_at}
-
--- the answer lets a path through: nothing was found, or a bound with which the path is below the least cost last told
-abbrev pub Lets : Probe → PathData → ℕ → Type 0
-Lets Miss path told = ⊤
-Lets (Hit known) path told = path.paid + known.bound < told
-
--- the last probe was of what remains after the path, and lets it through
-abbrev pub LetsThrough : Option ProbeData → PathData → ℕ → Type 0
-LetsThrough None path told = ⊥
-LetsThrough (Some probe) path told = (probe.set ≡ path.rest) × Lets probe.answer path told
+use Rattle.strip_hand.specs.Hand.{Knows, LetsThrough}
+use Rattle.strip_hand.specs.Search.{depth_of, search_rules}
+use Rattle.strip_race.specs.World.{WorldData, part_at, worker_at}
 
 -- the worker claimed the part, and the path is an open one of the part that comes after its last, with something remaining, and
 -- which neither the static bound nor, outside the front, the last probe rules out
@@ -42,12 +31,6 @@ pub record MayRaise (world : WorldData) (line bound : ℕ) : Type 0 where
   pub known : line < length world.lines
   pub justified : IsJustified (search_rules world.search) world.lines (record { set = (line_at world.lines line).set; bound = bound })
 
--- the line is there with this set, and a bound at least as great
-pub record MayNote (world : WorldData) (known : Known) : Type 0 where
-  pub there : known.line < length world.lines
-  pub set : (line_at world.lines known.line).set ≡ known.set
-  pub as_great : known.bound ≤ (line_at world.lines known.line).bound
-
 -- what an event asks for besides that its worker is one of the world's
 abbrev pub IsFitting : WorldData → Event → Type 0
 IsFitting world (Look who) = ⊤
@@ -56,7 +39,7 @@ IsFitting world (Claim who) = ⊤
 IsFitting world (Enlist who task path) = MayEnlist world who task (path_data path)
 IsFitting world (Raise who line bound) = MayRaise world line bound
 IsFitting world (Ask who set) = LiesIn world.search.film set
-IsFitting world (Note who known) = MayNote world known
+IsFitting world (Note who known) = Knows world.lines known
 
 abbrev pub actor_of : Event → ℕ
 actor_of (Look who) = who

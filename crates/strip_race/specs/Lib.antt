@@ -4,3 +4,4 @@ pub mod Allowed
 pub mod Steps
 pub mod Opened
 pub mod Sound
+pub mod Hand

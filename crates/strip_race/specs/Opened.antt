@@ -4,7 +4,8 @@ use Rattle.strip_pay.specs.declared.kind.Kind.{Kind}
 use Rattle.strip_pay.specs.Film.{FilmData}
 use Rattle.strip_film.specs.Path.{PathData}
 use Rattle.strip_race.specs.declared.event.Limits.{Limits}
-use Rattle.strip_race.specs.World.{SearchData, WorldData, no_part, WorkerData}
+use Rattle.strip_hand.specs.Search.{SearchData}
+use Rattle.strip_race.specs.World.{WorldData, no_part, WorkerData}
 
 pub record AreLimits (limits : Limits) : Type 0 where
   pub some_workers : 1 ≤ limits.workers
@@ -22,7 +23,6 @@ search_of film kind start tasks limits = record {
   cap = limits.cap;
   start = start.paid;
   tasks = tasks;
-  buckets = limits.entries / 64;
 }
 
 -- a worker that was told the start path and did nothing
@@ -33,6 +33,7 @@ idle_worker start = record { told = start.paid; best = start; probe = None; note
 abbrev pub opened : FilmData → Kind → PathData → List PathData → Limits → WorldData
 opened film kind start tasks limits = record {
   search = search_of film kind start tasks limits;
+  buckets = limits.entries / 64;
   least = start.paid;
   lines = [];
   stripes = replicate 16 (replicate (limits.entries / 64) []);

@@ -4,7 +4,8 @@ use Rattle.strip_film.specs.Shown.{path_data}
 use Rattle.strip_race.specs.declared.state.Part.{Part}
 use Rattle.strip_race.specs.declared.state.Asked.{Asked}
 use Rattle.strip_race.specs.declared.state.Worker.{Worker}
-use Rattle.strip_race.specs.World.{PartData, ProbeData, WorkerData}
+use Rattle.strip_hand.specs.Hand.{ProbeData}
+use Rattle.strip_race.specs.World.{PartData, WorkerData}
 
 abbrev pub part_data : Part → PartData
 part_data part = record { claimer = part.claimer; last = option_map path_data part.last; number = part.number }

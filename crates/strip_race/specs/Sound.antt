@@ -1,14 +1,15 @@
 -- Sound worlds: what holds in each, whatever events came.
 use Rattle.std.specs.Prelude.{◌≡◌, ℕ, suc, ◌<◌, ◌≤◌, true, Some, None, List, length, All}
 use Rattle.strip_film.specs.declared.shared.Known.{Known}
-use Rattle.strip_film.specs.declared.shared.Line.{Line}
 use Rattle.strip_film.specs.Film.{IsFilm}
 use Rattle.strip_film.specs.Path.{PathData, IsComplete}
-use Rattle.strip_lines.specs.Lines.{AreJustified, line_at}
+use Rattle.strip_lines.specs.Lines.{AreJustified}
 use Rattle.strip_count.specs.Parts.{AreCounted, lies_in}
 use Rattle.strip_table.specs.Home.{stripe_of}
 use Rattle.strip_table.specs.Stripe.{IsStripe, bucket_at}
-use Rattle.strip_race.specs.World.{AreStarts, SearchData, WorkerData, WorldData, depth_of, part_at, search_rules, stripe_at, worker_at}
+use Rattle.strip_hand.specs.Hand.{Knows}
+use Rattle.strip_hand.specs.Search.{AreStarts, SearchData, depth_of, search_rules}
+use Rattle.strip_race.specs.World.{WorkerData, WorldData, part_at, stripe_at, worker_at}
 
 -- the worker's best path is complete and costs at least the least cost, and it was told no less and no more than the start's
 pub record IsWorker (search : SearchData) (least : ℕ) (worker : WorkerData) : Type 0 where
@@ -23,18 +24,12 @@ pub record HasLeast (world : WorldData) : Type 0 where
   pub one : who < length world.workers
   pub best : (worker_at world who).best.paid ≡ world.least
 
--- the entry names a line of its set, with a bound at least as great
-pub record IsEntry (lines : List Line) (entry : Known) : Type 0 where
-  pub there : entry.line < length lines
-  pub set : (line_at lines entry.line).set ≡ entry.set
-  pub as_great : entry.bound ≤ (line_at lines entry.line).bound
-
 -- the stripe of this number: its entries belong to it and are lines
 pub record IsStripeOf (world : WorldData) (number : ℕ) (buckets : List (List Known)) : Type 0 where
   pub stripe : IsStripe buckets
-  pub count : length buckets ≡ world.search.buckets
+  pub count : length buckets ≡ world.buckets
   pub own : (bucket : ℕ) → bucket < length buckets → All (λ entry. stripe_of entry.set ≡ number) (bucket_at buckets bucket)
-  pub entries : (bucket : ℕ) → bucket < length buckets → All (IsEntry world.lines) (bucket_at buckets bucket)
+  pub entries : (bucket : ℕ) → bucket < length buckets → All (Knows world.lines) (bucket_at buckets bucket)
 
 -- a part below the next one has a claimer, whose last path lies in it; another part has nothing yet
 pub record IsClaimed (world : WorldData) (part : ℕ) : Type 0 where

@@ -12,8 +12,10 @@ ghost use Rattle.strip_lines.specs.Lines.{IsJustified, known};
 ghost use Rattle.strip_count.specs.Paths.{ComesAfter};
 ghost use Rattle.strip_count.specs.Parts.{lies_in};
 ghost use Rattle.strip_race.specs.Shown.{probe_data};
-ghost use Rattle.strip_race.specs.World.{depth_of, part_at, search_rules};
-ghost use Rattle.strip_race.specs.Allowed.{IsAllowed, IsFitting, LetsThrough, MayEnlist, MayNote, MayRaise, Lets, actor_of};
+ghost use Rattle.strip_hand.specs.Search.{depth_of, search_rules};
+ghost use Rattle.strip_race.specs.World.{part_at};
+ghost use Rattle.strip_hand.specs.Hand.{Knows, Lets, LetsThrough};
+ghost use Rattle.strip_race.specs.Allowed.{IsAllowed, IsFitting, MayEnlist, MayRaise, actor_of};
 ghost use Rattle.strip_race.specs.Sound.{IsSound};
 
 use crate::event::Event;
@@ -135,9 +137,9 @@ impl World {
         true
     }
 
-    /// What is known of the set: the greatest of its static bound and the bounds of the lines with this set.
-    /// One turn for each line.
-    fn known(&self, set: Mask) -> u64
+    /// What is known of the set: the greatest of its static bound and the bounds of the lines with this set,
+    /// in units of money. One turn for each line.
+    pub fn known(&self, set: Mask) -> u64
         requires { LiesIn self.now.search.film set.0 }
         ensures { result ≡ known (search_rules self.now.search) self.now.lines set.0 }
     {
@@ -160,7 +162,7 @@ impl World {
 
     /// Whether the table may be told of the known line.
     fn may_note(&self, known: &Known) -> bool
-        ensures { IsTrue result ↔ MayNote self.now known.now }
+        ensures { IsTrue result ↔ Knows self.now.lines known.now }
     {
         match self.lines.get(known.line as usize) {
             Some(line) => line.set == known.set && known.bound <= line.bound,

@@ -17,7 +17,8 @@ ghost use Rattle.strip_race.specs.Allowed.{IsAllowed, MayEnlist};
 ghost use Rattle.strip_race.specs.Opened.{AreLimits, opened, search_of};
 ghost use Rattle.strip_race.specs.Sound.{IsSound};
 ghost use Rattle.strip_race.specs.Steps.{Steps};
-ghost use Rattle.strip_race.specs.World.{AreStarts, WorldData, search_rules, stripe_at};
+ghost use Rattle.strip_hand.specs.Search.{AreStarts, search_rules};
+ghost use Rattle.strip_race.specs.World.{WorldData, stripe_at};
 
 use strip_lines::laws::the_rules_are_true;
 

@@ -4,6 +4,7 @@
 mod allowed;
 mod calls;
 mod event;
+mod hand;
 pub mod laws;
 mod opening;
 mod paths;

@@ -5,7 +5,8 @@ ghost use Rattle.strip_film.specs.Shown.{path_data};
 ghost use Rattle.strip_race.specs.Opened.{AreLimits, idle_worker, opened, search_of};
 ghost use Rattle.strip_race.specs.Sound.{IsSound};
 ghost use Rattle.strip_race.specs.Shown.{part_data, worker_data};
-ghost use Rattle.strip_race.specs.World.{AreStarts, no_part};
+ghost use Rattle.strip_hand.specs.Search.{AreStarts};
+ghost use Rattle.strip_race.specs.World.{no_part};
 
 use crate::event::Limits;
 use crate::laws::steps_keep_worlds_sound;

@@ -43,7 +43,8 @@ impl Model for World {
     ghost Value = { WorldData };
 
     ghost view = { λ w. record {
-      search = record { film = w.film; kind = w.kind; cap = w.cap; start = w.start; tasks = map path_data w.tasks.items; buckets = w.buckets };
+      search = record { film = w.film; kind = w.kind; cap = w.cap; start = w.start; tasks = map path_data w.tasks.items };
+      buckets = w.buckets;
       least = w.least;
       lines = w.lines.items;
       stripes = w.stripes.items;
@@ -68,6 +69,13 @@ impl World {
         ensures { result.now ≡ self.now.lines }
     {
         &self.lines
+    }
+
+    /// Moves the lines out. It takes no memory.
+    pub fn into_lines(self) -> Vec<Line>
+        ensures { result.items ≡ self.lines }
+    {
+        self.lines
     }
 
     /// The entries of a bucket of a stripe, each below their number.

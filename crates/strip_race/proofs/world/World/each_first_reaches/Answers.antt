@@ -8,7 +8,8 @@ use Rattle.strip_film.specs.Film.{IsFilm}
 use Rattle.strip_film.specs.Shoot.{step_cost}
 use Rattle.strip_rule.specs.Rule.{open_firsts}
 use Rattle.strip_lines.specs.Lines.{known}
-use Rattle.strip_race.specs.World.{WorldData, search_rules}
+use Rattle.strip_hand.specs.Search.{search_rules}
+use Rattle.strip_race.specs.World.{WorldData}
 use Rattle.strip_race.proofs.Reached.{each_more, first_there, open_is_set}
 use Rattle.strip_race.proofs.world.World.each_first_reaches.Goals as goal
 use Rattle.strip_race.proofs.world.World.each_first_reaches.Goals.{After-saturating_sub, In-Some}

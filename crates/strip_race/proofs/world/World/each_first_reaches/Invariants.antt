@@ -4,7 +4,7 @@ use Rattle.strip_mask.specs.Iter.{rest_of}
 use Rattle.strip_film.specs.Shoot.{step_cost}
 use Rattle.strip_rule.specs.Rule.{open_firsts}
 use Rattle.strip_lines.specs.Lines.{known}
-use Rattle.strip_race.specs.World.{search_rules}
+use Rattle.strip_hand.specs.Search.{search_rules}
 use Rattle.strip_race.proofs.world.World.each_first_reaches.Given as goal
 
 -- each first so far reaches the bound; these and those to come are the open firsts

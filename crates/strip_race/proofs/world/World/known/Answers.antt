@@ -1,7 +1,8 @@
 use Rattle.std.proofs.Common.{◌≡◌, ◌<◌, List, length, ap, subst, ◌∙◌}
 use Rattle.strip_film.specs.declared.shared.Line.{Line}
 use Rattle.strip_lines.specs.Lines.{line_at}
-use Rattle.strip_race.specs.World.{WorldData, search_rules}
+use Rattle.strip_hand.specs.Search.{search_rules}
+use Rattle.strip_race.specs.World.{WorldData}
 use Rattle.strip_race.proofs.Reached.{known-with, known-without}
 use Rattle.strip_race.proofs.world.World.known.Goals as goal
 use Rattle.strip_race.proofs.world.World.known.Goals.{then-line-set, else-line-set}

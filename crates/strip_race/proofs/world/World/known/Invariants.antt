@@ -1,6 +1,6 @@
 use Rattle.std.proofs.Common.{◌≡◌, take}
 use Rattle.strip_lines.specs.Lines.{known}
-use Rattle.strip_race.specs.World.{search_rules}
+use Rattle.strip_hand.specs.Search.{search_rules}
 use Rattle.strip_race.proofs.world.World.known.Given as goal
 
 -- what the lines so far make known

@@ -17,8 +17,8 @@ returns-clause-opened c =
         cap = c.args.limits.now.cap;
         start = c.paid.ensures i;
         tasks = tasks i;
-        buckets = c.args.limits.now.entries / 64;
       };
+      buckets = c.args.limits.now.entries / 64;
       least = c.paid-2.ensures i;
       lines = c.in_ok-with_capacity.ensures.items i;
       stripes = c.in_ok-empty_stripes.ensures i;
