@@ -23,7 +23,7 @@ least_of_le f x (z ∷ zs) y there = elim (contains_cases x (z ∷ zs) y there) 
   | inr later ↦ (let rest : least_of f z zs ≤ f y = least_of_le f z zs y later in omega arith)
 ]
 
-least_step_le : (rules : Rules) (set none : ℕ) (scenes : List ℕ) (scene : ℕ) → Contains scenes scene
+pub least_step_le : (rules : Rules) (set none : ℕ) (scenes : List ℕ) (scene : ℕ) → Contains scenes scene
     → least_step rules set none scenes ≤ step_cost rules.film set scene + rules.bound (without set scene)
 least_step_le rules set none [] scene there = absurd (contains_none scene there)
 least_step_le rules set none (x ∷ xs) scene there = least_of_le (λ s. step_cost rules.film set s + rules.bound (without set s)) x xs scene there

@@ -1,0 +1,17 @@
+pub mod Lists
+pub mod Added
+pub mod Tasks
+pub mod Placed
+pub mod Grown
+pub mod GoneDown
+pub mod Tried
+pub mod Turns
+pub mod Leaving
+pub mod Filled
+pub mod Found
+pub mod Least
+pub mod Small
+pub mod Raised
+pub mod Root
+pub mod Reaches
+pub mod Extended

@@ -1,0 +1,114 @@
+-- A turn over the first scenes: the path of one of them may be tried, and what it tells.
+use Rattle.std.proofs.Common.{◌≡◌, ◌≢◌, ℕ, ◌<◌, ◌⊎◌, Bool, true, Option, Some, None, Result, Ok, List, [], ◌∷◌, ◌++◌, length, get_or, slice_set, Contains, inl, inr, refl, sym, ap, ◌∙◌, subst, arith}
+use Rattle.std.proofs.lemmas.Bool.{lt-ltb}
+use Rattle.std.proofs.Math.ListN.{get_or-append}
+use Rattle.std.proofs.Math.Seq.{get_or-append_seam}
+use Rattle.std.proofs.lemmas.List.{length-append, get_or-set_same, get_or-set_other}
+use Rattle.std.proofs.lemmas.List.Kept.{AllPairs-from_increasing}
+use Rattle.strip_mask.specs.Set.{has, members, size, without}
+use Rattle.strip_mask.proofs.Below.{LiesBelow-full, size-full}
+use Rattle.strip_mask.proofs.Members.{members_rise}
+use Rattle.strip_mask.proofs.Sizes.{size-empty, size-without}
+use Rattle.strip_mask.proofs.Turns.{turn_member}
+use Rattle.strip_pay.specs.Film.{FilmData}
+use Rattle.strip_pay.specs.Order.{IsBefore}
+use Rattle.strip_film.specs.Film.{IsFilm, all_scenes}
+use Rattle.strip_film.specs.Path.{PathData}
+use Rattle.strip_film.specs.Rules.{IsOpen}
+use Rattle.strip_film.specs.Shown.{CursorData}
+use Rattle.strip_io.specs.declared.files.Memory.{Memory}
+use Rattle.strip_rule.specs.Rule.{open_firsts}
+use Rattle.strip_lines.specs.Lines.{rules_of}
+use Rattle.strip_count.specs.Parts.{lies_in}
+use Rattle.strip_count.specs.Paths.{ComesAfter, path_along}
+use Rattle.strip_hand.specs.Hand.{HandData, IsHand}
+use Rattle.strip_hand.specs.Search.{SearchData, depth_of, search_rules}
+use Rattle.strip_front.specs.declared.down.Tried.{Tried}
+use Rattle.strip_front.specs.declared.down.Tried.TheVariants.{Line, Passed, Spent}
+use Rattle.strip_front.specs.Front.{FrontData}
+use Rattle.strip_front.specs.Tried.{AreTried, Tries}
+use Rattle.strip_front.proofs.Tasks.{first_there, one_open, set_is}
+use Rattle.strip_front.proofs.Tried.{MayTry, passed, spent_here, enlisted}
+
+-- the scenes before a turn's scene are lesser, as the members of a set rise
+lesser_before : (set scene : ℕ) (tried left : List ℕ) → tried ++ scene ∷ left ≡ members set → (x : ℕ) → Contains tried x → x < scene
+lesser_before set scene tried left all x (place, within, at) =
+    let risen = subst (λ (xs : List ℕ). (i j d : ℕ) → i < j → j < length xs → get_or xs i d < get_or xs j d) (sym all)
+    (AllPairs-from_increasing (members set) (members_rise set)) in
+    let less : get_or (tried ++ scene ∷ left) place x < get_or (tried ++ scene ∷ left) (length tried) x
+    = risen place (length tried) x within (omega (arith, length-append tried (scene ∷ left))) in
+    omega (arith, less, get_or-append tried (scene ∷ left) x place within, at, get_or-append_seam tried scene left x)
+
+-- a path of one scene comes behind the empty one and those of lesser scenes
+later : (last : Option PathData) (scenes : List ℕ) (scene : ℕ) (path : PathData) → path.scenes ≡ scene ∷ [] → ((x : ℕ) → Contains scenes x → x < scene)
+    → (old : PathData) → last ≡ Some old → (old.scenes ≡ []) ⊎ ((s : ℕ) × Contains scenes s × (old.scenes ≡ s ∷ [])) → ComesAfter last path
+later last scenes scene path is less old at (inl none) =
+    subst (λ (o : Option PathData). ComesAfter o path) (sym at)
+    (subst (λ (xs : List ℕ). IsBefore xs path.scenes) (sym none) (subst (IsBefore []) (sym is) tt))
+later last scenes scene path is less old at (inr (s, there, along)) =
+    subst (λ (o : Option PathData). ComesAfter o path) (sym at)
+    (subst (λ (xs : List ℕ). IsBefore xs path.scenes) (sym along) (subst (IsBefore (s ∷ [])) (sym is) (inl (less s there))))
+
+-- while all scenes of a film remain some do, and so after one of two or more
+pub some_remain : (film : FilmData) → IsFilm film → all_scenes film ≢ 0
+some_remain film is none = omega (arith, is.scene_count.0, size-full (length film.casts) is.scene_count.1, ap size none, size-empty)
+
+pub others_remain : (film : FilmData) (scene : ℕ) → IsFilm film → 1 < length film.casts → has (all_scenes film) scene ≡ true → without (all_scenes film) scene ≢ 0
+others_remain film scene is more there none =
+    omega (arith, more, size-full (length film.casts) is.scene_count.1, size-without (all_scenes film) scene (set_is film is (all_scenes film) (LiesBelow-full (length film.casts))) there, ap size none, size-empty)
+
+module _ (film : FilmData) (is : IsFilm film) (more : 1 < length film.casts) (hand : HandData) (same : hand.search.film ≡ film) (cursor : CursorData)
+    (task : cursor.task ≡ 0) (front : FrontData) (scenes rest left : List ℕ) (scene : ℕ) (spent : Bool) (tried : AreTried hand cursor front scenes spent)
+    (turns : scenes ++ rest ≡ members (open_firsts film (all_scenes film))) (here : rest ≡ scene ∷ left)
+    (path : PathData) (along : path ≡ path_along film (scene ∷ [])) where
+  member : has (open_firsts film (all_scenes film)) scene ≡ true
+  member = turn_member (open_firsts film (all_scenes film)) scene scenes rest left turns here
+
+  same_path : path ≡ path_along hand.search.film (scene ∷ [])
+  same_path = along ∙ ap (λ (f : FilmData). path_along f (scene ∷ [])) (sym same)
+
+  pub may_try : MayTry hand.search cursor path
+  may_try = record {
+    is_open = subst (IsOpen (search_rules hand.search)) (sym along)
+        (subst (λ (f : FilmData). IsOpen (rules_of hand.search.kind f) (path_along film (scene ∷ []))) (sym same) (one_open film is hand.search.kind scene member));
+    lies = subst (λ (part : ℕ). lies_in (depth_of hand.search) hand.search.tasks part path ≡ true) (sym task)
+        (lt-ltb (length path.scenes) (depth_of hand.search)
+        (omega (arith, more, ap (λ (p : PathData). length p.scenes) along, ap (λ (f : FilmData). length f.casts) same)));
+    later = later cursor.last scenes scene path (ap (λ (p : PathData). p.scenes) along)
+        (lesser_before (open_firsts film (all_scenes film)) scene scenes left (ap (λ (xs : List ℕ). scenes ++ xs) (sym here) ∙ turns))
+        tried.last.0 tried.last.1 tried.last.2;
+    some = λ none. others_remain film scene is more (first_there film (all_scenes film) scene member) (ap (λ (p : PathData). p.rest) (sym along) ∙ none);
+  }
+
+  module _ (result : Result Tried Memory) (after : HandData) (cursor_after : CursorData) (tries : Tries hand cursor path result after cursor_after) where
+    tries_along : (t : Tried) → result ≡ Ok t → Tries hand cursor (path_along hand.search.film (scene ∷ [])) (Ok t) after cursor_after
+    tries_along t was =
+        subst (λ (r : Result Tried Memory). Tries hand cursor (path_along hand.search.film (scene ∷ [])) r after cursor_after) was
+        (subst (λ (p : PathData). Tries hand cursor p result after cursor_after) same_path tries)
+
+    pub turn_passed : result ≡ Ok Passed → AreTried after cursor_after front (scenes ++ scene ∷ []) spent
+    turn_passed was = passed hand cursor after cursor_after front scenes scene spent tried (tries_along Passed was)
+
+    pub turn_spent : result ≡ Ok Spent → IsHand after → AreTried after cursor_after front (scenes ++ scene ∷ []) true
+    turn_spent was sound =
+        spent_here hand cursor after cursor_after front scenes scene spent tried sound (subst (MayTry hand.search cursor) same_path may_try) (tries_along Spent was)
+
+    pub turn_enlisted : (front_after : FrontData) (line : ℕ) (firsts : List (Option ℕ)) → result ≡ Ok (Line line) → IsHand after → front_after.root ≡ front.root
+        → front.firsts ≡ (λ s. get_or firsts s None) → front_after.firsts ≡ (λ s. get_or (slice_set firsts scene (Some line)) s None) → scene < length firsts
+        → AreTried after cursor_after front_after (scenes ++ scene ∷ []) spent
+    turn_enlisted front_after line firsts was sound root old new within =
+        enlisted hand cursor after cursor_after front scenes scene spent tried front_after line sound root
+        (ap (λ (f : ℕ → Option ℕ). f scene) new ∙ get_or-set_same firsts scene (Some line) None within)
+        (λ s other. ap (λ (f : ℕ → Option ℕ). f s) new ∙ get_or-set_other firsts scene s (Some line) None other ∙ sym (ap (λ (f : ℕ → Option ℕ). f s) old))
+        (tries_along (Line line) was)
+
+-- the empty path may be tried
+pub may_try_root : (film : FilmData) (search : SearchData) (cursor : CursorData) (path : PathData) → IsFilm film → search.film ≡ film
+    → cursor ≡ record { task = 0; last = None } → path ≡ path_along film [] → MayTry search cursor path
+may_try_root film search cursor path is same at along =
+    subst (λ (k : CursorData). MayTry search k path) (sym at) (subst (MayTry search (record { task = 0; last = None })) (sym along) (record {
+      is_open = subst (λ (f : FilmData). IsOpen (rules_of search.kind f) (path_along film [])) (sym same) (record { remained = tt; left = refl; steps = refl }, tt);
+      lies = lt-ltb 0 (depth_of search) (omega (arith, is.scene_count.0, ap (λ (f : FilmData). length f.casts) same));
+      later = tt;
+      some = some_remain film is;
+    }))

@@ -1,0 +1,29 @@
+use Rattle.std.proofs.Common.{◌∙◌, ◌↔◌, IsSome, Vec, subst, Bool, length, sym, ap}
+use Rattle.strip_film.specs.Shown.{cursor_data}
+use Rattle.strip_hand.specs.Hand.{HandData}
+use Rattle.strip_front.specs.Front.{FrontData}
+use Rattle.strip_front.specs.Shown.{front_data}
+use Rattle.strip_front.proofs.Filled.{filled, root_own, whole_still}
+use Rattle.strip_front.proofs.down.go_down.Goals as goal
+
+pub returns-clause-filled : goal.returns-clause-filled
+returns-clause-filled g c =
+    filled (g.H.Hand.shows c.enlist_paths.new.hand) c.film.result.now
+    (ap (λ (h : HandData). h.search.film) c.enlist_paths.ensures.down.only ∙ c.requires.film ∙ sym c.film.ensures)
+    (front_data c.enlist_paths.new.front) (front_data c.mark_wanted.new.front) c.mark_wanted.ensures
+    (length (front_data c.args.front.now).tasks) (ap (λ (v : Vec Bool _). v.items) c.enlist_paths.ensures.wanted ∙ c.requires.front.wanted)
+    c.in_ok-spent.ensures.enlisted.lines
+
+pub returns-clause-whole : goal.returns-clause-whole
+returns-clause-whole g c = λ none.
+    whole_still (g.H.Hand.shows c.enlist_paths.new.hand) c.film.result.now
+    (ap (λ (h : HandData). h.search.film) c.enlist_paths.ensures.down.only ∙ c.requires.film ∙ sym c.film.ensures)
+    (front_data c.enlist_paths.new.front) (front_data c.mark_wanted.new.front) c.mark_wanted.ensures
+    (g.H.Hand.shows c.enlist_paths.new.hand).told (c.in_ok-spent.ensures.enlisted.whole none)
+
+pub returns-clause-own : goal.returns-clause-own
+returns-clause-own g c = λ spent some few.
+    root_own (g.H.Hand.shows c.enlist_paths.new.hand) (cursor_data c.enlist_paths.new.cursor) (front_data c.mark_wanted.new.front) c.keeps_limits.ensures
+    c.enlist_paths.ensures.down.stands c.enlist_paths.ensures.down.task
+    (subst (λ (f : FrontData). IsSome f.root ↔ IsSome (cursor_data c.enlist_paths.new.cursor).last) (sym c.mark_wanted.ensures.only) c.in_ok-spent.ensures.enlisted.root)
+    (c.in_ok-spent.ensures.enlisted.cut spent) some few

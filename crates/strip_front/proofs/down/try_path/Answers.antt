@@ -1,0 +1,26 @@
+use Rattle.std.proofs.Common.{subst, ap, ◌∙◌, arith}
+use Rattle.strip_pay.specs.Film.{FilmData}
+use Rattle.strip_film.specs.Film.{IsFilm}
+use Rattle.strip_film.specs.Path.{IsPath}
+use Rattle.strip_film.specs.Shown.{path_data}
+use Rattle.strip_film.proofs.Paths.{rest_lies}
+use Rattle.strip_bound.specs.Bounds.{bound}
+use Rattle.strip_hand.specs.Hand.{HandData}
+use Rattle.strip_front.proofs.Reaches.{reach_fits}
+use Rattle.strip_front.proofs.down.try_path.Goals as goal
+
+pub at-bound-requires-clause-lies : goal.at-bound-requires-clause-lies
+at-bound-requires-clause-lies g c =
+    rw c.rest.ensures (rest_lies c.args.kept.now.film.now (path_data c.args.path.now)
+    (subst (λ (f : FilmData). IsPath f (path_data c.args.path.now)) c.requires.film c.requires.path.0))
+
+pub overflow_add-paid : goal.overflow_add-paid
+overflow_add-paid g c =
+    omega (
+      arith,
+      reach_fits c.args.kept.now.kind c.args.kept.now.film.now (path_data c.args.path.now) c.paid.result c.at-bound.result
+          (subst IsFilm (ap (λ (h : HandData). h.search.film) c.look-least.ensures.told.only ∙ c.requires.film) c.keeps_limits.ensures.film)
+          (subst (λ (f : FilmData). IsPath f (path_data c.args.path.now)) c.requires.film c.requires.path.0)
+          c.paid.ensures
+          (c.at-bound.ensures ∙ ap (bound c.args.kept.now.kind c.args.kept.now.film.now) c.rest.ensures),
+    )

@@ -1,0 +1,6 @@
+pub mod OneWorker
+pub mod Moved
+pub mod Settled
+pub mod Begun
+pub mod Taken
+pub mod Closed

@@ -1,0 +1,13 @@
+use Rattle.std.proofs.Common.{map, subst, sym, ap, ◌∙◌}
+use Rattle.strip_film.specs.Film.{IsFilm}
+use Rattle.strip_film.specs.Shown.{path_data}
+use Rattle.strip_front.specs.Tasks.{tasks_of}
+use Rattle.strip_race.specs.Opened.{search_of}
+use Rattle.strip_team.proofs.search.open.Goals as goal
+
+pub new-requires-clause-tasks : goal.new-requires-clause-tasks
+new-requires-clause-tasks g c =
+    c.tasks_are_starts.ensures
+    (search_of c.film-2.result.now c.kind.result (path_data c.args.start.now) (map path_data c.deref.result.now) c.args.limits.now)
+    (subst IsFilm (c.film.ensures ∙ sym c.film-2.ensures) c.keeps_limits.ensures)
+    (ap (map path_data) c.deref.ensures.value ∙ c.requires.front ∙ ap tasks_of (sym c.film-2.ensures))

@@ -1,0 +1,4 @@
+pub mod Ended
+pub mod Shown
+pub mod Team
+pub mod Closed

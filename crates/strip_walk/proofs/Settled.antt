@@ -1,0 +1,214 @@
+-- The children of a path, walked one after the other: what they make known of what remains.
+use Rattle.std.proofs.Common.{◌≡◌, ◌≢◌, ℕ, zero, suc, ◌+◌, ◌<◌, ◌≤◌, ◌⊎◌, inl, inr, min, Bool, true, false, ◌||◌, nat_eq, Option, List, [], ◌∷◌, ◌++◌, slice_index_or, Contains, refl, sym, ap, ◌∙◌, subst, arith}
+use Rattle.std.proofs.lemmas.Bool.{cases_Bool, cases_eq, cases_lt}
+use Rattle.std.proofs.lemmas.List.Elements.{Contains-append_left, Contains-push, Contains-push_cases}
+use Rattle.std.specs.List.{starts_with}
+use Rattle.strip_mask.specs.Set.{has, without}
+use Rattle.strip_pay.proofs.Lists.{contains_none}
+use Rattle.strip_pay.specs.declared.kind.Kind.{Kind}
+use Rattle.strip_pay.specs.Film.{FilmData}
+use Rattle.strip_film.specs.Film.{all_scenes}
+use Rattle.strip_film.specs.Path.{IsPath, PathData}
+use Rattle.strip_film.specs.Rules.{IsOpen}
+use Rattle.strip_film.specs.Shoot.{step_cost}
+use Rattle.strip_film.specs.Shown.{CursorData}
+use Rattle.strip_film.proofs.Lists.{AreFirsts-append}
+use Rattle.strip_rule.specs.Rule.{open_firsts}
+use Rattle.strip_lines.specs.Lines.{known}
+use Rattle.strip_lines.proofs.Grown.{known-grows, known-static}
+use Rattle.strip_count.specs.Parts.{lies_in, no_task}
+use Rattle.strip_count.specs.Paths.{ComesAfter}
+use Rattle.strip_hand.specs.Search.{SearchData, depth_of, search_rules}
+use Rattle.strip_hand.specs.Hand.{HandData, IsHand}
+use Rattle.strip_walk.specs.declared.found.Found.{Found}
+use Rattle.strip_walk.specs.declared.found.Opened.{Opened}
+use Rattle.strip_walk.specs.declared.found.Sifted.{Sifted}
+use Rattle.strip_walk.specs.Found.{BegunBy, IsCutShort, IsFound, MayExplore}
+use Rattle.strip_walk.specs.Walked.{Walks}
+use Rattle.strip_walk.specs.Begun.{IsOpened}
+use Rattle.strip_walk.specs.Sifted.{AreSifted}
+use Rattle.strip_walk.proofs.Bounds.{bound_known}
+use Rattle.strip_walk.proofs.Lists.{begun_before, itself_before, starts_longer, starts_shorter}
+use Rattle.strip_walk.proofs.Stayed.{begun_itself, cut_stays}
+
+-- the path with this scene shot next
+abbrev pub shot : SearchData → PathData → ℕ → PathData
+shot search path scene = record {
+  scenes = path.scenes ++ scene ∷ [];
+  rest = without path.rest scene;
+  paid = path.paid + step_cost search.film path.rest scene;
+}
+
+-- the scene may be shot next
+abbrev pub IsFirst : SearchData → PathData → ℕ → Type 0
+IsFirst search path scene = has (open_firsts search.film path.rest) scene ≡ true
+
+-- those to be walked are open firsts; of the open firsts those that are not to be walked, and those that were, are settled: the least reaches no further than the step of
+-- each and what is known of the rest; the path with the least is no cheaper than the least cost told, unless the walk was cut short;
+-- the least reaches some step with the static bound of the rest, or that cost; each greater scene comes later
+pub record AreSettled (search : SearchData) (hand : HandData) (cursor : CursorData) (path : PathData) (visit : ℕ) (done : List ℕ)
+    (least : ℕ) (spent : Bool) : Type 0 where
+  pub within : (scene : ℕ) → has visit scene ≡ true → IsFirst search path scene
+  pub justified : (scene : ℕ) → IsFirst search path scene → (has visit scene ≡ true → Contains done scene)
+      → least ≤ step_cost search.film path.rest scene + known (search_rules search) hand.lines (without path.rest scene)
+  pub enough : spent ≡ false → hand.told ≤ path.paid + least
+  pub ahead : ((scene : ℕ) × IsFirst search path scene
+      × (step_cost search.film path.rest scene + (search_rules search).bound (without path.rest scene) ≤ least)) ⊎ (hand.told ≤ path.paid + least)
+  pub later : (scene : ℕ) → ((x : ℕ) → Contains done x → x < scene) → ComesAfter cursor.last (shot search path scene)
+  pub begun : BegunBy path cursor.last
+  pub cut : spent ≡ true → IsCutShort hand cursor
+
+-- ---- before the first child
+
+pub sifted_by : (kind : Kind) (film : FilmData) (search : SearchData) (path : PathData) (told : ℕ) (sifted : Sifted)
+    → (search.film ≡ film) × (search.kind ≡ kind) → AreSifted kind film path told sifted → AreSifted search.kind search.film path told sifted
+sifted_by kind film search path told sifted (film_is, kind_is) sifts =
+    subst (λ (f : FilmData). AreSifted search.kind f path told sifted) (sym film_is)
+    (subst (λ (k : Kind). AreSifted k film path told sifted) (sym kind_is) sifts)
+
+pub settled_none : (search : SearchData) (hand : HandData) (cursor : CursorData) (path : PathData) (opened : Opened) (sifted : Sifted)
+    → IsOpened hand cursor path opened → AreSifted search.kind search.film path opened.told sifted
+    → AreSettled search hand cursor path sifted.visit.0 [] sifted.least false
+settled_none search hand cursor path opened sifted is sifts =
+    let enough : hand.told ≤ path.paid + sifted.least = omega (arith, is.told, sifts.enough) in
+    record {
+      within = sifts.within;
+      justified = λ scene first met. elim (cases_Bool (has sifted.visit.0 scene)) [
+        | inl visited ↦ absurd (contains_none scene (met visited))
+        | inr passed ↦ omega (arith, sifts.passed scene first passed, known-static (search_rules search) hand.lines (without path.rest scene))
+      ];
+      enough = λ _. enough;
+      ahead = inr enough;
+      later = λ scene _. subst (λ (last : Option PathData). ComesAfter last (shot search path scene)) (sym is.last) (itself_before path.scenes scene);
+      begun = begun_itself cursor.last path is.last;
+      cut = λ is_cut. absurd (let e : false ≡ true = is_cut in cc);
+    }
+
+-- ---- the next child may be walked
+
+lies_longer : (depth : ℕ) (tasks : List PathData) (task : ℕ) (path longer : PathData) (s : ℕ) → task ≢ 0 → longer.scenes ≡ path.scenes ++ s ∷ []
+    → lies_in depth tasks task path ≡ true → lies_in depth tasks task longer ≡ true
+lies_longer depth tasks zero path longer s some more lies = absurd (some refl)
+lies_longer depth tasks (suc task) path longer s some more lies =
+    let begins : starts_with nat_eq (path.scenes ++ s ∷ []) (slice_index_or tasks task no_task).scenes ≡ true
+    = starts_longer path.scenes (slice_index_or tasks task no_task).scenes (s ∷ []) lies in
+    subst (λ (scenes : List ℕ). starts_with nat_eq scenes (slice_index_or tasks task no_task).scenes ≡ true) (sym more) begins
+
+module _ (before now : HandData) (cursor cursor_now : CursorData) (path : PathData) (visit : ℕ) (done : List ℕ) (least : ℕ) (spent : Bool) (s : ℕ)
+    (may : MayExplore before cursor path) (walks : Walks before cursor path now cursor_now)
+    (settled : AreSettled before.search now cursor_now path visit done least spent)
+    (first : IsFirst before.search path s) (lesser : (x : ℕ) → Contains done x → x < s) (within : IsPath before.search.film (shot before.search path s)) where
+  open_longer : IsOpen (search_rules before.search) (shot before.search path s)
+  open_longer = (
+    within,
+    AreFirsts-append (open_firsts before.search.film) (all_scenes before.search.film) s path.scenes may.is_open.1
+        (subst (λ (q : ℕ). has (open_firsts before.search.film q) s ≡ true) may.is_open.0.left first),
+  )
+
+  pub may_child : MayExplore now cursor_now (shot before.search path s)
+  may_child = record {
+    stands = walks.stands;
+    task = λ none. may.task (sym walks.task ∙ none);
+    is_open = subst (λ (search : SearchData). IsOpen (search_rules search) (shot before.search path s)) (sym walks.search) open_longer;
+    lies = ap (λ (search : SearchData). lies_in (depth_of search) search.tasks cursor_now.task (shot before.search path s)) walks.search
+        ∙ ap (λ (task : ℕ). lies_in (depth_of before.search) before.search.tasks task (shot before.search path s)) walks.task
+        ∙ lies_longer (depth_of before.search) before.search.tasks cursor.task path (shot before.search path s) s may.task refl may.lies;
+    later = settled.later s lesser;
+  }
+
+-- ---- a child was walked
+
+none_true : (a b : Bool) → (a || b) ≡ false → (a ≡ false) × (b ≡ false)
+none_true true b is = absurd (let e : true ≡ false = is in cc)
+none_true false b is = (refl, is)
+
+some_true : (a b : Bool) → (a || b) ≡ true → (a ≡ true) ⊎ (b ≡ true)
+some_true true b is = inl refl
+some_true false b is = inr is
+
+module _ (search : SearchData) (now after : HandData) (cursor cursor_after : CursorData) (path : PathData) (visit : ℕ) (done : List ℕ) (least : ℕ) (spent : Bool)
+    (s : ℕ) (found : Found) (here : now.search ≡ search) (is : IsHand after) (walks : Walks now cursor (shot search path s) after cursor_after)
+    (finds : IsFound after cursor_after (shot search path s) found) (settled : AreSettled search now cursor path visit done least spent)
+    (first : IsFirst search path s) (next : ℕ) (least_is : next ≡ min least (step_cost search.film path.rest s + found.bound)) where
+  same_search : after.search ≡ search
+  same_search = walks.search ∙ here
+
+  child_known : found.bound ≤ known (search_rules search) after.lines (without path.rest s)
+  child_known = bound_known (search_rules search) after.lines (shot search path s) found.line found.bound (λ number some. (finds.line number some).0)
+      (λ none. subst (λ (of : SearchData). found.bound ≤ (search_rules of).bound (without path.rest s)) same_search (finds.none none))
+
+  justified_then : (scene : ℕ) → IsFirst search path scene → (has visit scene ≡ true → Contains (done ++ s ∷ []) scene)
+      → next ≤ step_cost search.film path.rest scene + known (search_rules search) after.lines (without path.rest scene)
+  justified_then scene is_first met = elim (cases_eq s scene) [
+    | inl same ↦ subst (λ (x : ℕ). next ≤ step_cost search.film path.rest x + known (search_rules search) after.lines (without path.rest x)) same
+        (omega (arith, least_is, child_known))
+    | inr other ↦ (let old : least ≤ step_cost search.film path.rest scene + known (search_rules search) now.lines (without path.rest scene)
+        = settled.justified scene is_first (λ visited. elim (Contains-push_cases done s scene (met visited)) [
+          | inl earlier ↦ earlier
+          | inr same ↦ absurd (other same)
+        ]) in
+        omega (arith, least_is, old, known-grows (search_rules search) now.lines after.lines (without path.rest scene) walks.grow))
+  ]
+
+  enough_then : (spent || found.spent) ≡ false → after.told ≤ path.paid + next
+  enough_then none =
+      let both = none_true spent found.spent none in
+      omega (arith, least_is, settled.enough both.0, finds.enough both.1, walks.told)
+
+  abbrev Reached : ℕ → Type 0
+  Reached bound = ((scene : ℕ) × IsFirst search path scene
+      × (step_cost search.film path.rest scene + (search_rules search).bound (without path.rest scene) ≤ bound)) ⊎ (after.told ≤ path.paid + bound)
+
+  child_ahead : Reached (step_cost search.film path.rest s + found.bound)
+  child_ahead = elim finds.reaches [
+    | inl static ↦ inl (
+      s,
+      first,
+      (let e : (search_rules search).bound (without path.rest s) ≤ found.bound
+          = subst (λ (of : SearchData). (search_rules of).bound (without path.rest s) ≤ found.bound) same_search static in omega (arith, e)),
+    )
+    | inr told ↦ inr (omega (arith, told))
+  ]
+
+  old_ahead : Reached least
+  old_ahead = elim settled.ahead [
+    | inl one ↦ inl one
+    | inr told ↦ inr (omega (arith, told, walks.told))
+  ]
+
+  ahead_then : Reached next
+  ahead_then = elim (cases_lt least (step_cost search.film path.rest s + found.bound)) [
+    | inl less ↦ subst Reached (let e : least ≡ next = omega (arith, least_is, less) in e) old_ahead
+    | inr more ↦ subst Reached (let e : step_cost search.film path.rest s + found.bound ≡ next = omega (arith, least_is, more) in e) child_ahead
+  ]
+
+  later_then : (scene : ℕ) → ((x : ℕ) → Contains (done ++ s ∷ []) x → x < scene) → ComesAfter cursor_after.last (shot search path scene)
+  later_then scene lesser = elim walks.last [
+    | inl same ↦ subst (λ (last : Option PathData). ComesAfter last (shot search path scene)) (sym same)
+        (settled.later scene (λ x there. lesser x (Contains-append_left done (s ∷ []) x there)))
+    | inr begun ↦ subst (λ (last : Option PathData). ComesAfter last (shot search path scene)) (sym begun.1)
+        (begun_before begun.0.scenes path.scenes s scene begun.2 (lesser s (Contains-push done s)))
+  ]
+
+  begun_then : BegunBy path cursor_after.last
+  begun_then = elim walks.last [
+    | inl same ↦ subst (BegunBy path) (sym same) settled.begun
+    | inr begun ↦ (begun.0, begun.1, starts_shorter begun.0.scenes path.scenes (s ∷ []) begun.2)
+  ]
+
+  cut_then : (spent || found.spent) ≡ true → IsCutShort after cursor_after
+  cut_then some = elim (some_true spent found.spent some) [
+    | inl old ↦ cut_stays now after cursor cursor_after (shot search path s) is.few walks (settled.cut old)
+    | inr new ↦ finds.spent new
+  ]
+
+  pub settled_more : AreSettled search after cursor_after path visit (done ++ s ∷ []) next (spent || found.spent)
+  settled_more = record {
+    within = settled.within;
+    justified = justified_then;
+    enough = enough_then;
+    ahead = ahead_then;
+    later = later_then;
+    begun = begun_then;
+    cut = cut_then;
+  }

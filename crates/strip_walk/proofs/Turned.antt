@@ -1,0 +1,113 @@
+-- One turn of a walk: a scene is shot, what then remains is walked, and the scene is taken back.
+use Rattle.std.proofs.Common.{◌≡◌, ℕ, ◌+◌, ◌-◌, ◌^◌, ◌<◌, ◌≤◌, Bool, true, false, Result, Ok, Err, IfOk, List, [], ◌∷◌, ◌++◌, length, length-append, get_or, Contains, sym, ap, ◌∙◌, subst, arith}
+use Rattle.std.specs.Result.{IsErr}
+use Rattle.std.proofs.Math.ListN.{get_or-append}
+use Rattle.std.proofs.Math.Seq.{get_or-append_seam}
+use Rattle.std.proofs.lemmas.List.Kept.{AllPairs-from_increasing}
+use Rattle.strip_io.specs.declared.files.Memory.{Memory}
+use Rattle.strip_mask.specs.Set.{IsSet, has, members, size, without}
+use Rattle.strip_mask.proofs.Below.{LiesBelow-without, is_set_below}
+use Rattle.strip_mask.proofs.Members.{Contains-members, members_rise}
+use Rattle.strip_pay.specs.Film.{FilmData}
+use Rattle.strip_film.specs.Film.{IsFilm, LiesIn}
+use Rattle.strip_film.specs.Path.{IsPath, PathData}
+use Rattle.strip_film.specs.Shoot.{ready, step_cost}
+use Rattle.strip_film.specs.Shown.{CursorData}
+use Rattle.strip_film.proofs.Costs.{step_limit}
+use Rattle.strip_film.proofs.Lists.{ready_there}
+use Rattle.strip_film.proofs.Paths.{rest_lies}
+use Rattle.strip_rule.proofs.Open.{open_is}
+use Rattle.strip_hand.specs.Search.{SearchData}
+use Rattle.strip_hand.specs.Hand.{HandData}
+use Rattle.strip_walk.specs.declared.found.Found.{Found}
+use Rattle.strip_walk.specs.Found.{IsFound}
+use Rattle.strip_walk.specs.Walked.{Explores, Walks}
+use Rattle.strip_walk.proofs.Ended.{fewer, finish_small}
+use Rattle.strip_walk.proofs.Settled.{AreSettled, IsFirst, shot}
+use Rattle.strip_walk.proofs.Stayed.{rose_around, walks_child, walks_trans}
+
+-- ---- the scene
+
+module _ (search : SearchData) (film : FilmData) (path now : PathData) (s : ℕ) (film_is : search.film ≡ film) (same : now ≡ path) (first : IsFirst search path s) where
+  pub first_ready : has (ready film now.rest) s ≡ true
+  first_ready =
+      subst (λ (f : FilmData). has (ready f now.rest) s ≡ true) film_is
+      (subst (λ (p : PathData). has (ready search.film p.rest) s ≡ true) (sym same) (open_is search.film path.rest s first).0)
+
+  -- the path that was taken is the longer one
+  pub taken : (longer : PathData) → longer ≡ record { scenes = now.scenes ++ s ∷ []; rest = without now.rest s; paid = now.paid + step_cost film now.rest s }
+      → longer ≡ shot search path s
+  taken longer is = is ∙ (λ i. record {
+    scenes = (same i).scenes ++ s ∷ [];
+    rest = without (same i).rest s;
+    paid = (same i).paid + step_cost (sym film_is i) (same i).rest s;
+  })
+
+-- what a step costs is what is paid more
+pub paid_more : (search : SearchData) (path now longer : PathData) (s paid paid_after : ℕ) → now ≡ path → longer ≡ shot search path s → paid ≡ now.paid → paid_after ≡ longer.paid
+    → paid_after - paid ≡ step_cost search.film path.rest s
+paid_more search path now longer s paid paid_after same is paid_is after_is =
+    let before : now.paid ≡ path.paid = ap (λ (p : PathData). p.paid) same in
+    let after : longer.paid ≡ path.paid + step_cost search.film path.rest s = ap (λ (p : PathData). p.paid) is in
+    omega (arith, before, after, paid_is, after_is)
+
+module _ (search : SearchData) (path : PathData) (s : ℕ) (is : IsFilm search.film) (within : IsPath search.film path) (first : IsFirst search path s) where
+  lies : LiesIn search.film path.rest
+  lies = rest_lies search.film path within
+
+  pub fewer_left : (longer : PathData) → longer ≡ shot search path s → size longer.rest < size path.rest
+  fewer_left longer longer_is =
+      omega (arith, ap (λ (p : PathData). size p.rest) longer_is, fewer search.film path s is lies first)
+
+  -- the step and what was found of the rest fit a number
+  pub sum_fits : (after : HandData) (cursor_after : CursorData) (found : Found) → after.search ≡ search → IsFound after cursor_after (shot search path s) found
+      → step_cost search.film path.rest s + found.bound < 2 ^ 64
+  sum_fits after cursor_after found same finds =
+      let set : IsSet path.rest = is_set_below (length search.film.casts) path.rest is.scene_count.1 lies in
+      let film_same : after.search.film ≡ search.film = ap (λ (of : SearchData). of.film) same in
+      omega (
+        arith,
+        step_limit search.film path.rest s is set (ready_there search.film path.rest s (open_is search.film path.rest s first).0),
+        finish_small after.search.film (without path.rest s) found.bound
+            (subst IsFilm (sym film_same) is)
+            (subst (λ (f : FilmData). LiesIn f (without path.rest s)) (sym film_same) (LiesBelow-without (length search.film.casts) path.rest s lies)) finds.finish,
+      )
+
+-- ---- the walk of the longer path
+
+module _ (before now after : HandData) (cursor cursor_now cursor_after : CursorData) (path longer : PathData) (s : ℕ)
+    (few : length now.lines ≤ now.search.cap) (walks : Walks before cursor path now cursor_now) (longer_is : longer ≡ shot before.search path s) where
+  pub turn_walks : Walks now cursor_now longer after cursor_after → Walks before cursor path after cursor_after
+  turn_walks child = walks_trans before now after cursor cursor_now cursor_after path few walks
+      (walks_child now after cursor_now cursor_after path longer s (ap (λ (p : PathData). p.scenes) longer_is) child)
+
+  -- want of memory is handed on
+  pub turn_refused : (result : Result Found Memory) (fault : Memory) → IsErr result → Explores now cursor_now longer (Err fault) after cursor_after
+      → Explores before cursor path result after cursor_after
+  turn_refused (Ok found) fault is child = absurd (let e : false ≡ true = is in cc)
+  turn_refused (Err other) fault is (child, rose) =
+      (turn_walks child, rose_around before.refusals now.refusals after.refusals after.refusals walks.refusals rose (omega arith))
+
+-- ---- all of them
+
+pub all_met : (search : SearchData) (hand : HandData) (cursor : CursorData) (path : PathData) (visit : ℕ) (done : List ℕ) (least : ℕ) (spent : Bool)
+    → IsFilm search.film → IsPath search.film path → AreSettled search hand cursor path visit done least spent → done ≡ members visit
+    → (scene : ℕ) → has visit scene ≡ true → Contains done scene
+all_met search hand cursor path visit done least spent is within settled all scene visited =
+    subst (λ (xs : List ℕ). Contains xs scene) (sym all)
+    (Contains-members visit scene (is_set_below (length search.film.casts) visit is.scene_count.1
+    (λ x there. rest_lies search.film path within x (ready_there search.film path.rest x (open_is search.film path.rest x (settled.within x there)).0))) visited)
+
+pub if_ok_holds : {X E : Type 0} (P : Type 0) (result : Result X E) → P → IfOk result (λ _. P)
+if_ok_holds P (Ok x) holds = holds
+if_ok_holds P (Err e) holds = tt
+
+-- the scenes before a turn's scene are lesser, as the members of a set rise
+pub earlier_lesser : (set s : ℕ) (done rest left : List ℕ) → done ++ rest ≡ members set → rest ≡ s ∷ left → (x : ℕ) → Contains done x → x < s
+earlier_lesser set s done rest left all here x (place, within, at) =
+    let list : done ++ s ∷ left ≡ members set = ap (λ (xs : List ℕ). done ++ xs) (sym here) ∙ all in
+    let risen = subst (λ (xs : List ℕ). (i j d : ℕ) → i < j → j < length xs → get_or xs i d < get_or xs j d) (sym list)
+    (AllPairs-from_increasing (members set) (members_rise set)) in
+    let less : get_or (done ++ s ∷ left) place x < get_or (done ++ s ∷ left) (length done) x
+    = risen place (length done) x within (omega (arith, length-append done (s ∷ left))) in
+    omega (arith, less, get_or-append done (s ∷ left) x place within, at, get_or-append_seam done s left x)

@@ -1,0 +1,5 @@
+pub mod Found
+pub mod Walked
+pub mod Scratch
+pub mod Begun
+pub mod Sifted

@@ -1,0 +1,18 @@
+-- The children of a path that are walked, and what the others reach.
+use Rattle.std.specs.Prelude.{◌≡◌, ℕ, ◌+◌, ◌≤◌, true, false}
+use Rattle.strip_mask.specs.Set.{has, without}
+use Rattle.strip_pay.specs.declared.kind.Kind.{Kind}
+use Rattle.strip_pay.specs.Film.{FilmData}
+use Rattle.strip_film.specs.Path.{PathData}
+use Rattle.strip_film.specs.Shoot.{step_cost}
+use Rattle.strip_bound.specs.Bounds.{bound}
+use Rattle.strip_rule.specs.Rule.{open_firsts}
+use Rattle.strip_walk.specs.declared.found.Sifted.{Sifted}
+
+-- those to be walked are open firsts; the least reaches no further than the step and the static bound of each other; and the path with
+-- it is no cheaper than the least cost told
+pub record AreSifted (kind : Kind) (film : FilmData) (path : PathData) (told : ℕ) (sifted : Sifted) : Type 0 where
+  pub within : (scene : ℕ) → has sifted.visit.0 scene ≡ true → has (open_firsts film path.rest) scene ≡ true
+  pub passed : (scene : ℕ) → has (open_firsts film path.rest) scene ≡ true → has sifted.visit.0 scene ≡ false
+      → sifted.least ≤ step_cost film path.rest scene + bound kind film (without path.rest scene)
+  pub enough : told ≤ path.paid + sifted.least

@@ -1,0 +1,173 @@
+// How the walk of a path begins.
+ghost use Rattle.std.specs.Prelude.{◌≡◌, ◌≢◌};
+ghost use Rattle.strip_film.specs.Film.{LiesIn};
+ghost use Rattle.strip_film.specs.Path.{IsComplete};
+ghost use Rattle.strip_film.specs.Shown.{cursor_data, path_data};
+ghost use Rattle.strip_bound.specs.Kept.{Keeps};
+ghost use Rattle.strip_walk.specs.Found.{IsSearchOf, MayExplore};
+ghost use Rattle.strip_walk.specs.Begun.{Asks, Begins, IsBest, IsThrough, IsWeighed, Meets, Offers};
+ghost use Rattle.strip_walk.specs.Scratch.{IsScratch};
+
+use crate::found::{Begun, Found, Met, Opened, Passed};
+use crate::scratch::Scratch;
+use strip_bound::Kept;
+use strip_film::{Cursor, Listed, Path, Probe};
+use strip_hand::Hand;
+use strip_io::Memory;
+use strip_mask::Mask;
+
+/// Offers a path after which nothing remains.
+pub(crate) fn offer<H: Hand>(hand: &mut H, path: &Path) -> Found
+    requires sound { H.is_sound hand.old }
+    requires complete { IsComplete (H.shows hand.old).search.film (path_data path.now) }
+    ensures sound { H.is_sound hand.new }
+    ensures home { H.home hand.new ≡ H.home hand.old }
+    ensures offered { Offers (H.shows hand.old) (path_data path.now) result (H.shows hand.new) }
+{
+    hand.offer(path);
+    hand.keeps_limits();
+    Found {
+        bound: 0,
+        line: None,
+        spent: false,
+    }
+}
+
+/// Begins the walk of a path after which something remains: it is ruled out, or enlisted.
+pub(crate) fn begin<H: Hand, F: Fn(u64, u64) -> u64>(
+    kept: &Kept<F>,
+    hand: &mut H,
+    cursor: &mut Cursor,
+    path: &Path,
+    scratch: &mut Scratch,
+) -> Result<Begun, Memory>
+    requires sound { H.is_sound hand.old }
+    requires keeps { Keeps (F.pre kept.now.f) (F.post kept.now.f) kept.now.kind kept.now.film.now }
+    requires search { IsSearchOf kept.now.kind kept.now.film.now (H.shows hand.old) }
+    requires scratch { IsScratch kept.now.kind kept.now.film.now scratch.old }
+    requires may { MayExplore (H.shows hand.old) (cursor_data cursor.old) (path_data path.now) }
+    requires some { (path_data path.now).rest ≢ 0 }
+    ensures sound { H.is_sound hand.new }
+    ensures home { H.home hand.new ≡ H.home hand.old }
+    ensures scratch { IsScratch kept.now.kind kept.now.film.now scratch.new }
+    ensures begun { Begins (H.shows hand.old) (cursor_data cursor.old) (path_data path.now) result
+        (H.shows hand.new) (cursor_data cursor.new) }
+{
+    let met = meet(kept, hand, path, scratch);
+    hand.keeps_limits();
+    match met {
+        Met::Cut(found) => Ok(Begun::Answered(found)),
+        Met::Through(passed) => list(hand, cursor, path, &passed),
+    }
+}
+
+/// Looks at the least cost, and asks the static bound and the table whether they rule the path out.
+fn meet<H: Hand, F: Fn(u64, u64) -> u64>(
+    kept: &Kept<F>,
+    hand: &mut H,
+    path: &Path,
+    scratch: &mut Scratch,
+) -> Met
+    requires sound { H.is_sound hand.old }
+    requires keeps { Keeps (F.pre kept.now.f) (F.post kept.now.f) kept.now.kind kept.now.film.now }
+    requires search { IsSearchOf kept.now.kind kept.now.film.now (H.shows hand.old) }
+    requires scratch { IsScratch kept.now.kind kept.now.film.now scratch.old }
+    requires lies { LiesIn kept.now.film.now (path_data path.now).rest }
+    ensures sound { H.is_sound hand.new }
+    ensures home { H.home hand.new ≡ H.home hand.old }
+    ensures scratch { IsScratch kept.now.kind kept.now.film.now scratch.new }
+    ensures met { Meets (H.shows hand.old) (path_data path.now) result (H.shows hand.new) }
+{
+    let told = hand.look();
+    let room = told.saturating_sub(path.paid());
+    let bound = scratch.reach(kept, path.rest(), room);
+    if bound >= room {
+        return Met::Cut(Found {
+            bound,
+            line: None,
+            spent: false,
+        });
+    }
+    let answer = ask(hand, path.rest());
+    let passed = Passed {
+        told,
+        bound,
+        answer,
+    };
+    weighed(passed, room)
+}
+
+/// What the table's answer says of a path that has so much room below the least cost.
+fn weighed(passed: Passed, room: u64) -> Met
+    ensures { IsWeighed passed room result }
+{
+    match passed.answer {
+        Probe::Hit(known) if known.bound >= room => Met::Cut(Found {
+            bound: known.bound,
+            line: Some(known.line),
+            spent: false,
+        }),
+        _ => Met::Through(passed),
+    }
+}
+
+/// Asks the table for a set, where want of memory counts as a miss.
+fn ask<H: Hand>(hand: &mut H, q: Mask) -> Probe
+    requires sound { H.is_sound hand.old }
+    requires lies { LiesIn (H.shows hand.old).search.film q.0 }
+    ensures sound { H.is_sound hand.new }
+    ensures home { H.home hand.new ≡ H.home hand.old }
+    ensures asked { Asks (H.shows hand.old) q.0 result (H.shows hand.new) }
+{
+    match hand.probe(q) {
+        Ok(answer) => answer,
+        Err(_) => Probe::Miss,
+    }
+}
+
+/// Enlists a path that is not ruled out; where there are as many lines as may be, answers the best bound
+/// that was met.
+fn list<H: Hand>(
+    hand: &mut H,
+    cursor: &mut Cursor,
+    path: &Path,
+    passed: &Passed,
+) -> Result<Begun, Memory>
+    requires sound { H.is_sound hand.old }
+    requires may { MayExplore (H.shows hand.old) (cursor_data cursor.old) (path_data path.now) }
+    requires some { (path_data path.now).rest ≢ 0 }
+    requires through { IsThrough (H.shows hand.old) (path_data path.now) passed.now }
+    ensures sound { H.is_sound hand.new }
+    ensures home { H.home hand.new ≡ H.home hand.old }
+    ensures begun { Begins (H.shows hand.old) (cursor_data cursor.old) (path_data path.now) result
+        (H.shows hand.new) (cursor_data cursor.new) }
+{
+    let listed = hand.enlist(cursor, path, passed.bound)?;
+    hand.keeps_limits();
+    match listed {
+        Listed::Line(line) => Ok(Begun::Enlisted(Opened {
+            line,
+            bound: passed.bound,
+            told: passed.told,
+        })),
+        Listed::Spent { .. } => Ok(Begun::Answered(best_of(passed))),
+    }
+}
+
+/// The greater of the static bound and the bound of a line that was found.
+fn best_of(passed: &Passed) -> Found
+    ensures { IsBest passed.now result }
+{
+    match passed.answer {
+        Probe::Hit(known) if known.bound > passed.bound => Found {
+            bound: known.bound,
+            line: Some(known.line),
+            spent: true,
+        },
+        _ => Found {
+            bound: passed.bound,
+            line: None,
+            spent: true,
+        },
+    }
+}

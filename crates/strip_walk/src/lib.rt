@@ -1,0 +1,13 @@
+//! The walk of a search: what a worker does with a task, over any hand.
+#![tactic(auto)]
+
+mod beginning;
+mod ending;
+mod found;
+mod scratch;
+mod sifting;
+mod walk;
+
+pub use found::Found;
+pub use scratch::Scratch;
+pub use walk::explore;

@@ -1,0 +1,77 @@
+// The walk of a path: its children, one after the other.
+ghost use Rattle.std.specs.Prelude.{◌≡◌, IfOk};
+ghost use Rattle.strip_film.specs.Running.{IsRunning};
+ghost use Rattle.strip_film.specs.Shown.{cursor_data, running_data};
+ghost use Rattle.strip_bound.specs.Kept.{Keeps};
+ghost use Rattle.strip_walk.specs.Found.{IsSearchOf, MayExplore};
+ghost use Rattle.strip_walk.specs.Walked.{Explores};
+ghost use Rattle.strip_walk.specs.Scratch.{IsScratch};
+
+use crate::beginning::{begin, offer};
+use crate::ending::close;
+use crate::found::{Begun, Found};
+use crate::scratch::Scratch;
+use crate::sifting::sift;
+use strip_bound::Kept;
+use strip_film::{Cursor, Known, Running};
+use strip_hand::Hand;
+use strip_io::Memory;
+
+/// Explores the path of `running`: it is ruled out by its static bound or a known line, or enlisted, and
+/// then those of its open firsts are shot next, by rising number, whose step and static bound don't rule
+/// them out, each explored in turn; at the end the path's line is raised to the least of the steps with
+/// what was found behind them, and noted. What is answered is a bound on what remains, in units of money;
+/// `running` is then as it was. Where memory is refused, `running` may stand further on.
+///
+/// Each path costs a look and a static bound; one that is enlisted a probe, a raise, a note, and a step and
+/// a static bound for each open first. It takes no memory but what the hand does.
+pub fn explore<H: Hand, F: Fn(u64, u64) -> u64>(
+    kept: &Kept<F>,
+    hand: &mut H,
+    cursor: &mut Cursor,
+    running: &mut Running,
+    scratch: &mut Scratch,
+) -> Result<Found, Memory>
+    requires sound { H.is_sound hand.old }
+    requires keeps { Keeps (F.pre kept.now.f) (F.post kept.now.f) kept.now.kind kept.now.film.now }
+    requires search { IsSearchOf kept.now.kind kept.now.film.now (H.shows hand.old) }
+    requires scratch { IsScratch kept.now.kind kept.now.film.now scratch.old }
+    requires running { IsRunning kept.now.film.now (running_data running.old) }
+    requires may { MayExplore (H.shows hand.old) (cursor_data cursor.old) (running_data running.old).path }
+    ensures sound { H.is_sound hand.new }
+    ensures home { H.home hand.new ≡ H.home hand.old }
+    ensures scratch { IsScratch kept.now.kind kept.now.film.now scratch.new }
+    ensures running { IfOk result (λ _. IsRunning kept.now.film.now (running_data running.new)
+        × ((running_data running.new).path ≡ (running_data running.old).path)) }
+    ensures explored { Explores (H.shows hand.old) (cursor_data cursor.old) (running_data running.old).path result
+        (H.shows hand.new) (cursor_data cursor.new) }
+{
+    let film = kept.film();
+    film.keeps_limits();
+    if running.rest().is_empty() {
+        return Ok(offer(hand, running.path()));
+    }
+    let opened = match begin(kept, hand, cursor, running.path(), scratch)? {
+        Begun::Answered(found) => return Ok(found),
+        Begun::Enlisted(opened) => opened,
+    };
+    hand.keeps_limits();
+    let mut sifted = sift(kept, running, scratch, opened.told);
+    let mut spent = false;
+    for s in sifted.visit.iter() {
+        let paid = running.paid();
+        running.take(film, s);
+        let step = running.paid() - paid;
+        let found = explore(kept, hand, cursor, running, scratch)?;
+        hand.keeps_limits();
+        running.back(film);
+        sifted.least = sifted.least.min(step + found.bound);
+        spent |= found.spent;
+    }
+    let known = Known {
+        line: opened.line,
+        set: running.rest().0,
+        bound: sifted.least.max(opened.bound),
+    };
+    close(hand, &known, spent)
+}
