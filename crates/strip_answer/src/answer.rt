@@ -1,30 +1,40 @@
 // An answer, and the row of what a fault tells.
 ghost use Rattle.std.specs.Prelude.{◌≡◌, IfOk, string_bytes};
 ghost use Rattle.strip_text.specs.Told.{told_data};
+ghost use Rattle.strip_answer.specs.Ending.{answer_text};
 ghost use Rattle.strip_answer.specs.Rows.{error_row, number_field, told_row};
 
 use crate::Status;
 use std::alloc::{AllocError, Global};
+use strip_film::Line;
 use strip_io::Memory;
 use strip_text::{Text, Told};
 
-/// The status to end with and the text to print before.
+/// The status to end with and what to print before: a text, and behind it the rows of lines, which are
+/// written while they are formatted.
 #[derive(Debug, Drop)]
 pub struct Answer {
     /// How the run is to end.
     pub status: Status,
-    /// What is printed before.
+    /// What is printed first.
     pub text: Vec<u8>,
+    /// Whose line rows follow.
+    pub lines: Vec<Line>,
 }
 
 impl Answer {
     /// The answer that ends with this status and prints the `error` row of what a fault tells.
     pub fn error(alloc: Global, status: Status, told: Told) -> Result<Answer, Memory>
         ensures status { IfOk result (λ answer. answer.status ≡ status) }
-        ensures row { IfOk result (λ answer. answer.text.items ≡ error_row (told_data told)) }
+        ensures row { IfOk result (λ answer. answer_text answer ≡ error_row (told_data told)) }
     {
         let text = told_row(alloc, b"error", told)?;
-        Ok(Answer { status, text })
+        let lines = Vec::new(alloc);
+        Ok(Answer {
+            status,
+            text,
+            lines,
+        })
     }
 }
 

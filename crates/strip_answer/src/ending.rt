@@ -1,10 +1,14 @@
 // How a run ends, once it is known what is due.
-ghost use Rattle.std.specs.Prelude.{◌≡◌, ◌≤◌, Ok, Err};
-ghost use Rattle.strip_answer.specs.Ending.{IsEnd};
+ghost use Rattle.std.specs.Prelude.{◌≡◌, ◌≤◌, Ok, Err, OnOk, OnErr};
+ghost use Rattle.strip_io.specs.Counts.{Rose};
+ghost use Rattle.strip_io.specs.Sink.{Took, TookFront};
+ghost use Rattle.strip_answer.specs.Ending.{IsEnd, answer_text};
 ghost use Rattle.strip_answer.specs.declared.ending.Stop.TheVariants.{Memory as OutOfMemory};
 
 use crate::{Answer, Status};
+use strip_io::laws::texts_are_taken_in_parts;
 use strip_io::{Failed, Memory, Sink, send};
+use strip_proof::send_lines;
 
 /// Why there is no answer.
 #[derive(Clone, Copy, Debug, PartialEq, Eq)]
@@ -30,11 +34,24 @@ pub fn finish<S: Sink>(out: &mut S, answer: &Result<Answer, Stop>) -> Status
     ensures later { S.faults out.old ≤ S.faults out.new }
 {
     match answer {
-        Ok(answer) => match send(out, &answer.text) {
+        Ok(answer) => match print(out, answer) {
             Ok(()) => answer.status,
             Err(Failed) => Status::WriteFault,
         },
         Err(Stop::Read) => Status::ReadFault,
         Err(Stop::Memory) => Status::OutOfMemory,
     }
+}
+
+/// Writes the answer's text, and behind it the rows of its lines.
+fn print<S: Sink>(out: &mut S, answer: &Answer) -> Result<(), Failed>
+    ensures ok { OnOk result (Took (S.taken out.old) (S.taken out.new) (answer_text answer.now)) }
+    ensures cause { OnErr result (Rose (S.faults out.old) (S.faults out.new)) }
+    ensures front { OnErr result (TookFront (S.taken out.old) (S.taken out.new) (answer_text answer.now)) }
+    ensures later { S.faults out.old ≤ S.faults out.new }
+    ensures unfailed { OnOk result (S.faults out.new ≡ S.faults out.old) }
+{
+    texts_are_taken_in_parts();
+    send(out, &answer.text)?;
+    send_lines(out, &answer.lines)
 }

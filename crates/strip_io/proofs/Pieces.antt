@@ -33,6 +33,19 @@ front_taken before after sent rest text parts some took =
     let front : take (length sent) text ≡ sent = ap (take (length sent)) (sym parts) ∙ take-append_seam sent rest in
     (length sent, omega arith, subst (λ (t : List ℕ). Took before after t) (sym front) took)
 
+-- a front of the first part, and of the next
+pub front_early : (a b : Option (List ℕ)) (first next : List ℕ) → TookFront a b first → TookFront a b (first ++ next)
+front_early a b first next front =
+    front_taken a b (take front.0 first) (drop front.0 first ++ next) (first ++ next)
+    (sym (append_assoc (take front.0 first) (drop front.0 first) next) ∙ ap (λ (l : List ℕ). l ++ next) (take-append-drop front.0 first))
+    (omega (arith, front.1, length-drop front.0 first, length-append (drop front.0 first) next)) front.2
+
+pub front_late : (a b c : Option (List ℕ)) (first next : List ℕ) → Took a b first → TookFront b c next → TookFront a c (first ++ next)
+front_late a b c first next took front =
+    front_taken a c (first ++ take front.0 next) (drop front.0 next) (first ++ next)
+    (append_assoc first (take front.0 next) (drop front.0 next) ∙ ap (λ (l : List ℕ). first ++ l) (take-append-drop front.0 next))
+    (omega (arith, front.1, length-drop front.0 next)) (took_more a b c first (take front.0 next) took front.2)
+
 pub parts_more : (sent rest text : List ℕ) (n m : ℕ) → sent ++ rest ≡ text → length rest ≤ n + m → (sent ++ take n rest) ++ take m (drop n rest) ≡ text
 parts_more sent rest text n m parts most =
     let left = length-drop n rest in

@@ -1,0 +1,34 @@
+//! Laws of the definitions. Each function does nothing: its contract is the law.
+ghost use Rattle.std.specs.Prelude.{◌≡◌, ◌<◌, ◌^◌, ℕ, List, [], ◌++◌, length, map, codes};
+ghost use Rattle.std.specs.Str.Parse.{digits_value};
+ghost use Rattle.strip_model.specs.Data.{InstanceData};
+ghost use Rattle.strip_film.specs.declared.shared.Line.{Line};
+ghost use Rattle.strip_text.specs.Field.{trimmed};
+ghost use Rattle.strip_text.specs.Rows.{rows_of, csv_text};
+ghost use Rattle.strip_proof.specs.Plan.{PlanData};
+ghost use Rattle.strip_proof.specs.Rows.{set_field, head_rows, line_row, plan_text, bare_text};
+
+/// The text of a plan begins with the row `plan,2`.
+pub fn texts_begin_with_their_format()
+    ensures { (inst : InstanceData) (plan : PlanData) → (rest : List ℕ) × (plan_text inst plan ≡ codes "plan,2\n" ++ rest) }
+{}
+
+/// The text of a plan is that of its head rows and its line rows, and reads back as these rows.
+pub fn texts_read_back()
+    ensures rows { (inst : InstanceData) (plan : PlanData)
+        → plan_text inst plan ≡ csv_text (head_rows inst plan (length plan.lines) ++ map line_row plan.lines) }
+    ensures back { (inst : InstanceData) (plan : PlanData)
+        → rows_of (plan_text inst plan) ≡ map (map trimmed) (head_rows inst plan (length plan.lines) ++ map line_row plan.lines) }
+{}
+
+/// A plan without lines has one text, whether a proof is given or not.
+pub fn plans_without_lines_are_bare()
+    ensures { (inst : InstanceData) (plan : PlanData) → plan.lines ≡ [] → plan_text inst plan ≡ bare_text inst plan }
+{}
+
+/// A set's field has 16 digits, which spell the set in base 16, and different lines have different rows.
+pub fn line_rows_tell_their_lines()
+    ensures count { (set : ℕ) → length (set_field set) ≡ 16 }
+    ensures value { (set : ℕ) → set < 2 ^ 64 → digits_value 16 (set_field set) ≡ set }
+    ensures apart { (a b : Line) → a.set < 2 ^ 64 → b.set < 2 ^ 64 → a.bound < 2 ^ 64 → b.bound < 2 ^ 64 → line_row a ≡ line_row b → a ≡ b }
+{}
