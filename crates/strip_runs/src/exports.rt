@@ -2,25 +2,28 @@
 use crate::runs::{SOLVE, TRIANGLE_SOLVED, check, solved};
 use std::test::Fail;
 
-// A text, its least pay, and the order row's names.
-const EXPORTS: [(&str, &str, &str); 8] = [
+// A text, its least pay, how many lines are made, and the order row's names.
+const EXPORTS: [(&str, &str, &str, &str); 8] = [
     // by a spreadsheet
     (
         "\u{feff}scene,days,a,b\r\nrate,,10,20\r\n s1 , 1 , x , .\r\ns2,1,X,x\r\n",
         "40",
+        "0",
         "s1,s2",
     ),
-    ("scene,days,a\r\nrate,,100\r\ns1,2,x\r\n", "200", "s1"),
-    ("SCENE,Days,a\rRate,each,100\r,,\rs1,2,1", "200", "s1"),
+    ("scene,days,a\r\nrate,,100\r\ns1,2,x\r\n", "200", "0", "s1"),
+    ("SCENE,Days,a\rRate,each,100\r,,\rs1,2,1", "200", "0", "s1"),
     // the greatest numbers, and zeros in front
     (
         "scene,days,a\nrate,,1000000000\ns1,99,x\n",
         "99000000000",
+        "0",
         "s1",
     ),
     (
         "scene,days,a\nrate,,0001000000000\ns1,0099,x\n",
         "99000000000",
+        "0",
         "s1",
     ),
     // names with commas, quotes and other letters
@@ -28,16 +31,19 @@ const EXPORTS: [(&str, &str, &str); 8] = [
         "scene,days,Ann Lee,\"Bo, Jr\"\nrate,,900,400\n\
             \"INT. HOUSE, DAY\",2,x,x\nEXT. ROAD,1,x,.\n12A,3,.,x\n",
         "4700",
+        "0",
         "EXT. ROAD,\"INT. HOUSE, DAY\",12A",
     ),
     (
         "scene,days\nrate,\n\"The \"\"Bar\"\"\",1\n \"X\",1\nKüche\u{a0}1,1\n",
+        "0",
         "0",
         "\"The \"\"Bar\"\"\",\"\"\"X\"\"\",Küche\u{a0}1",
     ),
     (
         "scene,days,ann\nrate,,10\n\"the bay, at night\",2,x\n\"\"\"no\"\"\",2,x\nend,2,x\n",
         "60",
+        "0",
         "\"the bay, at night\",\"\"\"no\"\"\",end",
     ),
 ];
@@ -55,9 +61,10 @@ const FERRY: &str = "\u{feff}Scene,Days,Marlow Quint,Ines,\"Tomas, Jr\",Abe,Wren
     \"INT. COURTROOM, DAY\",4,x,x,x,x,,\r\n\
     LAST BUS,1,,,x,,x,\r\n";
 
-const FERRY_SOLVED: &str = "status,optimal\ncost,57150\nbound,57150\nlines,0\n\
+const FERRY_SOLVED: &str =
+    "plan,2\nbounds,pairs\nstatus,optimal\ncost,57150\nbound,57150\nlines,31\n\
     order,\"INT. KITCHEN, NIGHT\",SCHOOL PLAY,\"HARBOUR, DAWN\",EXT. NIGHT FERRY,\
-    \"INT. COURTROOM, DAY\",CUSTOMS HOUSE,PAWN SHOP,LAST BUS\n";
+    \"INT. COURTROOM, DAY\",CUSTOMS HOUSE,PAWN SHOP,LAST BUS\nproof,0\n";
 
 // The same film with a row of hold rates, some above the rates.
 const HOLDS: &str = "scene,days,Marlow Quint,Ines,\"Tomas, Jr\",Abe,Wren,Odile\n\
@@ -72,14 +79,15 @@ const HOLDS: &str = "scene,days,Marlow Quint,Ines,\"Tomas, Jr\",Abe,Wren,Odile\n
     \"INT. COURTROOM, DAY\",4,x,x,x,x,.,.\n\
     LAST BUS,1,.,.,x,.,x,.\n";
 
-const HOLDS_SOLVED: &str = "status,optimal\ncost,54750\nbound,54750\nlines,0\n\
-    order,\"HARBOUR, DAWN\",EXT. NIGHT FERRY,CUSTOMS HOUSE,\"INT. COURTROOM, DAY\",\
-    PAWN SHOP,LAST BUS,\"INT. KITCHEN, NIGHT\",SCHOOL PLAY\n";
+const HOLDS_SOLVED: &str =
+    "plan,2\nbounds,pairs\nstatus,optimal\ncost,54750\nbound,54750\nlines,16\n\
+    order,\"HARBOUR, DAWN\",EXT. NIGHT FERRY,\"INT. COURTROOM, DAY\",CUSTOMS HOUSE,\
+    PAWN SHOP,LAST BUS,\"INT. KITCHEN, NIGHT\",SCHOOL PLAY\nproof,0\n";
 
 #[test]
 fn exported_films_are_solved(rt: HostRuntime) -> Result<(), Fail> {
-    for (film, pay, order) in &EXPORTS {
-        let printed = solved(rt.alloc(), pay, order)?;
+    for (film, pay, lines, order) in &EXPORTS {
+        let printed = solved(rt.alloc(), pay, lines, order)?;
         check(&rt, &SOLVE, film.as_bytes(), 0, printed.as_str())?;
     }
     Ok(())

@@ -1,10 +1,12 @@
-// Films whose cheapest orders were found by another program, from first and last positions.
+// Films whose cheapest orders were found by another program, from first and last positions, and whose lines
+// were counted by one that searches by the rules alone.
 use crate::runs::{SOLVE, check, solved};
 use std::test::Fail;
 
 struct Film {
     text: &'static str,
     pay: &'static str,
+    lines: &'static str,
     order: &'static str,
 }
 
@@ -14,6 +16,7 @@ static FILMS: [Film; 12] = [
             rate,,5,20,1\n\
             s1,2,x,.,.\n",
         pay: "10",
+        lines: "0",
         order: "s1",
     },
     Film {
@@ -22,6 +25,7 @@ static FILMS: [Film; 12] = [
             s1,5,.\n\
             s2,2,.\n",
         pay: "0",
+        lines: "0",
         order: "s1,s2",
     },
     Film {
@@ -31,6 +35,7 @@ static FILMS: [Film; 12] = [
             s2,3,x,x,.\n\
             s3,4,x,.,x\n",
         pay: "3010",
+        lines: "1",
         order: "s1,s3,s2",
     },
     Film {
@@ -41,6 +46,7 @@ static FILMS: [Film; 12] = [
             s3,4,.,x,.,x,.\n\
             s4,3,x,.,x,x,x\n",
         pay: "3720",
+        lines: "0",
         order: "s1,s3,s2,s4",
     },
     Film {
@@ -51,7 +57,8 @@ static FILMS: [Film; 12] = [
             s3,4,.,x,x\n\
             s4,3,x,.,.\n",
         pay: "2253",
-        order: "s2,s3,s1,s4",
+        lines: "0",
+        order: "s2,s4,s1,s3",
     },
     Film {
         text: "scene,days,a1,a2,a3,a4\n\
@@ -62,6 +69,7 @@ static FILMS: [Film; 12] = [
             s4,5,x,x,.,x\n\
             s5,3,.,x,x,.\n",
         pay: "5215",
+        lines: "0",
         order: "s1,s5,s2,s4,s3",
     },
     Film {
@@ -73,6 +81,7 @@ static FILMS: [Film; 12] = [
             s4,1,x,x,.,.,.,.\n\
             s5,5,.,.,x,.,x,x\n",
         pay: "2998",
+        lines: "5",
         order: "s4,s2,s3,s1,s5",
     },
     Film {
@@ -84,6 +93,7 @@ static FILMS: [Film; 12] = [
             s4,5,.,x,x,.,.\n\
             s5,5,x,.,.,.,x\n",
         pay: "1225",
+        lines: "4",
         order: "s1,s5,s2,s3,s4",
     },
     Film {
@@ -96,7 +106,8 @@ static FILMS: [Film; 12] = [
             s5,5,x,x,x,x\n\
             s6,1,.,x,.,.\n",
         pay: "695",
-        order: "s2,s6,s1,s5,s4,s3",
+        lines: "0",
+        order: "s3,s2,s6,s1,s5,s4",
     },
     Film {
         text: "scene,days,a1,a2,a3,a4,a5\n\
@@ -108,6 +119,7 @@ static FILMS: [Film; 12] = [
             s5,5,.,.,x,x,x\n\
             s6,4,x,.,x,.,x\n",
         pay: "2390",
+        lines: "0",
         order: "s1,s2,s3,s5,s6,s4",
     },
     Film {
@@ -120,6 +132,7 @@ static FILMS: [Film; 12] = [
             s5,1,x,x,.,.\n\
             s6,2,x,.,x,.\n",
         pay: "2020",
+        lines: "0",
         order: "s1,s6,s3,s4,s5,s2",
     },
     Film {
@@ -132,6 +145,7 @@ static FILMS: [Film; 12] = [
             s5,4,.,x,x,.,.\n\
             s6,5,.,.,.,.,x\n",
         pay: "2261",
+        lines: "0",
         order: "s2,s5,s3,s1,s4,s6",
     },
 ];
@@ -139,7 +153,7 @@ static FILMS: [Film; 12] = [
 #[test]
 fn random_films_are_solved(rt: HostRuntime) -> Result<(), Fail> {
     for film in &FILMS {
-        let printed = solved(rt.alloc(), film.pay, film.order)?;
+        let printed = solved(rt.alloc(), film.pay, film.lines, film.order)?;
         check(&rt, &SOLVE, film.text.as_bytes(), 0, printed.as_str())?;
     }
     Ok(())

@@ -8,6 +8,8 @@ mod faults;
 #[cfg(test)]
 mod films;
 #[cfg(test)]
+mod proofs;
+#[cfg(test)]
 mod refusals;
 #[cfg(test)]
 mod runs;

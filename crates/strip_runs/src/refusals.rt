@@ -1,5 +1,5 @@
 // Files that are refused, and the rows that say so.
-use crate::runs::{EIGHT, SOLVE, check, of_one_actor};
+use crate::runs::{SOLVE, check, of_one_actor};
 use std::alloc::{AllocError, Global};
 use std::test::Fail;
 use strip_answer::told_row;
@@ -135,12 +135,10 @@ fn push_marks(text: &mut String, two: (u32, u32)) -> Result<(), AllocError> {
 }
 
 #[test]
-fn nine_classes_are_too_many(rt: HostRuntime) -> Result<(), Fail> {
+fn a_65th_class_is_too_many(rt: HostRuntime) -> Result<(), Fail> {
     let alloc = rt.alloc();
-    let nine = format!(in alloc; "{EIGHT}s9,1,.,.,x,.,x\n")?;
-    check(&rt, &SOLVE, nine.as_bytes(), 5, "error,TooManyClasses,9,\n")?;
     for (kinds, row) in [
-        (64, "error,TooManyClasses,64,\n"),
+        (65, "error,TooManyClasses,65,\n"),
         (70, "error,TooManyClasses,70,\n"),
     ] {
         let film = of_two_actors(alloc, kinds)?;
@@ -175,8 +173,8 @@ fn an_error_row_has_four_fields(rt: HostRuntime) -> Result<(), Fail> {
         (Some(Refusal::Words.told()), "error,Words,,\n"),
         (Some(Refusal::TooLong.told()), "error,TooLong,,\n"),
         (
-            Some(Refusal::TooManyClasses(9).told()),
-            "error,TooManyClasses,9,\n",
+            Some(Refusal::TooManyClasses(65).told()),
+            "error,TooManyClasses,65,\n",
         ),
         (InstanceFault::Empty.told(), "error,Empty,,\n"),
         (InstanceFault::Width { row: 3 }.told(), "error,Width,3,\n"),

@@ -9,7 +9,7 @@ pub(crate) const TRIANGLE: &str = "scene,days,a,b,c\nrate,,1,2,3\n\
     s1,1,x,x,.\ns2,1,.,x,x\ns3,1,x,.,x\n";
 
 pub(crate) const TRIANGLE_SOLVED: &str =
-    "status,optimal\ncost,13\nbound,13\nlines,0\norder,s1,s2,s3\n";
+    "plan,2\nbounds,pairs\nstatus,optimal\ncost,13\nbound,13\nlines,1\norder,s1,s2,s3\nproof,0\n";
 
 pub(crate) const SOLVE: [&str; 2] = ["solve", "film.csv"];
 
@@ -50,74 +50,89 @@ pub(crate) fn check(
     check_over(rt, words, &mut files, status, printed)
 }
 
-/// What is printed for a film that is solved.
-pub(crate) fn solved(alloc: Global, pay: &str, order: &str) -> Result<String, AllocError> {
-    format!(in alloc; "status,optimal\ncost,{pay}\nbound,{pay}\nlines,0\norder,{order}\n")
+/// What is printed for a film that is solved with the defaults, whose search made so many lines.
+pub(crate) fn solved(
+    alloc: Global,
+    pay: &str,
+    lines: &str,
+    order: &str,
+) -> Result<String, AllocError> {
+    format!(in alloc;
+        "plan,2\nbounds,pairs\nstatus,optimal\ncost,{pay}\nbound,{pay}\nlines,{lines}\norder,{order}\nproof,0\n"
+    )
 }
 
 /// Eight scenes whose casts are pairs of five actors, and which are as many classes.
-pub(crate) const EIGHT: &str = "scene,days,a,b,c,d,e\nrate,,1,2,3,4,5\n\
+const EIGHT: &str = "scene,days,a,b,c,d,e\nrate,,1,2,3,4,5\n\
     s1,1,x,x,.,.,.\ns2,1,x,.,x,.,.\ns3,1,x,.,.,x,.\ns4,1,x,.,.,.,x\n\
     s5,1,.,x,x,.,.\ns6,1,.,x,.,x,.\ns7,1,.,x,.,.,x\ns8,1,.,.,x,x,.\n";
 
-// A film, its least pay, and the order that is printed.
-const WORKED: [(&str, &str, &str); 12] = [
-    (TRIANGLE, "13", "s1,s2,s3"),
+// A film, its least pay, how many lines are made, and the order that is printed.
+const WORKED: [(&str, &str, &str, &str); 12] = [
+    (TRIANGLE, "13", "1", "s1,s2,s3"),
     (
         "scene,days,a1,a2\nrate,,10,20\ns1,1,x,.\ns2,1,.,x\ns3,1,x,x\n",
         "60",
+        "0",
         "s1,s3,s2",
     ),
-    ("scene,days,a\nrate,,100\ns1,2,x\n", "200", "s1"),
+    ("scene,days,a\nrate,,100\ns1,2,x\n", "200", "0", "s1"),
     // nobody plays
-    ("scene,days\nrate,\ns1,1\ns2,2\n", "0", "s1,s2"),
-    // the most classes that are solved
-    (EIGHT, "51", "s2,s5,s8,s3,s6,s1,s7,s4"),
+    ("scene,days\nrate,\ns1,1\ns2,2\n", "0", "0", "s1,s2"),
+    // eight classes
+    (EIGHT, "51", "48", "s3,s6,s8,s2,s5,s1,s7,s4"),
     // two scenes of one cast apart in the file
     (
         "scene,days,a,b,c\nrate,,1,2,3\ns1,1,x,x,.\ns2,1,.,x,x\ns3,1,x,.,x\ns4,1,x,x,.\n",
         "16",
+        "1",
         "s1,s4,s2,s3",
     ),
     (
         "scene,days,a,c\nrate,,5,7\ns1,1,x,x\ns2,1,x,.\ns3,1,x,x\n",
         "29",
+        "0",
         "s1,s3,s2",
     ),
     // one actor is paid nothing, and another works nowhere
     (
         "scene,days,a,z,y\nrate,,10,0,5\ns1,1,x,x,.\ns2,1,x,.,.\ns3,1,.,x,.\n",
         "20",
+        "0",
         "s1,s2,s3",
     ),
     // days of waiting cost another rate
     (
         "scene,days,a,b,c\nrate,,1,2,3\nhold,,5,1,4\ns1,1,x,x,.\ns2,1,.,x,x\ns3,1,x,.,x\n",
         "13",
+        "1",
         "s1,s3,s2",
     ),
     (
         "scene,days,a,b,c\nrate,,0,0,0\nhold,,1,1,1\ns1,1,x,x,.\ns2,1,.,x,x\ns3,1,x,.,x\n",
+        "1",
         "1",
         "s1,s2,s3",
     ),
     (
         "scene,days,a,b,c\nrate,,1,2,3\nhold,,1,2,3\ns1,1,x,x,.\ns2,1,.,x,x\ns3,1,x,.,x\n",
         "13",
+        "1",
         "s1,s2,s3",
     ),
     (
         "scene,days,a,b,c\r\nrate,each,1,2,3\r\n HOLD ,waiting, 05 ,1,4\r\n\
             s1,1,x,x,.\r\ns2,1,.,x,x\r\ns3,1,x,.,x\r\n",
         "13",
+        "1",
         "s1,s3,s2",
     ),
 ];
 
 #[test]
 fn worked_films_are_solved(rt: HostRuntime) -> Result<(), Fail> {
-    for (film, pay, order) in &WORKED {
-        let printed = solved(rt.alloc(), pay, order)?;
+    for (film, pay, lines, order) in &WORKED {
+        let printed = solved(rt.alloc(), pay, lines, order)?;
         check(&rt, &SOLVE, film.as_bytes(), 0, printed.as_str())?;
     }
     Ok(())
@@ -148,7 +163,7 @@ fn scenes_of_one_cast_are_one_class(rt: HostRuntime) -> Result<(), Fail> {
     let alloc = rt.alloc();
     for (scenes, pay) in [(9, "9"), (200, "200")] {
         let film = of_one_actor(alloc, scenes)?;
-        let printed = solved(alloc, pay, names(alloc, scenes)?.as_str())?;
+        let printed = solved(alloc, pay, "0", names(alloc, scenes)?.as_str())?;
         check(&rt, &SOLVE, film.as_bytes(), 0, printed.as_str())?;
     }
     Ok(())

@@ -26,7 +26,7 @@ const NO_JOB: [&[&str]; 20] = [
     &["gen", "1", "0", "3"],
 ];
 
-const SOLVES: [&[&str]; 14] = [
+const SOLVES: [&[&str]; 11] = [
     &["solve", "film.csv"],
     &["solve", "--", "film.csv"],
     &["solve", "film.csv", "--"],
@@ -37,20 +37,7 @@ const SOLVES: [&[&str]; 14] = [
     &["solve", "--workers=1", "film.csv"],
     &["solve", "film.csv", "--table", "64"],
     &["solve", "film.csv", "--table=4194304"],
-    &["solve", "--bounds", "plain", "film.csv"],
     &["solve", "film.csv", "--bounds=pairs"],
-    &["solve", "film.csv", "--proof"],
-    &[
-        "solve",
-        "--proof",
-        "--workers",
-        "2",
-        "--bounds=plain",
-        "--nodes=7",
-        "--table",
-        "99",
-        "film.csv",
-    ],
 ];
 
 #[test]
@@ -62,7 +49,7 @@ fn words_that_name_no_job_are_refused(rt: HostRuntime) -> Result<(), Fail> {
 }
 
 #[test]
-fn options_change_nothing(rt: HostRuntime) -> Result<(), Fail> {
+fn words_that_name_the_same_search_print_the_same(rt: HostRuntime) -> Result<(), Fail> {
     for words in &SOLVES {
         check(&rt, words, TRIANGLE.as_bytes(), 0, TRIANGLE_SOLVED)?;
     }

@@ -9,8 +9,11 @@ use Rattle.strip_answer.specs.declared.status.Status.TheVariants.{Done, NoJob, B
 use Rattle.strip_answer.specs.declared.answer.Answer.{Answer}
 use Rattle.strip_answer.specs.declared.ending.Stop.{Stop}
 use Rattle.strip_answer.specs.declared.ending.Stop.TheVariants.{Read, Memory}
-use Rattle.strip_answer.specs.Ending.{IsEnd}
+use Rattle.strip_answer.specs.Ending.{IsEnd, answer_text}
 use Rattle.strip_answer.specs.Run.{FilesData, RunData, HasReadFault, HasWriteFault, IsOutcome, FilesStay, SinkStays}
+use Rattle.strip_proof.specs.declared.plan.Status.{Status as PlanStatus}
+use Rattle.strip_proof.specs.declared.plan.Status.TheVariants.{Optimal, Bounded as CutShort}
+use Rattle.strip_top.specs.Plan.{exit_of}
 use Rattle.strip_top.specs.Solve.{FileKind, TooLong, Faulty, TooMany, Fit, IsAnswerTo, IsSolveDue, IsSolveFit, IsSolveUnfit, file_kind}
 use Rattle.strip_top.specs.Due.{AsksFor, IsDue, IsDueFor, IsFileOf, IsFitFor, IsFitStatus, IsUnfitFor, IsUnfitStatus}
 use Rattle.strip_top.specs.Headline.{IsRead}
@@ -18,14 +21,14 @@ use Rattle.strip_top.proofs.FileKinds.{fit_status, unfit_status}
 
 -- what is due for a job, by what its file tells
 solve_fit : (job : SolveData) (before after : FilesData) (status : Status) (printed : List ℕ) → IsSolveFit job before
-    → IsSolveDue job before after status printed → status ≡ Done
+    → IsSolveDue job before after status printed → (status ≡ Done) ⊎ (status ≡ Bounded)
 solve_fit job before after status printed (text, told, inst, fit) due =
-    fit_status (file_kind due.text) inst status printed (ap file_kind (due.bytes_told text told) ∙ fit) due.answer
+    fit_status job (file_kind due.text) inst status printed (ap file_kind (due.bytes_told text told) ∙ fit) due.answer
 
 solve_unfit : (job : SolveData) (before after : FilesData) (status : Status) (printed : List ℕ) → IsSolveUnfit job before
     → IsSolveDue job before after status printed → status ≡ BadInstance
 solve_unfit job before after status printed (text, told, unfit) due =
-    unfit_status (file_kind due.text) status printed (λ inst fit. unfit inst (ap file_kind (sym (due.bytes_told text told)) ∙ fit)) due.answer
+    unfit_status job (file_kind due.text) status printed (λ inst fit. unfit inst (ap file_kind (sym (due.bytes_told text told)) ∙ fit)) due.answer
 
 due_fit : (job : JobData) (before after : FilesData) (status : Status) (printed : List ℕ) → IsFitFor job before
     → IsDueFor job before after status printed → IsFitStatus job status
@@ -84,14 +87,18 @@ any_answers ReadFault answers = absurd answers
 any_answers WriteFault answers = absurd answers
 any_answers OutOfMemory answers = absurd answers
 
-solve_answers : (kind : FileKind) (status : Status) (printed : List ℕ) → IsAnswerTo kind status printed → IsOfJob status
-solve_answers TooLong status printed answer = subst IsOfJob (sym answer.0) tt
-solve_answers (Faulty fault) status printed answer = subst IsOfJob (sym answer.0) tt
-solve_answers (TooMany classes) status printed answer = subst IsOfJob (sym answer.0) tt
-solve_answers (Fit inst) status printed answer = subst IsOfJob (sym answer.0) tt
+plan_answers : (status : PlanStatus) → IsOfJob (exit_of status)
+plan_answers Optimal = tt
+plan_answers CutShort = tt
+
+solve_answers : (job : SolveData) (kind : FileKind) (status : Status) (printed : List ℕ) → IsAnswerTo job kind status printed → IsOfJob status
+solve_answers job TooLong status printed answer = subst IsOfJob (sym answer.0) tt
+solve_answers job (Faulty fault) status printed answer = subst IsOfJob (sym answer.0) tt
+solve_answers job (TooMany classes) status printed answer = subst IsOfJob (sym answer.0) tt
+solve_answers job (Fit inst) status printed plan = subst IsOfJob (sym plan.ends) (plan_answers plan.plan.status)
 
 job_answers : (job : JobData) (before after : FilesData) (status : Status) (printed : List ℕ) → IsDueFor job before after status printed → IsOfJob status
-job_answers (Solve job) before after status printed due = solve_answers (file_kind due.text) status printed due.answer
+job_answers (Solve job) before after status printed due = solve_answers job (file_kind due.text) status printed due.answer
 
 due_answers : (words : List Word) (before after : FilesData) (status : Status) (printed : List ℕ) → IsDue words before after status printed → IsAnswering status
 due_answers words before after status printed (inl refused) = subst IsAnswering (sym refused.1) tt
@@ -175,21 +182,21 @@ printed_ends run Asked Due OutOfMemory printed answers due took = absurd answers
 module _ (run : RunData) (answer : Result Answer Stop) (status : Status)
     (ends : IsEnd answer run.sink_before.taken run.sink_after.taken run.sink_before.faults run.sink_after.faults status) where
   -- how the run ends, from what is due and how it was given
-  pub run_ends : IfOk answer (λ a. IsDue run.words run.files_before run.files_after a.status a.text.items)
+  pub run_ends : IfOk answer (λ a. IsDue run.words run.files_before run.files_after a.status (answer_text a))
       → (answer ≡ Err Read → HasReadFault run.files_before run.files_after (AsksFor run.words))
       → IsOutcome run (AsksFor run.words) (IsDue run.words run.files_before run.files_after) status
   run_ends due read = by_answer answer ends due read
     where
       by_answer : (a : Result Answer Stop) → IsEnd a run.sink_before.taken run.sink_after.taken run.sink_before.faults run.sink_after.faults status
-          → IfOk a (λ a. IsDue run.words run.files_before run.files_after a.status a.text.items)
+          → IfOk a (λ a. IsDue run.words run.files_before run.files_after a.status (answer_text a))
           → (a ≡ Err Read → HasReadFault run.files_before run.files_after (AsksFor run.words))
           → IsOutcome run (AsksFor run.words) (IsDue run.words run.files_before run.files_after) status
       by_answer (Ok a) (inl (same, took, quiet)) due read =
           subst (IsOutcome run (AsksFor run.words) (IsDue run.words run.files_before run.files_after)) (sym same)
-          (printed_ends run (AsksFor run.words) (IsDue run.words run.files_before run.files_after) a.status a.text.items
-          (due_answers run.words run.files_before run.files_after a.status a.text.items due) due took)
+          (printed_ends run (AsksFor run.words) (IsDue run.words run.files_before run.files_after) a.status (answer_text a)
+          (due_answers run.words run.files_before run.files_after a.status (answer_text a) due) due took)
       by_answer (Ok a) (inr (same, front, rose)) due read =
-          subst (IsOutcome run (AsksFor run.words) (IsDue run.words run.files_before run.files_after)) (sym same) (rose, (a.text.items, (a.status, due), front))
+          subst (IsOutcome run (AsksFor run.words) (IsDue run.words run.files_before run.files_after)) (sym same) (rose, ((answer_text a), (a.status, due), front))
       by_answer (Err Read) (same, nothing, quiet) due read =
           subst (IsOutcome run (AsksFor run.words) (IsDue run.words run.files_before run.files_after)) (sym same) (read refl, nothing)
       by_answer (Err Memory) (same, nothing, quiet) due read =

@@ -1,5 +1,2 @@
-mod Lists
 mod FileKinds
-mod Bests
 mod Endings
-mod Regrouped

@@ -1,9 +1,9 @@
 -- What is due for the words and the files: a status and the text to print. Each command has a line in each definition by jobs.
-use Rattle.std.specs.Prelude.{◌≡◌, ◌⊎◌, List, ℕ}
+use Rattle.std.specs.Prelude.{◌≡◌, ◌⊎◌, ◌≤◌, List, ℕ}
 use Rattle.strip_words.specs.Words.{Word}
 use Rattle.strip_words.specs.Jobs.{JobData, Solve, NameJob, NameNoJob}
 use Rattle.strip_answer.specs.declared.status.Status.{Status}
-use Rattle.strip_answer.specs.declared.status.Status.TheVariants.{Done, NoJob, BadInstance}
+use Rattle.strip_answer.specs.declared.status.Status.TheVariants.{Done, NoJob, Bounded, BadInstance}
 use Rattle.strip_answer.specs.Rows.{error_row}
 use Rattle.strip_answer.specs.Run.{FilesData}
 use Rattle.strip_top.specs.declared.refusal.Refusal.TheVariants.{Words}
@@ -13,6 +13,10 @@ use Rattle.strip_top.specs.Solve.{IsSolveDue, IsSolveFit, IsSolveUnfit}
 -- the job asks for this file
 abbrev pub IsFileOf : JobData → List ℕ → Type 0
 IsFileOf (Solve job) file = job.file ≡ file
+
+-- the job's numbers lie within their ends
+abbrev pub IsWithin : JobData → Type 0
+IsWithin (Solve job) = (1 ≤ job.nodes) × (job.nodes ≤ 16777216) × (64 ≤ job.table) × (job.table ≤ 4194304)
 
 -- what is due for the job
 abbrev pub IsDueFor : JobData → FilesData → FilesData → Status → List ℕ → Type 0
@@ -27,7 +31,7 @@ IsUnfitFor (Solve job) files = IsSolveUnfit job files
 
 -- the statuses with which the job ends where it can be done, and where it can't, unless something fails
 abbrev pub IsFitStatus : JobData → Status → Type 0
-IsFitStatus (Solve job) status = status ≡ Done
+IsFitStatus (Solve job) status = (status ≡ Done) ⊎ (status ≡ Bounded)
 
 abbrev pub IsUnfitStatus : JobData → Status → Type 0
 IsUnfitStatus (Solve job) status = status ≡ BadInstance

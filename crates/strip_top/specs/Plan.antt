@@ -1,31 +1,31 @@
--- The head rows of a plan whose order is optimal.
-use Rattle.std.specs.Prelude.{◌≡◌, ℕ, List, [], ◌∷◌, map, codes, slice_index_or}
-use Rattle.std.specs.Fmt.{decimal}
-use Rattle.strip_pay.specs.Pay.{IsBestOrder}
+-- The plan that is printed.
+use Rattle.std.specs.Prelude.{◌≡◌, ℕ, Bool, if◌then◌else◌, List, []}
 use Rattle.strip_model.specs.Data.{InstanceData, IsInstance}
 use Rattle.strip_model.specs.Film.{film_of}
-use Rattle.strip_text.specs.Rows.{Row, csv_text}
+use Rattle.strip_words.specs.Solve.{SolveData}
+use Rattle.strip_proof.specs.declared.plan.Status.{Status as PlanStatus}
+use Rattle.strip_proof.specs.declared.plan.Status.TheVariants.{Optimal, Bounded as CutShort}
+use Rattle.strip_proof.specs.Plan.{PlanData}
+use Rattle.strip_proof.specs.Rows.{bare_text, plan_text}
+use Rattle.strip_solve.specs.Solved.{IsSolved}
+use Rattle.strip_answer.specs.declared.status.Status.{Status}
+use Rattle.strip_answer.specs.declared.status.Status.TheVariants.{Done, Bounded}
 
--- the name of the scene with this number
-abbrev pub scene_name : InstanceData → ℕ → List ℕ
-scene_name inst scene = slice_index_or (map (λ s. s.name) inst.scenes) scene []
+-- a plan's text, with its line rows where a proof is asked for
+abbrev pub text_of : Bool → InstanceData → PlanData → List ℕ
+text_of proof inst plan = if proof then plan_text inst plan else bare_text inst plan
 
--- that the order is optimal, its cost, a bound that equals it, and the scenes' names in shooting order
-abbrev pub plan_rows : InstanceData → List ℕ → ℕ → List Row
-plan_rows inst order cost =
-    (codes "status" ∷ codes "optimal" ∷ [])
-    ∷ (codes "cost" ∷ decimal cost ∷ [])
-    ∷ (codes "bound" ∷ decimal cost ∷ [])
-    ∷ (codes "lines" ∷ codes "0" ∷ [])
-    ∷ (codes "order" ∷ map (scene_name inst) order)
-    ∷ []
+-- the exit status of a plan
+abbrev pub exit_of : PlanStatus → Status
+exit_of Optimal = Done
+exit_of CutShort = Bounded
 
--- the text is the head rows of an order of the instance that pays least, with its pay as cost and bound;
--- the instance keeps the limits, and has no pairs, so that every order keeps them
-pub record IsPlan (inst : InstanceData) (text : List ℕ) : Type 0 where
-  pub order : List ℕ
-  pub cost : ℕ
+-- the text is that of a plan of the instance, which is what the job asks for, and the status tells whether it is optimal; the instance
+-- keeps the limits, and has no pairs, so that every order keeps them
+pub record IsPlan (job : SolveData) (inst : InstanceData) (status : Status) (printed : List ℕ) : Type 0 where
   pub is_instance : IsInstance inst
   pub no_pairs : inst.pairs ≡ []
-  pub best : IsBestOrder (film_of inst) order cost
-  pub rows : text ≡ csv_text (plan_rows inst order cost)
+  pub plan : PlanData
+  pub solved : IsSolved job.kind (film_of inst) job.nodes plan
+  pub ends : status ≡ exit_of plan.status
+  pub text : printed ≡ text_of job.proof inst plan

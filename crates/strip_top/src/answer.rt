@@ -1,14 +1,16 @@
 // What is due for the words and the files, before anything is written.
 ghost use Rattle.std.specs.Prelude.{◌≡◌, Err, IfOk};
 ghost use Rattle.strip_words.specs.Shown.{job_data, texts};
+ghost use Rattle.strip_answer.specs.Ending.{answer_text};
 ghost use Rattle.strip_answer.specs.Run.{FilesStay, HasReadFault, files_data};
-ghost use Rattle.strip_top.specs.Due.{AsksFor, IsDue, IsDueFor, IsFileOf};
+ghost use Rattle.strip_top.specs.Due.{AsksFor, IsDue, IsDueFor, IsFileOf, IsWithin};
 
 use crate::refusal::Refusal;
 use crate::solve::solve;
 use std::alloc::Global;
 use strip_answer::{Answer, Status, Stop};
 use strip_io::Files;
+use strip_words::laws::numbers_lie_within_their_ends;
 use strip_words::{Job, WordsFault, job};
 
 /// The answer to the words: that they name no job, or what the job that they name asks for.
@@ -20,7 +22,7 @@ pub(crate) fn answer_words<F: Files>(
     ensures due { IfOk result (λ answer. IsDue (texts words.now)
         (files_data (F.holds files.old) (F.bytes files.old) (F.faults files.old) (F.came files.old))
         (files_data (F.holds files.new) (F.bytes files.new) (F.faults files.new) (F.came files.new))
-        answer.status answer.text.items) }
+        answer.status (answer_text answer)) }
     ensures read { result ≡ Err Stop.Read → HasReadFault
         (files_data (F.holds files.old) (F.bytes files.old) (F.faults files.old) (F.came files.old))
         (files_data (F.holds files.new) (F.bytes files.new) (F.faults files.new) (F.came files.new))
@@ -30,6 +32,7 @@ pub(crate) fn answer_words<F: Files>(
         (files_data (F.holds files.new) (F.bytes files.new) (F.faults files.new) (F.came files.new))
         (AsksFor (texts words.now)) (result ≡ Err Stop.Read) }
 {
+    numbers_lie_within_their_ends();
     match job(alloc, words) {
         Ok(job) => answer_job(alloc, files, &job),
         Err(WordsFault::BadWords) => {
@@ -41,10 +44,11 @@ pub(crate) fn answer_words<F: Files>(
 
 /// The answer to a job, a line for each command.
 fn answer_job<F: Files>(alloc: Global, files: &mut F, job: &Job) -> Result<Answer, Stop>
+    requires { IsWithin (job_data job.now) }
     ensures due { IfOk result (λ answer. IsDueFor (job_data job.now)
         (files_data (F.holds files.old) (F.bytes files.old) (F.faults files.old) (F.came files.old))
         (files_data (F.holds files.new) (F.bytes files.new) (F.faults files.new) (F.came files.new))
-        answer.status answer.text.items) }
+        answer.status (answer_text answer)) }
     ensures read { result ≡ Err Stop.Read → HasReadFault
         (files_data (F.holds files.old) (F.bytes files.old) (F.faults files.old) (F.came files.old))
         (files_data (F.holds files.new) (F.bytes files.new) (F.faults files.new) (F.came files.new))

@@ -2,12 +2,10 @@
 #![tactic(auto)]
 
 mod answer;
-mod best;
-mod plan;
 mod program;
 mod refusal;
 mod solve;
 
 pub use program::report;
 pub use refusal::Refusal;
-pub use solve::{MAX_FILE, MAX_TRIED};
+pub use solve::MAX_FILE;

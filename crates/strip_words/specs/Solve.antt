@@ -15,7 +15,7 @@ abbrev pub table_option : NumberOption
 table_option = record { name = codes "--table"; least = 64; most = 4194304; default = 65536 }
 
 abbrev pub bounds_option : ChoiceOption
-bounds_option = record { name = codes "--bounds"; choices = codes "plain" ∷ codes "pairs" ∷ []; default = codes "pairs" }
+bounds_option = record { name = codes "--bounds"; choices = codes "plain" ∷ codes "pairs" ∷ codes "groups" ∷ []; default = codes "pairs" }
 
 abbrev pub proof_flag : Word
 proof_flag = codes "--proof"

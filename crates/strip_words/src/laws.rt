@@ -1,9 +1,17 @@
-//! Laws of the definitions. The function does nothing: its contract is the law.
-ghost use Rattle.std.specs.Prelude.{◌≡◌, List};
+//! Laws of the definitions. Each function does nothing: its contract is the law.
+ghost use Rattle.std.specs.Prelude.{◌≡◌, ◌≤◌, List};
 ghost use Rattle.strip_words.specs.Words.{Word};
 ghost use Rattle.strip_words.specs.Jobs.{JobData, NameJob};
+ghost use Rattle.strip_words.specs.Solve.{NameSolve, SolveData};
 
 /// The same words name one job, of any kind.
 pub fn words_name_one_job()
     ensures { (words : List Word) (a b : JobData) → NameJob words a → NameJob words b → a ≡ b }
+{}
+
+/// The numbers of a job to solve lie within the ends of their options.
+pub fn numbers_lie_within_their_ends()
+    ensures workers { (words : List Word) (job : SolveData) → NameSolve words job → (1 ≤ job.workers) × (job.workers ≤ 64) }
+    ensures nodes { (words : List Word) (job : SolveData) → NameSolve words job → (1 ≤ job.nodes) × (job.nodes ≤ 16777216) }
+    ensures table { (words : List Word) (job : SolveData) → NameSolve words job → (64 ≤ job.table) × (job.table ≤ 4194304) }
 {}

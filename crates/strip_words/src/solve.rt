@@ -46,7 +46,7 @@ const TABLE: NumberOption = NumberOption {
 
 const BOUNDS: ChoiceOption = ChoiceOption {
     name: "--bounds",
-    choices: &["plain", "pairs"],
+    choices: &["plain", "pairs", "groups"],
     default: "pairs",
 };
 
@@ -100,7 +100,9 @@ fn kind_of(word: &str) -> Kind
 {
     if word == "plain" {
         Kind::Plain
-    } else {
+    } else if word == "pairs" {
         Kind::Pairs
+    } else {
+        Kind::Groups
     }
 }

@@ -1,0 +1,32 @@
+// A search of a film by one worker.
+ghost use Rattle.std.specs.Prelude.{◌≤◌};
+ghost use Rattle.strip_film.specs.Path.{IsComplete};
+ghost use Rattle.strip_film.specs.Shown.{path_data};
+
+use std::alloc::Global;
+use strip_bound::{BoundTables, Kept, static_bound};
+use strip_film::{Film, Path};
+use strip_io::Memory;
+use strip_mask::Mask;
+use strip_pay::Kind;
+use strip_team::{Ended, alone};
+
+/// The end of a search of the film, by static bounds of this kind, that begins with this path.
+pub(crate) fn searched(
+    alloc: Global,
+    film: &Film,
+    start: &Path,
+    kind: Kind,
+    nodes: u32,
+    entries: u32,
+) -> Result<Ended, Memory>
+    requires start { IsComplete film.now (path_data start.now) }
+    requires nodes { (1 ≤ nodes) × (nodes ≤ 16777216) }
+    requires entries { (64 ≤ entries) × (entries ≤ 4194304) }
+{
+    let tables = BoundTables::of(alloc, film)?;
+    let kept = Kept::new(film, kind, |q, _need| {
+        static_bound(film, &tables, kind, Mask(q))
+    });
+    alone(alloc, &kept, start, nodes, entries)
+}

@@ -1,0 +1,137 @@
+-- From the end of the classes' search to the film's plan.
+use Rattle.std.proofs.Common.{◌≡◌, ◌≢◌, ℕ, ◌+◌, ◌*◌, ◌≤◌, ◌==◌, true, List, [], ◌∷◌, ◌++◌, length, take, drop, inl, inr, ap, sym, subst, ◌∙◌, arith}
+use Rattle.std.proofs.Math.Seq.{take-append_seam}
+use Rattle.std.proofs.lemmas.Bool.{cases_Bool}
+use Rattle.std.proofs.lemmas.Bool.Decides.{nat_tests}
+use Rattle.std.proofs.lemmas.List.Elements.{All-nil}
+use Rattle.strip_pay.specs.declared.kind.Kind.{Kind}
+use Rattle.strip_pay.specs.declared.pair.Pair.{Pair}
+use Rattle.strip_pay.specs.Film.{FilmData}
+use Rattle.strip_pay.specs.Order.{IsKeptOrder, IsOrder, Keeps, KeepsPair}
+use Rattle.strip_pay.specs.Pay.{IsLeast, IsOptimum, pay_of}
+use Rattle.strip_film.specs.Path.{PathData}
+use Rattle.strip_lines.specs.Lines.{rules_of}
+use Rattle.strip_count.specs.Paths.{factorial, few}
+use Rattle.strip_reduce.specs.Law.{StandsFor}
+use Rattle.strip_reduce.specs.Reduction.{reduced}
+use Rattle.strip_reduce.specs.State.{State, way_back}
+use Rattle.strip_team.specs.Ended.{EndedData, IsEnded}
+use Rattle.strip_proof.specs.declared.plan.Status.{Status}
+use Rattle.strip_proof.specs.declared.plan.Status.TheVariants.{Optimal, Bounded}
+use Rattle.strip_proof.specs.Plan.{PlanData}
+use Rattle.strip_solve.specs.Solved.{Closes, IsSolved, IsStart, RanOut, class_rules}
+
+-- without pairs every order keeps them
+pub kept_without_pairs : (film : FilmData) (order : List ℕ) → film.pairs ≡ [] → IsOrder (length film.casts) order → IsKeptOrder film order
+kept_without_pairs film order none is = record {
+  is_order = is;
+  keeps = subst (λ (pairs : List Pair). Keeps pairs order) (sym none) (All-nil (KeepsPair order));
+}
+
+-- a list without elements is empty
+pub none_there : (pairs all : List Pair) → true ≡ (length pairs == 0) → pairs ≡ all → all ≡ []
+none_there [] all empty same = sym same
+none_there (pair ∷ pairs) all empty same = absurd (let none : length (pair ∷ pairs) ≡ 0 = grind (arith, nat_tests) in omega (arith, none))
+
+-- as many elements written over a list's
+pub written_over : (len : ℕ) (now old : List ℕ) → len ≡ length old → length now ≡ length old → take len (now ++ drop (length now) old) ≡ now
+written_over len now old all same =
+    ap (λ (n : ℕ). take n (now ++ drop (length now) old)) (all ∙ sym same) ∙ take-append_seam now (drop (length now) old)
+
+-- the status tells whether the bound is the cost
+abbrev pub Tells : EndedData → Status → Type 0
+Tells ended Optimal = ended.bound ≡ ended.cost
+Tells ended Bounded = ended.bound ≢ ended.cost
+
+-- every film has an optimum
+abbrev pub HasOptimum : FilmData → Type 0
+HasOptimum film = (cost : ℕ) × IsOptimum film cost
+
+module _ (kind : Kind) (film : FilmData) (most : ℕ) (start : PathData) (ended : EndedData) (stands : StandsFor film (reduced film))
+    (is_start : IsStart (reduced film).film start) (is : IsEnded kind (reduced film).film start most ended)
+    (optimum : HasOptimum (reduced film).film) (orders : few (class_rules kind film) start.paid ≤ 2 * factorial (length (reduced film).film.casts)) where
+  abbrev state : State
+  state = reduced film
+
+  -- no order of the classes pays less than the cost that the bound is at most
+  bound_below : ended.bound ≤ ended.cost
+  bound_below = omega (arith, is.true_bound ended.order is.order, is.cost)
+
+  least : IsLeast film (ended.bound + state.apart)
+  least order kept =
+      let below : ended.bound ≤ optimum.0 = omega (arith, is.true_bound optimum.1.attained.0 optimum.1.attained.1, optimum.1.attained.2) in
+      omega (arith, below, ((stands.optimum optimum.0).0 optimum.1).least order kept)
+
+  module _ (order : List ℕ) (kept : IsKeptOrder state.film order) (pays : pay_of state.film order ≡ pay_of state.film ended.order) (status : Status)
+      (tells : Tells ended status) where
+    abbrev plan : PlanData
+    plan = record {
+      status = status;
+      kind = kind;
+      cost = ended.cost + state.apart;
+      bound = ended.bound + state.apart;
+      held = ended.held;
+      order = way_back state.members order;
+      lines = ended.lines;
+    }
+
+    ran_out : ended.bound ≢ ended.cost → RanOut kind film most start plan
+    ran_out apart = elim (cases_Bool ended.spent) [
+      | inl spent ↦ (let out = is.spent spent in record {
+        below = omega (arith, bound_below, apart);
+        full = out.full;
+        fewer = out.fewer;
+        orders = omega (arith, out.fewer, orders);
+        ahead_reached = omega (arith, out.reaches);
+      })
+      | inr unspent ↦ absurd (apart (is.closed unspent))
+    ]
+
+    closes : (s : Status) → Tells ended s → Closes kind film most start plan s
+    closes Optimal same = ap (λ (n : ℕ). n + state.apart) same
+    closes Bounded apart = ran_out apart
+
+    pub solved : IsSolved kind film most plan
+    solved = record {
+      same_kind = λ i. kind;
+      order = record {
+        is_order = stands.order order kept.is_order;
+        keeps = (stands.kept order kept.is_order).1 kept.keeps;
+      };
+      cost = omega (arith, stands.pay order kept.is_order, pays, is.cost);
+      bound = least;
+      few_lines = is.most;
+      start = start;
+      is_start = is_start;
+      no_dearer = omega (arith, is.no_dearer);
+      proof = record {
+        justified = is.lines;
+        reaches = omega (arith, is.bound);
+        held = is.held;
+        candidates = is.candidates;
+        sets = is.sets;
+      };
+      closes = closes status tells;
+    }
+
+-- the same by the state that the code has
+abbrev Solves : Kind → FilmData → ℕ → PathData → EndedData → List ℕ → Status → State → Type 0
+Solves kind film most start ended order status draft =
+    StandsFor film draft → IsStart draft.film start → IsEnded kind draft.film start most ended → HasOptimum draft.film
+    → few (rules_of kind draft.film) start.paid ≤ 2 * factorial (length draft.film.casts)
+    → IsKeptOrder draft.film order → pay_of draft.film order ≡ pay_of draft.film ended.order → Tells ended status
+    → IsSolved kind film most (record {
+      status = status;
+      kind = kind;
+      cost = ended.cost + draft.apart;
+      bound = ended.bound + draft.apart;
+      held = ended.held;
+      order = way_back draft.members order;
+      lines = ended.lines;
+    })
+
+pub solved_by : (kind : Kind) (film : FilmData) (most : ℕ) (start : PathData) (ended : EndedData) (order : List ℕ) (status : Status) (draft : State)
+    → draft ≡ reduced film → Solves kind film most start ended order status draft
+solved_by kind film most start ended order status draft same =
+    subst (Solves kind film most start ended order status) (sym same)
+    (λ stands is_start is optimum orders kept pays tells. solved kind film most start ended stands is_start is optimum orders order kept pays status tells)

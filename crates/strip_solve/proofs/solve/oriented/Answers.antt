@@ -1,0 +1,16 @@
+use Rattle.std.proofs.Common.{◌∙◌, length, ap, sym, subst}
+use Rattle.strip_pay.specs.Order.{IsKeptOrder, IsOrder}
+use Rattle.strip_pay.proofs.Counts.{length-order}
+use Rattle.strip_solve.proofs.Back.{kept_without_pairs, none_there, written_over}
+use Rattle.strip_solve.proofs.solve.oriented.Goals as goal
+
+pub returns-then-is_empty-clause-kept : goal.returns-then-is_empty-clause-kept
+returns-then-is_empty-clause-kept c =
+    let count = length c.args.film.now.casts in
+    let found = c.args.order.items in
+    let is : IsOrder (length c.args.film.now.casts) c.args.order.items = c.requires.is_order in
+    let reversed : IsOrder (length c.args.film.now.casts) c.orient.new.order = c.orient.ensures.order count (subst (IsOrder count) (sym c.deref_mut.ensures.value) is) in
+    let over = written_over c.args.order.len c.orient.new.order found (sym c.deref_mut.ensures.len ∙ ap length c.deref_mut.ensures.value)
+    (length-order count c.orient.new.order reversed ∙ sym (length-order count found is)) in
+    subst (IsKeptOrder c.args.film.now) (sym over)
+    (kept_without_pairs c.args.film.now c.orient.new.order (none_there c.pairs.result.now c.args.film.now.pairs c.if-is_empty.ensures c.pairs.ensures) reversed)

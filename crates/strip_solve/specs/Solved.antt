@@ -1,0 +1,65 @@
+-- A plan that a search of an instance's classes found.
+use Rattle.std.specs.Prelude.{◌≡◌, ℕ, ◌+◌, ◌*◌, ◌<◌, ◌≤◌, ◌==◌, List, length, count_by}
+use Rattle.strip_pay.specs.declared.kind.Kind.{Kind}
+use Rattle.strip_pay.specs.Film.{FilmData}
+use Rattle.strip_pay.specs.Order.{IsKeptOrder}
+use Rattle.strip_pay.specs.Pay.{IsLeast, pay_of}
+use Rattle.strip_film.specs.Film.{all_scenes}
+use Rattle.strip_film.specs.Path.{PathData, IsComplete}
+use Rattle.strip_film.specs.Rules.{Rules}
+use Rattle.strip_lines.specs.Lines.{AreJustified, ahead, known, rules_of}
+use Rattle.strip_count.specs.Paths.{factorial, few, ways}
+use Rattle.strip_reduce.specs.Reduction.{reduced}
+use Rattle.strip_start.specs.Greedy.{IsGreedy}
+use Rattle.strip_start.specs.Moves.{IsImproved}
+use Rattle.strip_proof.specs.declared.plan.Status.{Status}
+use Rattle.strip_proof.specs.declared.plan.Status.TheVariants.{Optimal, Bounded}
+use Rattle.strip_proof.specs.Plan.{PlanData}
+
+-- the path that a search of the film starts with: the greedy one, improved by moves
+pub record IsStart (film : FilmData) (start : PathData) : Type 0 where
+  pub complete : IsComplete film start
+  pub greedy : List ℕ
+  pub is_greedy : IsGreedy film greedy
+  pub improved : IsImproved film greedy start.scenes
+
+-- what a search of a film's classes goes by
+abbrev pub class_rules : Kind → FilmData → Rules
+class_rules kind film = rules_of kind (reduced film).film
+
+-- the lines are justified, and what they make known of all classes, with what is set apart, reaches the bound; they are at most as many as
+-- the candidates of the start, in all and of each set
+pub record AreProof (kind : Kind) (film : FilmData) (start : PathData) (plan : PlanData) : Type 0 where
+  pub justified : AreJustified (class_rules kind film) plan.lines
+  pub reaches : plan.bound ≤ known (class_rules kind film) plan.lines (all_scenes (reduced film).film) + (reduced film).apart
+  pub held : plan.held ≡ length plan.lines
+  pub candidates : plan.held ≤ few (class_rules kind film) start.paid
+  pub sets : (set : ℕ) → count_by (λ line. line.set == set) plan.lines ≤ ways (class_rules kind film) start.paid set
+
+-- the lines that there may be were all made, though there are fewer than candidates of the start, and so than twice the orders of the
+-- classes; and the bound is at least the look-ahead of all classes with what is set apart
+pub record RanOut (kind : Kind) (film : FilmData) (most : ℕ) (start : PathData) (plan : PlanData) : Type 0 where
+  pub below : plan.bound < plan.cost
+  pub full : plan.held ≡ most
+  pub fewer : most < few (class_rules kind film) start.paid
+  pub orders : most < 2 * factorial (length (reduced film).film.casts)
+  pub ahead_reached : ahead (class_rules kind film) (all_scenes (reduced film).film) + (reduced film).apart ≤ plan.bound
+
+-- an optimal plan's bound is its cost; else the lines ran out
+abbrev pub Closes : Kind → FilmData → ℕ → PathData → PlanData → Status → Type 0
+Closes kind film most start plan Optimal = plan.bound ≡ plan.cost
+Closes kind film most start plan Bounded = RanOut kind film most start plan
+
+-- a plan of the film by static bounds of this kind, and with this many lines at most: its order keeps the pairs and pays the cost, which
+-- is no more than the start costs; no order that keeps the pairs pays less than the bound; the lines prove it; and its status holds
+pub record IsSolved (kind : Kind) (film : FilmData) (most : ℕ) (plan : PlanData) : Type 0 where
+  pub same_kind : plan.kind ≡ kind
+  pub order : IsKeptOrder film plan.order
+  pub cost : plan.cost ≡ pay_of film plan.order
+  pub bound : IsLeast film plan.bound
+  pub few_lines : plan.held ≤ most
+  pub start : PathData
+  pub is_start : IsStart (reduced film).film start
+  pub no_dearer : plan.cost ≤ start.paid + (reduced film).apart
+  pub proof : AreProof kind film start plan
+  pub closes : Closes kind film most start plan plan.status

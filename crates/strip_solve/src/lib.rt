@@ -1,0 +1,6 @@
+//! The search of a whole instance: its classes, a start, the search, and the way back.
+#![tactic(auto)]
+
+mod solve;
+
+pub use solve::solve_alone;

@@ -1,0 +1,141 @@
+// A plan of an instance, by one worker.
+ghost use Rattle.std.specs.Prelude.{◌≡◌, ◌≤◌, ◌<◌, ℕ, Err, IfOk, OnOk, length};
+ghost use Rattle.strip_pay.specs.Film.{FilmData};
+ghost use Rattle.strip_pay.specs.Order.{IsKeptOrder};
+ghost use Rattle.strip_pay.specs.Pay.{pay_of};
+ghost use Rattle.strip_film.specs.Path.{IsComplete};
+ghost use Rattle.strip_film.specs.Shown.{path_data};
+ghost use Rattle.strip_model.specs.Film.{film_of};
+ghost use Rattle.strip_reduce.specs.declared.fault.ReduceFault.TheVariants.{TooManyClasses};
+ghost use Rattle.strip_reduce.specs.Law.{StandsFor};
+ghost use Rattle.strip_reduce.specs.Reduction.{class_count, reduced as reduction};
+ghost use Rattle.strip_reduce.specs.Shown.{reduced_data};
+ghost use Rattle.strip_proof.specs.Plan.{plan_data};
+ghost use Rattle.strip_solve.specs.Solved.{IsSolved, IsStart};
+ghost use Rattle.strip_team.specs.Ended.{IsEnded};
+ghost use Rattle.strip_team.specs.Shown.{ended_data};
+
+use std::alloc::Global;
+use strip_bound::{BoundTables, Kept, static_bound};
+use strip_count::laws::paths_are_few;
+use strip_film::laws::{a_least_tail_exists, finishing_everything_is_the_optimum};
+use strip_film::{Film, Path};
+use strip_io::Memory;
+use strip_mask::Mask;
+use strip_model::Instance;
+use strip_pay::Kind;
+use strip_pay::laws::pays_stay_small;
+use strip_proof::{Plan, Status};
+use strip_reduce::{ReduceFault, Reduced, reduce};
+use strip_start::{greedy, improve};
+use strip_team::{Ended, alone};
+use strip_unreduce::{expand, orient};
+
+/// A plan of the instance, found by one worker with static bounds of this kind, at most `nodes` lines, 1 to
+/// 16,777,216, and a table of `entries` entries, 64 to 4,194,304. `TooManyClasses` where more than 64
+/// classes are left. It takes room for the lines and entries before it searches.
+pub fn solve_alone(
+    alloc: Global,
+    inst: &Instance,
+    kind: Kind,
+    nodes: u32,
+    entries: u32,
+) -> Result<Plan, ReduceFault>
+    requires nodes { (1 ≤ nodes) × (nodes ≤ 16777216) }
+    requires entries { (64 ≤ entries) × (entries ≤ 4194304) }
+    ensures solved { IfOk result (λ plan. IsSolved kind (film_of inst.now) nodes (plan_data plan)) }
+    ensures few { OnOk result (class_count (film_of inst.now) ≤ 64) }
+    ensures too_many { (count : ℕ) → result ≡ Err (TooManyClasses count)
+        → (64 < count) × (count ≡ class_count (film_of inst.now)) }
+{
+    let reduced = reduce(alloc, inst)?;
+    solve_classes(alloc, &reduced, kind, nodes, entries).map_err(|_| ReduceFault::Memory)
+}
+
+/// A plan of any film that the classes stand for.
+fn solve_classes(
+    alloc: Global,
+    reduced: &Reduced,
+    kind: Kind,
+    nodes: u32,
+    entries: u32,
+) -> Result<Plan, Memory>
+    requires nodes { (1 ≤ nodes) × (nodes ≤ 16777216) }
+    requires entries { (64 ≤ entries) × (entries ≤ 4194304) }
+    ensures { (film : FilmData) → reduced_data reduced.now ≡ reduction film → StandsFor film (reduced_data reduced.now)
+        → IfOk result (λ plan. IsSolved kind film nodes (plan_data plan)) }
+{
+    let start = improve(&reduced.film, &greedy(&reduced.film));
+    let ended = search(alloc, &reduced.film, kind, &start, nodes, entries)?;
+    plan_of(alloc, reduced, kind, &start, nodes, ended)
+}
+
+/// The end of the search of a film that starts with this path.
+fn search(
+    alloc: Global,
+    film: &Film,
+    kind: Kind,
+    start: &Path,
+    nodes: u32,
+    entries: u32,
+) -> Result<Ended, Memory>
+    requires start { IsComplete film.now (path_data start.now) }
+    requires nodes { (1 ≤ nodes) × (nodes ≤ 16777216) }
+    requires entries { (64 ≤ entries) × (entries ≤ 4194304) }
+    ensures { IfOk result (λ ended. IsEnded kind film.now (path_data start.now) nodes (ended_data ended)) }
+{
+    let tables = BoundTables::of(alloc, film)?;
+    let kept = Kept::new(film, kind, |q, _need| {
+        static_bound(film, &tables, kind, Mask(q))
+    });
+    alone(alloc, &kept, start, nodes, entries)
+}
+
+/// The plan of the instance that the end of its classes' search stands for.
+fn plan_of(
+    alloc: Global,
+    reduced: &Reduced,
+    kind: Kind,
+    start: &Path,
+    nodes: u32,
+    ended: Ended,
+) -> Result<Plan, Memory>
+    requires start { IsStart reduced.now.film (path_data start.now) }
+    requires ended { IsEnded kind reduced.now.film (path_data start.now) nodes (ended_data ended) }
+    ensures { (film : FilmData) → reduced_data reduced.now ≡ reduction film → StandsFor film (reduced_data reduced.now)
+        → IfOk result (λ plan. IsSolved kind film nodes (plan_data plan)) }
+{
+    reduced.film.keeps_limits();
+    pays_stay_small();
+    paths_are_few();
+    a_least_tail_exists();
+    finishing_everything_is_the_optimum();
+    let status = if ended.bound == ended.cost {
+        Status::Optimal
+    } else {
+        Status::Bounded
+    };
+    let order = oriented(&reduced.film, ended.order);
+    Ok(Plan {
+        status,
+        kind,
+        cost: ended.cost + reduced.apart,
+        bound: ended.bound + reduced.apart,
+        held: ended.held,
+        order: expand(alloc, reduced, &order)?,
+        lines: ended.lines,
+    })
+}
+
+/// The order, of it and its reverse always the same one, where no pair stands against it.
+fn oriented(film: &Film, order: Vec<u8>) -> Vec<u8>
+    requires { IsKeptOrder film.now order.items }
+    ensures kept { IsKeptOrder film.now result.items }
+    ensures pay { pay_of film.now result.items ≡ pay_of film.now order.items }
+{
+    let mut order = order;
+    if film.pairs().is_empty() {
+        orient(&mut order);
+    }
+    order
+}

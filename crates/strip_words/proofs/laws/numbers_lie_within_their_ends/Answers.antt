@@ -1,0 +1,20 @@
+use Rattle.std.proofs.Common.{◌≤◌, ℕ, List, inl, inr, arith}
+use Rattle.strip_words.specs.Words.{Item}
+use Rattle.strip_words.specs.Options.{NumberOption, IsChosen}
+use Rattle.strip_words.specs.Solve.{workers_option, nodes_option, table_option}
+use Rattle.strip_words.proofs.laws.numbers_lie_within_their_ends.Goals as goal
+
+-- a number that is left out is the default, which lies within the ends
+within : (option : NumberOption) (items : List Item) (n : ℕ) → option.least ≤ option.default → option.default ≤ option.most
+    → IsChosen option items n → (option.least ≤ n) × (n ≤ option.most)
+within option items n low high chosen = elim chosen [
+  | inl left_out ↦ (omega (arith, low, left_out.1), omega (arith, high, left_out.1))
+  | inr given ↦ given.2.within
+]
+
+pub returns : goal.returns
+returns c = record {
+  workers = λ words job named. within workers_option named.0 job.workers (omega arith) (omega arith) named.3.workers;
+  nodes = λ words job named. within nodes_option named.0 job.nodes (omega arith) (omega arith) named.3.nodes;
+  table = λ words job named. within table_option named.0 job.table (omega arith) (omega arith) named.3.table;
+}
