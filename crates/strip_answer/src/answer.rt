@@ -1,6 +1,8 @@
 // An answer, and the row of what a fault tells.
 ghost use Rattle.std.specs.Prelude.{◌≡◌, IfOk, string_bytes};
 ghost use Rattle.strip_text.specs.Told.{told_data};
+ghost use Rattle.strip_answer.specs.declared.status.Status.TheVariants.{NoJob};
+ghost use Rattle.strip_answer.specs.Claims.{no_job_told};
 ghost use Rattle.strip_answer.specs.Ending.{answer_text};
 ghost use Rattle.strip_answer.specs.Rows.{error_row, number_field, told_row};
 
@@ -35,6 +37,22 @@ impl Answer {
             text,
             lines,
         })
+    }
+
+    /// The answer to words that name no job.
+    pub fn no_job(alloc: Global) -> Result<Answer, Memory>
+        ensures status { IfOk result (λ answer. answer.status ≡ NoJob) }
+        ensures row { IfOk result (λ answer. answer_text answer ≡ error_row no_job_told) }
+    {
+        let name = "Words";
+        let first = None;
+        let second = None;
+        let told = Told {
+            name,
+            first,
+            second,
+        };
+        Answer::error(alloc, Status::NoJob, told)
     }
 }
 

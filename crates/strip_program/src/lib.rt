@@ -3,6 +3,5 @@
 #![tactic(auto)]
 
 mod outcome;
-mod words;
 
 pub use outcome::run;

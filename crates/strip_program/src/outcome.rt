@@ -1,26 +1,26 @@
 // A run of the program, and how it ends.
-ghost use Rattle.std.specs.Prelude.{◌≡◌, ℕ, Ok, IfOk, IsErr};
+ghost use Rattle.std.specs.Prelude.{IfOk};
 ghost use Rattle.std.specs.Process.{exit_status};
 ghost use Rattle.strip_words.specs.Shown.{texts};
-ghost use Rattle.strip_program.specs.Run.{IsRun, IsRunOf};
+ghost use Rattle.strip_host.specs.Run.{IsRun, IsRunOf};
+ghost use Rattle.strip_top.specs.Due.{board_claims};
 
-use crate::words::command_words;
 use std::process::ExitCode;
 use std::rt::{Env, Files};
-use strip_answer::Status;
+use strip_host::{command_words, exit_code};
 use strip_io::{HostFiles, HostSink, Memory};
 use strip_top::report;
 
 /// Runs the program with the words, files and output of the runtime, and gives its exit code, which
 /// is that of a run of `report`, or 9 where memory ran out before it.
 pub fn run<R: Env + Files + Print + AllocGlobal>(rt: &R) -> ExitCode
-    ensures { IsRun (exit_status result) }
+    ensures { IsRun board_claims (exit_status result) }
 {
     exit_code(run_command(rt))
 }
 
 fn run_command<R: Env + Files + Print + AllocGlobal>(rt: &R) -> Result<u8, Memory>
-    ensures { IfOk result IsRun }
+    ensures { IfOk result (IsRun board_claims) }
 {
     let words = command_words(rt)?;
     run_words(rt, &words)
@@ -29,17 +29,9 @@ fn run_command<R: Env + Files + Print + AllocGlobal>(rt: &R) -> Result<u8, Memor
 // Runs the words, and gives the status of `report`. The files that may be read are those that the
 // words name.
 fn run_words<R: Files + Print + AllocGlobal>(rt: &R, words: &[String]) -> Result<u8, Memory>
-    ensures { IfOk result (IsRunOf (texts words.now)) }
+    ensures { IfOk result (IsRunOf board_claims (texts words.now)) }
 {
     let mut files = HostFiles::new(rt.alloc(), rt, words)?;
     let mut out = HostSink::new(rt);
     Ok(report(rt.alloc(), words, &mut files, &mut out))
-}
-
-// The status of a run as the exit code. Where memory ran out before it, it ends as one without memory.
-fn exit_code(outcome: Result<u8, Memory>) -> ExitCode
-    ensures status { (status : ℕ) → outcome ≡ Ok status → exit_status result ≡ status }
-    ensures memory { IsErr outcome → exit_status result ≡ 9 }
-{
-    ExitCode::from(outcome.unwrap_or(Status::OutOfMemory.code()))
 }

@@ -6,3 +6,6 @@ mod Values
 mod Texts
 mod Rows
 mod Sent
+mod read
+mod back
+mod Examples

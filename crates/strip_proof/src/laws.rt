@@ -1,12 +1,14 @@
 //! Laws of the definitions. Each function does nothing: its contract is the law.
-ghost use Rattle.std.specs.Prelude.{◌≡◌, ◌<◌, ◌^◌, ℕ, List, [], ◌++◌, length, map, codes};
+ghost use Rattle.std.specs.Prelude.{◌≡◌, ◌≢◌, ◌<◌, ◌^◌, ℕ, List, [], ◌++◌, length, map, codes, Ok, Err};
 ghost use Rattle.std.specs.Str.Parse.{digits_value};
 ghost use Rattle.strip_model.specs.Data.{InstanceData};
 ghost use Rattle.strip_film.specs.declared.shared.Line.{Line};
 ghost use Rattle.strip_text.specs.Field.{trimmed};
 ghost use Rattle.strip_text.specs.Rows.{rows_of, csv_text};
+ghost use Rattle.strip_proof.specs.declared.fault.PlanFault.TheVariants.{Memory};
 ghost use Rattle.strip_proof.specs.Plan.{PlanData};
 ghost use Rattle.strip_proof.specs.Rows.{set_field, head_rows, line_row, plan_text, bare_text};
+ghost use Rattle.strip_proof.specs.Text.{HasReadableScenes, IsReadablePlan, says};
 
 /// The text of a plan begins with the row `plan,2`.
 pub fn texts_begin_with_their_format()
@@ -31,4 +33,24 @@ pub fn line_rows_tell_their_lines()
     ensures count { (set : ℕ) → length (set_field set) ≡ 16 }
     ensures value { (set : ℕ) → set < 2 ^ 64 → digits_value 16 (set_field set) ≡ set }
     ensures apart { (a b : Line) → a.set < 2 ^ 64 → b.set < 2 ^ 64 → a.bound < 2 ^ 64 → b.bound < 2 ^ 64 → line_row a ≡ line_row b → a ≡ b }
+{}
+
+/// The text of a plan says the plan, with its kind, and without a proof the plan without lines: where
+/// the names of the scenes are such as a text can say an order by, and the plan is one that a text can
+/// say.
+pub fn written_plans_read_back()
+    ensures whole { (inst : InstanceData) (plan : PlanData) → HasReadableScenes inst → IsReadablePlan inst plan → says inst (plan_text inst plan) ≡ Ok plan }
+    ensures bare { (inst : InstanceData) (plan : PlanData) → HasReadableScenes inst → IsReadablePlan inst plan
+        → says inst (bare_text inst plan) ≡ Ok (record plan { lines = [] }) }
+{}
+
+/// A plan that a text says is one that a text can say, so that what was read and is written again
+/// reads back.
+pub fn what_is_said_is_readable()
+    ensures { (inst : InstanceData) (text : List ℕ) (plan : PlanData) → says inst text ≡ Ok plan → IsReadablePlan inst plan }
+{}
+
+/// No text says that memory ran out: that fault is of the machine alone.
+pub fn want_of_memory_is_never_said()
+    ensures { (inst : InstanceData) (text : List ℕ) → says inst text ≢ Err Memory }
 {}

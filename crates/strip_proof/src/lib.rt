@@ -1,13 +1,24 @@
-//! Plans: an order with its cost, a bound and the lines that prove it, and the text of a plan.
+//! Plans: an order with its cost, a bound and the lines that prove it, and the text of a plan,
+//! written and read.
 #![tactic(auto)]
 
+mod fault;
+mod field;
 mod head;
+mod head_rows;
 pub mod laws;
 mod line;
+mod line_rows;
+mod order;
 mod plan;
+mod reading;
+mod row;
 mod sending;
+mod told;
 
+pub use fault::PlanFault;
 pub use head::head_text;
 pub use line::{LineText, line_text};
 pub use plan::{Plan, Status};
+pub use reading::read_plan;
 pub use sending::send_lines;

@@ -6,7 +6,6 @@ use strip_answer::told_row;
 use strip_instance::InstanceFault;
 use strip_io::Memory;
 use strip_text::Told;
-use strip_top::Refusal;
 
 const REFUSED: [(&str, &str); 25] = [
     ("", "error,Empty,,\n"),
@@ -170,12 +169,6 @@ fn a_file_is_at_most_a_mebibyte(rt: HostRuntime) -> Result<(), Fail> {
 #[test]
 fn an_error_row_has_four_fields(rt: HostRuntime) -> Result<(), Fail> {
     let rows = [
-        (Some(Refusal::Words.told()), "error,Words,,\n"),
-        (Some(Refusal::TooLong.told()), "error,TooLong,,\n"),
-        (
-            Some(Refusal::TooManyClasses(65).told()),
-            "error,TooManyClasses,65,\n",
-        ),
         (InstanceFault::Empty.told(), "error,Empty,,\n"),
         (InstanceFault::Width { row: 3 }.told(), "error,Width,3,\n"),
         (

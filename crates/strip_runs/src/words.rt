@@ -21,7 +21,7 @@ const NO_JOB: [&[&str]; 20] = [
     &["solve", "f", "--table", "63"],
     &["solve", "f", "--bound", "pairs"],
     &["solve", "f", "--proof=yes"],
-    &["check", "f", "p"],
+    &["dood", "f", "p"],
     &["gen", "1", "201", "3"],
     &["gen", "1", "0", "3"],
 ];

@@ -1,5 +1,5 @@
 -- From the end of the classes' search to the film's plan.
-use Rattle.std.proofs.Common.{◌≡◌, ◌≢◌, ℕ, ◌+◌, ◌*◌, ◌≤◌, ◌==◌, true, List, [], ◌∷◌, ◌++◌, length, take, drop, inl, inr, ap, sym, subst, ◌∙◌, arith}
+use Rattle.std.proofs.Common.{◌≡◌, ◌≢◌, ℕ, ◌+◌, ◌*◌, ◌≤◌, ◌==◌, true, List, [], ◌∷◌, ◌++◌, length, count_by, take, drop, inl, inr, ap, sym, subst, ◌∙◌, arith}
 use Rattle.std.proofs.Math.Seq.{take-append_seam}
 use Rattle.std.proofs.lemmas.Bool.{cases_Bool}
 use Rattle.std.proofs.lemmas.Bool.Decides.{nat_tests}
@@ -10,7 +10,9 @@ use Rattle.strip_pay.specs.Film.{FilmData}
 use Rattle.strip_pay.specs.Order.{IsKeptOrder, IsOrder, Keeps, KeepsPair}
 use Rattle.strip_pay.specs.Pay.{IsLeast, IsOptimum, pay_of}
 use Rattle.strip_film.specs.Path.{PathData}
-use Rattle.strip_lines.specs.Lines.{rules_of}
+use Rattle.strip_film.specs.declared.shared.Line.{Line}
+use Rattle.strip_film.specs.Film.{all_scenes}
+use Rattle.strip_lines.specs.Lines.{AreJustified, known, rules_of}
 use Rattle.strip_count.specs.Paths.{factorial, few}
 use Rattle.strip_reduce.specs.Law.{StandsFor}
 use Rattle.strip_reduce.specs.Reduction.{reduced}
@@ -19,7 +21,9 @@ use Rattle.strip_team.specs.Ended.{EndedData, IsEnded}
 use Rattle.strip_proof.specs.declared.plan.Status.{Status}
 use Rattle.strip_proof.specs.declared.plan.Status.TheVariants.{Optimal, Bounded}
 use Rattle.strip_proof.specs.Plan.{PlanData}
-use Rattle.strip_solve.specs.Solved.{Closes, IsSolved, IsStart, RanOut, class_rules}
+use Rattle.strip_solve.specs.Solved.{AreRows, Closes, IsSolved, IsStart, RanOut, class_rules}
+use Rattle.strip_trim.proofs.Counted.{no_longer, no_more_of}
+use Rattle.strip_trim.proofs.Known.{justified, known_whole}
 
 -- without pairs every order keeps them
 pub kept_without_pairs : (film : FilmData) (order : List ℕ) → film.pairs ≡ [] → IsOrder (length film.casts) order → IsKeptOrder film order
@@ -62,8 +66,27 @@ module _ (kind : Kind) (film : FilmData) (most : ℕ) (start : PathData) (ended 
       let below : ended.bound ≤ optimum.0 = omega (arith, is.true_bound optimum.1.attained.0 optimum.1.attained.1, optimum.1.attained.2) in
       omega (arith, below, ((stands.optimum optimum.0).0 optimum.1).least order kept)
 
+  -- the lines that prove the bound are as good as those that were held, and no more
+  rows_justified : (s : Status) (lines : List Line) → AreRows (class_rules kind film) s ended.lines lines → AreJustified (class_rules kind film) lines
+  rows_justified Optimal lines rows = justified (class_rules kind film) ended.lines lines rows is.lines
+  rows_justified Bounded lines rows = subst (AreJustified (class_rules kind film)) (sym rows) is.lines
+
+  rows_known : (s : Status) (lines : List Line) → AreRows (class_rules kind film) s ended.lines lines
+      → known (class_rules kind film) lines (all_scenes state.film) ≡ known (class_rules kind film) ended.lines (all_scenes state.film)
+  rows_known Optimal lines rows = known_whole (class_rules kind film) ended.lines lines rows
+  rows_known Bounded lines rows = ap (λ (ls : List Line). known (class_rules kind film) ls (all_scenes state.film)) rows
+
+  rows_few : (s : Status) (lines : List Line) → AreRows (class_rules kind film) s ended.lines lines → length lines ≤ length ended.lines
+  rows_few Optimal lines rows = no_longer (class_rules kind film) ended.lines lines rows
+  rows_few Bounded lines rows = omega (arith, ap length rows)
+
+  rows_each : (s : Status) (lines : List Line) → AreRows (class_rules kind film) s ended.lines lines → (set : ℕ)
+      → count_by (λ line. line.set == set) lines ≤ count_by (λ line. line.set == set) ended.lines
+  rows_each Optimal lines rows set = no_more_of (class_rules kind film) ended.lines lines rows (λ line. line.set == set)
+  rows_each Bounded lines rows set = omega (arith, ap (count_by (λ line. line.set == set)) rows)
+
   module _ (order : List ℕ) (kept : IsKeptOrder state.film order) (pays : pay_of state.film order ≡ pay_of state.film ended.order) (status : Status)
-      (tells : Tells ended status) where
+      (tells : Tells ended status) (lines : List Line) (rows : AreRows (class_rules kind film) status ended.lines lines) where
     abbrev plan : PlanData
     plan = record {
       status = status;
@@ -72,7 +95,7 @@ module _ (kind : Kind) (film : FilmData) (most : ℕ) (start : PathData) (ended 
       bound = ended.bound + state.apart;
       held = ended.held;
       order = way_back state.members order;
-      lines = ended.lines;
+      lines = lines;
     }
 
     ran_out : ended.bound ≢ ended.cost → RanOut kind film most start plan
@@ -105,21 +128,25 @@ module _ (kind : Kind) (film : FilmData) (most : ℕ) (start : PathData) (ended 
       is_start = is_start;
       no_dearer = omega (arith, is.no_dearer);
       proof = record {
-        justified = is.lines;
-        reaches = omega (arith, is.bound);
+        found = ended.lines;
         held = is.held;
+        rows = rows;
+        justified = rows_justified status lines rows;
+        reaches = omega (arith, is.bound, rows_known status lines rows);
+        few_rows = omega (arith, is.held, rows_few status lines rows);
         candidates = is.candidates;
-        sets = is.sets;
+        sets = λ set. omega (arith, is.sets set, rows_each status lines rows set);
       };
       closes = closes status tells;
     }
 
 -- the same by the state that the code has
-abbrev Solves : Kind → FilmData → ℕ → PathData → EndedData → List ℕ → Status → State → Type 0
-Solves kind film most start ended order status draft =
+abbrev Solves : Kind → FilmData → ℕ → PathData → EndedData → List ℕ → Status → List Line → State → Type 0
+Solves kind film most start ended order status lines draft =
     StandsFor film draft → IsStart draft.film start → IsEnded kind draft.film start most ended → HasOptimum draft.film
     → few (rules_of kind draft.film) start.paid ≤ 2 * factorial (length draft.film.casts)
     → IsKeptOrder draft.film order → pay_of draft.film order ≡ pay_of draft.film ended.order → Tells ended status
+    → AreRows (rules_of kind draft.film) status ended.lines lines
     → IsSolved kind film most (record {
       status = status;
       kind = kind;
@@ -127,11 +154,11 @@ Solves kind film most start ended order status draft =
       bound = ended.bound + draft.apart;
       held = ended.held;
       order = way_back draft.members order;
-      lines = ended.lines;
+      lines = lines;
     })
 
-pub solved_by : (kind : Kind) (film : FilmData) (most : ℕ) (start : PathData) (ended : EndedData) (order : List ℕ) (status : Status) (draft : State)
-    → draft ≡ reduced film → Solves kind film most start ended order status draft
-solved_by kind film most start ended order status draft same =
-    subst (Solves kind film most start ended order status) (sym same)
-    (λ stands is_start is optimum orders kept pays tells. solved kind film most start ended stands is_start is optimum orders order kept pays status tells)
+pub solved_by : (kind : Kind) (film : FilmData) (most : ℕ) (start : PathData) (ended : EndedData) (order : List ℕ) (status : Status) (lines : List Line) (draft : State)
+    → draft ≡ reduced film → Solves kind film most start ended order status lines draft
+solved_by kind film most start ended order status lines draft same =
+    subst (Solves kind film most start ended order status lines) (sym same)
+    (λ stands is_start is optimum orders kept pays tells rows. solved kind film most start ended stands is_start is optimum orders order kept pays status tells lines rows)

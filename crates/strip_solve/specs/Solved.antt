@@ -4,12 +4,14 @@ use Rattle.strip_pay.specs.declared.kind.Kind.{Kind}
 use Rattle.strip_pay.specs.Film.{FilmData}
 use Rattle.strip_pay.specs.Order.{IsKeptOrder}
 use Rattle.strip_pay.specs.Pay.{IsLeast, pay_of}
+use Rattle.strip_film.specs.declared.shared.Line.{Line}
 use Rattle.strip_film.specs.Film.{all_scenes}
 use Rattle.strip_film.specs.Path.{PathData, IsComplete}
 use Rattle.strip_film.specs.Rules.{Rules}
 use Rattle.strip_lines.specs.Lines.{AreJustified, ahead, known, rules_of}
 use Rattle.strip_count.specs.Paths.{factorial, few, ways}
 use Rattle.strip_reduce.specs.Reduction.{reduced}
+use Rattle.strip_trim.specs.Trimmed.{AreTrimmed}
 use Rattle.strip_start.specs.Greedy.{IsGreedy}
 use Rattle.strip_start.specs.Moves.{IsImproved}
 use Rattle.strip_proof.specs.declared.plan.Status.{Status}
@@ -27,12 +29,20 @@ pub record IsStart (film : FilmData) (start : PathData) : Type 0 where
 abbrev pub class_rules : Kind → FilmData → Rules
 class_rules kind film = rules_of kind (reduced film).film
 
--- the lines are justified, and what they make known of all classes, with what is set apart, reaches the bound; they are at most as many as
--- the candidates of the start, in all and of each set
+-- the lines that prove a bound, of those that a search held: all of them, or where the bound is the cost those that the bound needs
+abbrev pub AreRows : Rules → Status → List Line → List Line → Type 0
+AreRows rules Optimal found lines = AreTrimmed rules found lines
+AreRows rules Bounded found lines = lines ≡ found
+
+-- the lines are those that the bound needs of as many as were held; they are justified, and what they make known of all classes, with what
+-- is set apart, reaches the bound; and as many as were held are at most the candidates of the start, as are the lines of each set
 pub record AreProof (kind : Kind) (film : FilmData) (start : PathData) (plan : PlanData) : Type 0 where
+  pub found : List Line
+  pub held : plan.held ≡ length found
+  pub rows : AreRows (class_rules kind film) plan.status found plan.lines
   pub justified : AreJustified (class_rules kind film) plan.lines
   pub reaches : plan.bound ≤ known (class_rules kind film) plan.lines (all_scenes (reduced film).film) + (reduced film).apart
-  pub held : plan.held ≡ length plan.lines
+  pub few_rows : length plan.lines ≤ plan.held
   pub candidates : plan.held ≤ few (class_rules kind film) start.paid
   pub sets : (set : ℕ) → count_by (λ line. line.set == set) plan.lines ≤ ways (class_rules kind film) start.paid set
 

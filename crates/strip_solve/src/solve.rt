@@ -11,16 +11,17 @@ ghost use Rattle.strip_reduce.specs.Law.{StandsFor};
 ghost use Rattle.strip_reduce.specs.Reduction.{class_count, reduced as reduction};
 ghost use Rattle.strip_reduce.specs.Shown.{reduced_data};
 ghost use Rattle.strip_proof.specs.Plan.{plan_data};
+ghost use Rattle.strip_proof.specs.Text.{IsReadablePlan};
+ghost use Rattle.strip_solve.specs.Searched.{IsProofOf, IsSearched};
 ghost use Rattle.strip_solve.specs.Solved.{IsSolved, IsStart};
-ghost use Rattle.strip_team.specs.Ended.{IsEnded};
-ghost use Rattle.strip_team.specs.Shown.{ended_data};
 
 use std::alloc::Global;
 use strip_bound::{BoundTables, Kept, static_bound};
 use strip_count::laws::paths_are_few;
 use strip_film::laws::{a_least_tail_exists, finishing_everything_is_the_optimum};
-use strip_film::{Film, Path};
+use strip_film::{Film, Line, Path};
 use strip_io::Memory;
+use strip_lines::laws::the_rules_are_true;
 use strip_mask::Mask;
 use strip_model::Instance;
 use strip_pay::Kind;
@@ -29,6 +30,7 @@ use strip_proof::{Plan, Status};
 use strip_reduce::{ReduceFault, Reduced, reduce};
 use strip_start::{greedy, improve};
 use strip_team::{Ended, alone};
+use strip_trim::trim;
 use strip_unreduce::{expand, orient};
 
 /// A plan of the instance, found by one worker with static bounds of this kind, at most `nodes` lines, 1 to
@@ -44,12 +46,19 @@ pub fn solve_alone(
     requires nodes { (1 ≤ nodes) × (nodes ≤ 16777216) }
     requires entries { (64 ≤ entries) × (entries ≤ 4194304) }
     ensures solved { IfOk result (λ plan. IsSolved kind (film_of inst.now) nodes (plan_data plan)) }
+    ensures readable { IfOk result (λ plan. IsReadablePlan inst.now (plan_data plan)) }
     ensures few { OnOk result (class_count (film_of inst.now) ≤ 64) }
     ensures too_many { (count : ℕ) → result ≡ Err (TooManyClasses count)
         → (64 < count) × (count ≡ class_count (film_of inst.now)) }
 {
+    inst.keeps_limits();
+    the_rules_are_true();
     let reduced = reduce(alloc, inst)?;
-    solve_classes(alloc, &reduced, kind, nodes, entries).map_err(|_| ReduceFault::Memory)
+    reduced.film.keeps_limits();
+    match solve_classes(alloc, &reduced, kind, nodes, entries) {
+        Ok(plan) => Ok(plan),
+        Err(Memory) => Err(ReduceFault::Memory),
+    }
 }
 
 /// A plan of any film that the classes stand for.
@@ -66,8 +75,15 @@ fn solve_classes(
         → IfOk result (λ plan. IsSolved kind film nodes (plan_data plan)) }
 {
     let start = improve(&reduced.film, &greedy(&reduced.film));
-    let ended = search(alloc, &reduced.film, kind, &start, nodes, entries)?;
-    plan_of(alloc, reduced, kind, &start, nodes, ended)
+    let searched = search(alloc, &reduced.film, kind, &start, nodes, entries)?;
+    plan_of(alloc, reduced, kind, &start, nodes, searched)
+}
+
+/// The end of a search, and where its bound is its cost, those of its lines that the bound needs.
+#[derive(Debug, Drop)]
+struct Searched {
+    ended: Ended,
+    trimmed: Option<Vec<Line>>,
 }
 
 /// The end of the search of a film that starts with this path.
@@ -78,17 +94,23 @@ fn search(
     start: &Path,
     nodes: u32,
     entries: u32,
-) -> Result<Ended, Memory>
+) -> Result<Searched, Memory>
     requires start { IsComplete film.now (path_data start.now) }
     requires nodes { (1 ≤ nodes) × (nodes ≤ 16777216) }
     requires entries { (64 ≤ entries) × (entries ≤ 4194304) }
-    ensures { IfOk result (λ ended. IsEnded kind film.now (path_data start.now) nodes (ended_data ended)) }
+    ensures { IfOk result (IsSearched kind film.now (path_data start.now) nodes) }
 {
     let tables = BoundTables::of(alloc, film)?;
     let kept = Kept::new(film, kind, |q, _need| {
         static_bound(film, &tables, kind, Mask(q))
     });
-    alone(alloc, &kept, start, nodes, entries)
+    let ended = alone(alloc, &kept, start, nodes, entries)?;
+    let trimmed = if ended.bound == ended.cost {
+        Some(trim(alloc, &kept, &ended.lines)?)
+    } else {
+        None
+    };
+    Ok(Searched { ended, trimmed })
 }
 
 /// The plan of the instance that the end of its classes' search stands for.
@@ -98,10 +120,10 @@ fn plan_of(
     kind: Kind,
     start: &Path,
     nodes: u32,
-    ended: Ended,
+    searched: Searched,
 ) -> Result<Plan, Memory>
     requires start { IsStart reduced.now.film (path_data start.now) }
-    requires ended { IsEnded kind reduced.now.film (path_data start.now) nodes (ended_data ended) }
+    requires searched { IsSearched kind reduced.now.film (path_data start.now) nodes searched }
     ensures { (film : FilmData) → reduced_data reduced.now ≡ reduction film → StandsFor film (reduced_data reduced.now)
         → IfOk result (λ plan. IsSolved kind film nodes (plan_data plan)) }
 {
@@ -110,21 +132,36 @@ fn plan_of(
     paths_are_few();
     a_least_tail_exists();
     finishing_everything_is_the_optimum();
-    let status = if ended.bound == ended.cost {
-        Status::Optimal
-    } else {
-        Status::Bounded
-    };
-    let order = oriented(&reduced.film, ended.order);
+    let Searched { ended, trimmed } = searched;
+    let Ended {
+        order,
+        cost,
+        bound,
+        held,
+        lines,
+        ..
+    } = ended;
+    let (status, lines) = proof_of(trimmed, lines);
+    let order = oriented(&reduced.film, order);
     Ok(Plan {
         status,
         kind,
-        cost: ended.cost + reduced.apart,
-        bound: ended.bound + reduced.apart,
-        held: ended.held,
+        cost: cost + reduced.apart,
+        bound: bound + reduced.apart,
+        held,
         order: expand(alloc, reduced, &order)?,
-        lines: ended.lines,
+        lines,
     })
+}
+
+/// The lines that prove the bound, of those that were found: where they were trimmed the bound is the cost.
+fn proof_of(trimmed: Option<Vec<Line>>, found: Vec<Line>) -> (Status, Vec<Line>)
+    ensures { IsProofOf trimmed found.items result.0 result.1.items }
+{
+    match trimmed {
+        Some(trimmed) => (Status::Optimal, trimmed),
+        None => (Status::Bounded, found),
+    }
 }
 
 /// The order, of it and its reverse always the same one, where no pair stands against it.

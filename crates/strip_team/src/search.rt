@@ -12,7 +12,7 @@ ghost use Rattle.strip_team.specs.Ended.{IsEnded};
 ghost use Rattle.strip_team.specs.Shown.{ended_data};
 ghost use Rattle.strip_team.specs.Team.{IsAlone, IsUnbegun, IsUnderWay, WalksTask, beginning};
 ghost use Rattle.strip_walk.specs.Found.{IsSearchOf, MayExplore};
-ghost use Rattle.strip_walk.specs.Scratch.{IsScratch};
+ghost use Rattle.strip_memo.specs.Memo.{IsMemo};
 
 use crate::ended::Ended;
 use crate::ending::end;
@@ -24,8 +24,9 @@ use strip_front::laws::tasks_are_starts;
 use strip_front::{Front, go_down, layers};
 use strip_hand::Hand;
 use strip_io::Memory;
+use strip_memo::Memo;
 use strip_race::{Limits, World};
-use strip_walk::{Found, Scratch, explore};
+use strip_walk::{Found, explore};
 
 /// Searches the film for a cheapest order, with one worker: it goes down the front, walks each task that is
 /// asked for, and closes the front up. It begins with a complete path, holds at most `cap` lines, at most
@@ -115,9 +116,9 @@ fn take_tasks<F: Fn(u64, u64) -> u64>(
     ensures walked { IfOk result (λ _. IsUnderWay kept.now.kind kept.now.film.now world.new (front_data front.now)
         walked.new.found.items (suc (length front.now.tasks.items)) walked.new.spent) }
 {
-    let mut scratch = Scratch::new(alloc, kept.kind())?;
+    let mut memo = Memo::new(alloc, kept)?;
     for task in 0..front.tasks.len() {
-        take_task(kept, world, front, task, walked, &mut scratch)?;
+        take_task(kept, world, front, task, walked, &mut memo)?;
     }
     Ok(())
 }
@@ -129,22 +130,22 @@ fn take_task<F: Fn(u64, u64) -> u64>(
     front: &Front,
     task: usize,
     walked: &mut Walked,
-    scratch: &mut Scratch,
+    memo: &mut Memo,
 ) -> Result<(), Memory>
     requires keeps { Keeps (F.pre kept.now.f) (F.post kept.now.f) kept.now.kind kept.now.film.now }
     requires task { task < length front.now.tasks.items }
     requires walked { IsUnderWay kept.now.kind kept.now.film.now world.old (front_data front.now) walked.old.found.items (task + 1)
         walked.old.spent }
-    requires scratch { IsScratch kept.now.kind kept.now.film.now scratch.old }
+    requires memo { IsMemo kept.now.kind kept.now.film.now memo.old }
     ensures search { IfOk result (λ _. world.new.search ≡ world.old.search) }
-    ensures scratch { IsScratch kept.now.kind kept.now.film.now scratch.new }
+    ensures memo { IsMemo kept.now.kind kept.now.film.now memo.new }
     ensures walked { IfOk result (λ _. IsUnderWay kept.now.kind kept.now.film.now world.new (front_data front.now)
         walked.new.found.items (task + 2) walked.new.spent) }
 {
     // The parts are claimed in turn, so this one is the task's.
     world.claim();
     if front.wanted[task] {
-        let found = walk(kept, world, &front.tasks[task], task as u32 + 1, scratch)?;
+        let found = walk(kept, world, &front.tasks[task], task as u32 + 1, memo)?;
         walked.found[task] = found.bound;
         walked.spent |= found.spent;
     }
@@ -157,19 +158,19 @@ fn walk<F: Fn(u64, u64) -> u64>(
     world: &mut World,
     task: &Path,
     part: u32,
-    scratch: &mut Scratch,
+    memo: &mut Memo,
 ) -> Result<Found, Memory>
     requires keeps { Keeps (F.pre kept.now.f) (F.post kept.now.f) kept.now.kind kept.now.film.now }
     requires sound { IsOwned world.old }
     requires search { IsSearchOf kept.now.kind kept.now.film.now (hand_data world.old) }
-    requires scratch { IsScratch kept.now.kind kept.now.film.now scratch.old }
+    requires memo { IsMemo kept.now.kind kept.now.film.now memo.old }
     requires may { MayExplore (hand_data world.old) (beginning part) (path_data task.now) }
     ensures sound { IsOwned world.new }
     ensures workers { length world.new.workers ≡ length world.old.workers }
-    ensures scratch { IsScratch kept.now.kind kept.now.film.now scratch.new }
+    ensures memo { IsMemo kept.now.kind kept.now.film.now memo.new }
     ensures walked { IfOk result (λ found. WalksTask (hand_data world.old) part (path_data task.now) found (hand_data world.new)) }
 {
     let mut cursor = Cursor::of(part);
     let mut running = Running::of(kept.film(), task);
-    explore(kept, world, &mut cursor, &mut running, scratch)
+    explore(kept, world, &mut cursor, &mut running, memo)
 }

@@ -8,7 +8,7 @@ const BAD: [&[&str]; 49] = [
     &[],
     &["solve"],
     &["Solve", "f"],
-    &["check", "f", "p"],
+    &["dood", "f", "p"],
     &["f", "solve"],
     &["solve", "a", "b"],
     &["solve", ""],
@@ -126,12 +126,25 @@ fn the_file(rt: HostRuntime) -> Result<(), Fail> {
     let alloc = rt.alloc();
     for (words, file) in &FILES {
         let words = words_of(alloc, words)?;
-        let Job::Solve(job) = job(alloc, &words)?;
-        assert_eq!(rt; job.file.as_str(), *file);
-        assert_eq!(rt; (job.workers, job.nodes, job.table), (1, 1_000_000, 65_536));
-        assert_eq!(rt; (job.kind, job.proof), (Kind::Pairs, false));
+        let job = job(alloc, &words)?;
+        assert!(rt; is_plain_job(&job, file));
     }
     Ok(())
+}
+
+/// Whether it is the job to solve this file with what options are by themselves.
+fn is_plain_job(job: &Job, file: &str) -> bool {
+    match job {
+        Job::Solve(job) => {
+            job.file.as_str() == file
+                && job.workers == 1
+                && job.nodes == 1_000_000
+                && job.table == 65_536
+                && job.kind == Kind::Pairs
+                && !job.proof
+        }
+        Job::Check(_) | Job::Convert(_) => false,
+    }
 }
 
 #[test]
@@ -139,13 +152,44 @@ fn the_options(rt: HostRuntime) -> Result<(), Fail> {
     let alloc = rt.alloc();
     for row in &ROWS {
         let words = words_of(alloc, row.words)?;
-        let Job::Solve(job) = job(alloc, &words)?;
-        assert_eq!(rt; job.file.as_str(), "f");
-        assert_eq!(rt;
-            (job.workers, job.nodes, job.table),
-            (row.workers, row.nodes, row.table)
-        );
-        assert_eq!(rt; (job.kind, job.proof), (row.kind, row.proof));
+        let job = job(alloc, &words)?;
+        assert!(rt; is_job_of(&job, row));
     }
     Ok(())
+}
+
+/// Whether it is the job to solve the file `f` with the row's options.
+fn is_job_of(job: &Job, row: &Row) -> bool {
+    match job {
+        Job::Solve(job) => {
+            job.file.as_str() == "f"
+                && job.workers == row.workers
+                && job.nodes == row.nodes
+                && job.table == row.table
+                && job.kind == row.kind
+                && job.proof == row.proof
+        }
+        Job::Check(_) | Job::Convert(_) => false,
+    }
+}
+
+/// The commands that take a film's file and a plan's.
+#[test]
+fn the_files_of_a_plan(rt: HostRuntime) -> Result<(), Fail> {
+    let alloc = rt.alloc();
+    for words in [["check", "f", "p"], ["convert", "f", "p"]] {
+        let words = words_of(alloc, &words)?;
+        let job = job(alloc, &words)?;
+        assert!(rt; is_of_plan(&job, "f", "p"));
+    }
+    Ok(())
+}
+
+fn is_of_plan(job: &Job, film: &str, plan: &str) -> bool {
+    match job {
+        Job::Solve(_) => false,
+        Job::Check(files) | Job::Convert(files) => {
+            files.film.as_str() == film && files.plan.as_str() == plan
+        }
+    }
 }

@@ -1,2 +1,2 @@
-mod FileKinds
-mod Endings
+pub mod Boards
+pub mod Printed

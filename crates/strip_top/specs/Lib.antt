@@ -1,5 +1,4 @@
-pub mod Refusal
 pub mod Plan
 pub mod Solve
+pub mod Convert
 pub mod Due
-pub mod Headline

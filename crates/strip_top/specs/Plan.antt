@@ -1,5 +1,5 @@
 -- The plan that is printed.
-use Rattle.std.specs.Prelude.{◌≡◌, ℕ, Bool, if◌then◌else◌, List, []}
+use Rattle.std.specs.Prelude.{◌≡◌, ℕ, Bool, true, if◌then◌else◌, List, [], Ok}
 use Rattle.strip_model.specs.Data.{InstanceData, IsInstance}
 use Rattle.strip_model.specs.Film.{film_of}
 use Rattle.strip_words.specs.Solve.{SolveData}
@@ -7,6 +7,8 @@ use Rattle.strip_proof.specs.declared.plan.Status.{Status as PlanStatus}
 use Rattle.strip_proof.specs.declared.plan.Status.TheVariants.{Optimal, Bounded as CutShort}
 use Rattle.strip_proof.specs.Plan.{PlanData}
 use Rattle.strip_proof.specs.Rows.{bare_text, plan_text}
+use Rattle.strip_proof.specs.Text.{says}
+use Rattle.strip_check.specs.Accepted.{IsAccepted}
 use Rattle.strip_solve.specs.Solved.{IsSolved}
 use Rattle.strip_answer.specs.declared.status.Status.{Status}
 use Rattle.strip_answer.specs.declared.status.Status.TheVariants.{Done, Bounded}
@@ -21,7 +23,8 @@ exit_of Optimal = Done
 exit_of CutShort = Bounded
 
 -- the text is that of a plan of the instance, which is what the job asks for, and the status tells whether it is optimal; the instance
--- keeps the limits, and has no pairs, so that every order keeps them
+-- keeps the limits, and has no pairs, so that every order keeps them; and where a proof is asked for, the text says this plan, which a
+-- checker accepts
 pub record IsPlan (job : SolveData) (inst : InstanceData) (status : Status) (printed : List ℕ) : Type 0 where
   pub is_instance : IsInstance inst
   pub no_pairs : inst.pairs ≡ []
@@ -29,3 +32,4 @@ pub record IsPlan (job : SolveData) (inst : InstanceData) (status : Status) (pri
   pub solved : IsSolved job.kind (film_of inst) job.nodes plan
   pub ends : status ≡ exit_of plan.status
   pub text : printed ≡ text_of job.proof inst plan
+  pub proves : job.proof ≡ true → (says inst printed ≡ Ok plan) × IsAccepted (film_of inst) plan

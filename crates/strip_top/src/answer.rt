@@ -1,14 +1,16 @@
 // What is due for the words and the files, before anything is written.
 ghost use Rattle.std.specs.Prelude.{◌≡◌, Err, IfOk};
 ghost use Rattle.strip_words.specs.Shown.{job_data, texts};
+ghost use Rattle.strip_answer.specs.Claims.{AsksFor, IsDue};
 ghost use Rattle.strip_answer.specs.Ending.{answer_text};
 ghost use Rattle.strip_answer.specs.Run.{FilesStay, HasReadFault, files_data};
-ghost use Rattle.strip_top.specs.Due.{AsksFor, IsDue, IsDueFor, IsFileOf, IsWithin};
+ghost use Rattle.strip_top.specs.Due.{IsDueFor, IsFileOf, IsWithin, board_claims};
 
-use crate::refusal::Refusal;
+use crate::convert::convert;
 use crate::solve::solve;
 use std::alloc::Global;
-use strip_answer::{Answer, Status, Stop};
+use strip_answer::{Answer, Stop};
+use strip_audit::audit;
 use strip_io::Files;
 use strip_words::laws::numbers_lie_within_their_ends;
 use strip_words::{Job, WordsFault, job};
@@ -19,25 +21,23 @@ pub(crate) fn answer_words<F: Files>(
     words: &[String],
     files: &mut F,
 ) -> Result<Answer, Stop>
-    ensures due { IfOk result (λ answer. IsDue (texts words.now)
+    ensures due { IfOk result (λ answer. IsDue board_claims (texts words.now)
         (files_data (F.holds files.old) (F.bytes files.old) (F.faults files.old) (F.came files.old))
         (files_data (F.holds files.new) (F.bytes files.new) (F.faults files.new) (F.came files.new))
         answer.status (answer_text answer)) }
     ensures read { result ≡ Err Stop.Read → HasReadFault
         (files_data (F.holds files.old) (F.bytes files.old) (F.faults files.old) (F.came files.old))
         (files_data (F.holds files.new) (F.bytes files.new) (F.faults files.new) (F.came files.new))
-        (AsksFor (texts words.now)) }
+        (AsksFor board_claims (texts words.now)) }
     ensures files { FilesStay
         (files_data (F.holds files.old) (F.bytes files.old) (F.faults files.old) (F.came files.old))
         (files_data (F.holds files.new) (F.bytes files.new) (F.faults files.new) (F.came files.new))
-        (AsksFor (texts words.now)) (result ≡ Err Stop.Read) }
+        (AsksFor board_claims (texts words.now)) (result ≡ Err Stop.Read) }
 {
     numbers_lie_within_their_ends();
     match job(alloc, words) {
         Ok(job) => answer_job(alloc, files, &job),
-        Err(WordsFault::BadWords) => {
-            Ok(Answer::error(alloc, Status::NoJob, Refusal::Words.told())?)
-        }
+        Err(WordsFault::BadWords) => Ok(Answer::no_job(alloc)?),
         Err(WordsFault::Memory) => Err(Stop::Memory),
     }
 }
@@ -60,5 +60,7 @@ fn answer_job<F: Files>(alloc: Global, files: &mut F, job: &Job) -> Result<Answe
 {
     match job {
         Job::Solve(job) => solve(alloc, files, job),
+        Job::Check(names) => audit(alloc, files, names),
+        Job::Convert(names) => convert(alloc, files, names),
     }
 }

@@ -2,10 +2,8 @@
 #![tactic(auto)]
 
 mod answer;
+mod convert;
 mod program;
-mod refusal;
 mod solve;
 
 pub use program::report;
-pub use refusal::Refusal;
-pub use solve::MAX_FILE;

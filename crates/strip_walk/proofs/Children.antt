@@ -1,8 +1,8 @@
 -- Which children were ruled out so far.
-use Rattle.std.proofs.Common.{◌≡◌, ℕ, ◌+◌, ◌^◌, ◌<◌, ◌≤◌, inl, inr, min, true, false, MatchBool, nat_lt, List, [], ◌∷◌, ◌++◌, length, Contains, sym, ◌∙◌, subst, arith}
+use Rattle.std.proofs.Common.{Bool, ◌&&◌, not, ap₂, refl, ◌≡◌, ℕ, ◌+◌, ◌^◌, ◌<◌, ◌≤◌, inl, inr, min, true, false, MatchBool, nat_lt, List, [], ◌∷◌, ◌++◌, length, Contains, sym, ◌∙◌, subst, arith}
 use Rattle.std.proofs.lemmas.Bool.{cases_eq, cases_lt, le-ltb, lt-ltb}
 use Rattle.std.proofs.lemmas.Bool.Decides.{when_false, when_true}
-use Rattle.std.proofs.lemmas.List.Elements.{Contains-append_left, Contains-push, Contains-push_cases}
+use Rattle.std.proofs.lemmas.List.Elements.{Contains-append_cases, Contains-append_left, Contains-append_right, Contains-push, Contains-push_cases}
 use Rattle.strip_mask.specs.Set.{has, members, with, without}
 use Rattle.strip_mask.proofs.Below.{LiesBelow-without, is_set_below}
 use Rattle.strip_mask.proofs.ByMembers.{has-empty, has-with_other, has-with_same}
@@ -21,26 +21,19 @@ use Rattle.strip_bound.proofs.Small.{bound_small}
 use Rattle.strip_rule.specs.Rule.{open_firsts}
 use Rattle.strip_rule.proofs.Open.{open_is}
 use Rattle.strip_walk.specs.declared.found.Sifted.{Sifted}
-use Rattle.strip_walk.specs.Sifted.{AreSifted}
-
--- of the scenes so far: those to be walked are among them, the least reaches no further than any other, and takes all of the room
-pub record AreSiftedSo (kind : Kind) (film : FilmData) (set room : ℕ) (done : List ℕ) (sifted : Sifted) : Type 0 where
-  pub within : (scene : ℕ) → has sifted.visit.0 scene ≡ true → Contains done scene
-  pub passed : (scene : ℕ) → Contains done scene → has sifted.visit.0 scene ≡ false
-      → sifted.least ≤ step_cost film set scene + bound kind film (without set scene)
-  pub enough : room ≤ sifted.least
+use Rattle.strip_walk.specs.Sifted.{AreSifted, AreWeighed}
 
 pub sifted_none : (kind : Kind) (film : FilmData) (set room least : ℕ) → room ≤ least
-    → AreSiftedSo kind film set room [] (record { visit = record { 0 = 0 }; least = least })
+    → AreWeighed kind film set room [] (record { visit = record { 0 = 0 }; least = least })
 sifted_none kind film set room least enough = record {
   within = λ scene visited. absurd (let e : has 0 scene ≡ false = has-empty scene in cc);
   passed = λ scene there. absurd (contains_none scene there);
   enough = enough;
 }
 
-module _ (kind : Kind) (film : FilmData) (set room : ℕ) (done : List ℕ) (s rest : ℕ) (sifted : Sifted) (so : AreSiftedSo kind film set room done sifted) where
+module _ (kind : Kind) (film : FilmData) (set room : ℕ) (done : List ℕ) (s rest : ℕ) (sifted : Sifted) (so : AreWeighed kind film set room done sifted) where
   -- it has to be walked
-  sifted_visit : AreSiftedSo kind film set room (done ++ s ∷ []) (record { visit = record { 0 = with sifted.visit.0 s }; least = sifted.least })
+  sifted_visit : AreWeighed kind film set room (done ++ s ∷ []) (record { visit = record { 0 = with sifted.visit.0 s }; least = sifted.least })
   sifted_visit = record {
     within = λ scene visited. elim (cases_eq s scene) [
       | inl same ↦ subst (Contains (done ++ s ∷ [])) same (Contains-push done s)
@@ -58,7 +51,7 @@ module _ (kind : Kind) (film : FilmData) (set room : ℕ) (done : List ℕ) (s r
 
   -- it is ruled out
   sifted_out : rest ≤ bound kind film (without set s) → room ≤ step_cost film set s + rest
-      → AreSiftedSo kind film set room (done ++ s ∷ []) (record { visit = sifted.visit; least = min sifted.least (step_cost film set s + rest) })
+      → AreWeighed kind film set room (done ++ s ∷ []) (record { visit = sifted.visit; least = min sifted.least (step_cost film set s + rest) })
   sifted_out most full = record {
     within = λ scene visited. Contains-append_left done (s ∷ []) scene (so.within scene visited);
     passed = λ scene there out. elim (Contains-push_cases done s scene there) [
@@ -72,17 +65,17 @@ module _ (kind : Kind) (film : FilmData) (set room : ℕ) (done : List ℕ) (s r
       → MatchBool (nat_lt (step_cost film set s + rest) room)
       (next ≡ record { visit = record { 0 = with sifted.visit.0 s }; least = sifted.least })
       (next ≡ record sifted { least = min sifted.least (step_cost film set s + rest) })
-      → AreSiftedSo kind film set room (done ++ s ∷ []) next
+      → AreWeighed kind film set room (done ++ s ∷ []) next
   sifted_more next most chosen = elim (cases_lt (step_cost film set s + rest) room) [
-    | inl less ↦ subst (AreSiftedSo kind film set room (done ++ s ∷ []))
+    | inl less ↦ subst (AreWeighed kind film set room (done ++ s ∷ []))
         (sym (when_true (next ≡ record { visit = record { 0 = with sifted.visit.0 s }; least = sifted.least })
         (next ≡ record sifted { least = min sifted.least (step_cost film set s + rest) }) (lt-ltb (step_cost film set s + rest) room less) chosen)) sifted_visit
-    | inr full ↦ subst (AreSiftedSo kind film set room (done ++ s ∷ []))
+    | inr full ↦ subst (AreWeighed kind film set room (done ++ s ∷ []))
         (sym (when_false (next ≡ record { visit = record { 0 = with sifted.visit.0 s }; least = sifted.least })
         (next ≡ record sifted { least = min sifted.least (step_cost film set s + rest) }) (le-ltb (step_cost film set s + rest) room full) chosen)) (sifted_out most full)
   ]
 
-module _ (kind : Kind) (film : FilmData) (path : PathData) (is : IsFilm film) (within : IsPath film path) where
+module _ (kind : Kind) (film : FilmData) (path : PathData) (is_film : IsFilm film) (within : IsPath film path) where
   lies : LiesIn film path.rest
   lies = rest_lies film path within
 
@@ -97,17 +90,36 @@ module _ (kind : Kind) (film : FilmData) (path : PathData) (is : IsFilm film) (w
   child_fits s rest first most =
       omega (
         arith,
-        step_limit film path.rest s is (is_set_below (length film.casts) path.rest is.scene_count.1 lies) (first_there s first),
-        bound_small kind film (without path.rest s) is (child_lies s),
+        step_limit film path.rest s is_film (is_set_below (length film.casts) path.rest is_film.scene_count.1 lies) (first_there s first),
+        bound_small kind film (without path.rest s) is_film (child_lies s),
         most,
       )
 
-  pub sifted_all : (told room : ℕ) (done : List ℕ) (sifted : Sifted) → told ≤ path.paid + room → done ≡ members (open_firsts film path.rest)
-      → AreSiftedSo kind film path.rest room done sifted → AreSifted kind film path told sifted
-  sifted_all told room done sifted whole all so = record {
-    within = λ scene visited. has_from_members (open_firsts film path.rest) scene (subst (λ (xs : List ℕ). Contains xs scene) all (so.within scene visited));
-    passed = λ scene first out. so.passed scene (subst (λ (xs : List ℕ). Contains xs scene) (sym all)
-        (Contains-members (open_firsts film path.rest) scene
-        (is_set_below (length film.casts) (open_firsts film path.rest) is.scene_count.1 (λ x there. lies x (first_there x there))) first)) out;
+  -- where some of the open firsts are weighed, and then the others
+  pub sifted_all : (told room part others : ℕ) (sifted : Sifted) → told ≤ path.paid + room
+      → ((scene : ℕ) → has part scene ≡ true → has (open_firsts film path.rest) scene ≡ true)
+      → ((scene : ℕ) → has others scene ≡ (has (open_firsts film path.rest) scene && not (has part scene)))
+      → AreWeighed kind film path.rest room (members part ++ members others) sifted → AreSifted kind film path told sifted
+  sifted_all told room part others sifted whole within rest so = record {
+    within = λ scene visited. elim (Contains-append_cases (members part) (members others) scene (so.within scene visited)) [
+      | inl first ↦ within scene (has_from_members part scene first)
+      | inr second ↦ both (has (open_firsts film path.rest) scene) (has part scene) (sym (rest scene) ∙ has_from_members others scene second)
+    ];
+    passed = λ scene first out. so.passed scene (there scene first (has part scene) refl) out;
     enough = omega (arith, whole, so.enough);
   }
+    where
+      both : (a b : Bool) → (a && not b) ≡ true → a ≡ true
+      both true b is = refl
+      both false b is = absurd (let e : false ≡ true = is in cc)
+
+      below : (set scene : ℕ) → ((x : ℕ) → has set x ≡ true → has (open_firsts film path.rest) x ≡ true) → has set scene ≡ true → Contains (members set) scene
+      below set scene inside is =
+          Contains-members set scene (is_set_below (length film.casts) set is_film.scene_count.1 (λ x has_x. lies x (first_there x (inside x has_x)))) is
+
+      there : (scene : ℕ) → has (open_firsts film path.rest) scene ≡ true → (b : Bool) → has part scene ≡ b → Contains (members part ++ members others) scene
+      there scene first true is = Contains-append_left (members part) (members others) scene (below part scene within is)
+      there scene first false is =
+          let mine : has others scene ≡ true = rest scene ∙ ap₂ (λ a b. a && not b) first is in
+          Contains-append_right (members part) (members others) scene
+          (below others scene (λ x has_x. both (has (open_firsts film path.rest) x) (has part x) (sym (rest x) ∙ has_x)) mine)

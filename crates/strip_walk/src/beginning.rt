@@ -6,15 +6,15 @@ ghost use Rattle.strip_film.specs.Shown.{cursor_data, path_data};
 ghost use Rattle.strip_bound.specs.Kept.{Keeps};
 ghost use Rattle.strip_walk.specs.Found.{IsSearchOf, MayExplore};
 ghost use Rattle.strip_walk.specs.Begun.{Asks, Begins, IsBest, IsThrough, IsWeighed, Meets, Offers};
-ghost use Rattle.strip_walk.specs.Scratch.{IsScratch};
+ghost use Rattle.strip_memo.specs.Memo.{IsMemo};
 
 use crate::found::{Begun, Found, Met, Opened, Passed};
-use crate::scratch::Scratch;
 use strip_bound::Kept;
 use strip_film::{Cursor, Listed, Path, Probe};
 use strip_hand::Hand;
 use strip_io::Memory;
 use strip_mask::Mask;
+use strip_memo::Memo;
 
 /// Offers a path after which nothing remains.
 pub(crate) fn offer<H: Hand>(hand: &mut H, path: &Path) -> Found
@@ -39,21 +39,21 @@ pub(crate) fn begin<H: Hand, F: Fn(u64, u64) -> u64>(
     hand: &mut H,
     cursor: &mut Cursor,
     path: &Path,
-    scratch: &mut Scratch,
+    memo: &mut Memo,
 ) -> Result<Begun, Memory>
     requires sound { H.is_sound hand.old }
     requires keeps { Keeps (F.pre kept.now.f) (F.post kept.now.f) kept.now.kind kept.now.film.now }
     requires search { IsSearchOf kept.now.kind kept.now.film.now (H.shows hand.old) }
-    requires scratch { IsScratch kept.now.kind kept.now.film.now scratch.old }
+    requires memo { IsMemo kept.now.kind kept.now.film.now memo.old }
     requires may { MayExplore (H.shows hand.old) (cursor_data cursor.old) (path_data path.now) }
     requires some { (path_data path.now).rest ≢ 0 }
     ensures sound { H.is_sound hand.new }
     ensures home { H.home hand.new ≡ H.home hand.old }
-    ensures scratch { IsScratch kept.now.kind kept.now.film.now scratch.new }
+    ensures memo { IsMemo kept.now.kind kept.now.film.now memo.new }
     ensures begun { Begins (H.shows hand.old) (cursor_data cursor.old) (path_data path.now) result
         (H.shows hand.new) (cursor_data cursor.new) }
 {
-    let met = meet(kept, hand, path, scratch);
+    let met = meet(kept, hand, path, memo);
     hand.keeps_limits();
     match met {
         Met::Cut(found) => Ok(Begun::Answered(found)),
@@ -66,21 +66,21 @@ fn meet<H: Hand, F: Fn(u64, u64) -> u64>(
     kept: &Kept<F>,
     hand: &mut H,
     path: &Path,
-    scratch: &mut Scratch,
+    memo: &mut Memo,
 ) -> Met
     requires sound { H.is_sound hand.old }
     requires keeps { Keeps (F.pre kept.now.f) (F.post kept.now.f) kept.now.kind kept.now.film.now }
     requires search { IsSearchOf kept.now.kind kept.now.film.now (H.shows hand.old) }
-    requires scratch { IsScratch kept.now.kind kept.now.film.now scratch.old }
+    requires memo { IsMemo kept.now.kind kept.now.film.now memo.old }
     requires lies { LiesIn kept.now.film.now (path_data path.now).rest }
     ensures sound { H.is_sound hand.new }
     ensures home { H.home hand.new ≡ H.home hand.old }
-    ensures scratch { IsScratch kept.now.kind kept.now.film.now scratch.new }
+    ensures memo { IsMemo kept.now.kind kept.now.film.now memo.new }
     ensures met { Meets (H.shows hand.old) (path_data path.now) result (H.shows hand.new) }
 {
     let told = hand.look();
     let room = told.saturating_sub(path.paid());
-    let bound = scratch.reach(kept, path.rest(), room);
+    let bound = memo.reach(kept, path.rest(), room);
     if bound >= room {
         return Met::Cut(Found {
             bound,

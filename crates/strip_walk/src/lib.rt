@@ -4,10 +4,8 @@
 mod beginning;
 mod ending;
 mod found;
-mod scratch;
 mod sifting;
 mod walk;
 
 pub use found::Found;
-pub use scratch::Scratch;
 pub use walk::explore;

@@ -5,17 +5,17 @@ ghost use Rattle.strip_film.specs.Shown.{cursor_data, running_data};
 ghost use Rattle.strip_bound.specs.Kept.{Keeps};
 ghost use Rattle.strip_walk.specs.Found.{IsSearchOf, MayExplore};
 ghost use Rattle.strip_walk.specs.Walked.{Explores};
-ghost use Rattle.strip_walk.specs.Scratch.{IsScratch};
+ghost use Rattle.strip_memo.specs.Memo.{IsMemo};
 
 use crate::beginning::{begin, offer};
 use crate::ending::close;
 use crate::found::{Begun, Found};
-use crate::scratch::Scratch;
 use crate::sifting::sift;
 use strip_bound::Kept;
 use strip_film::{Cursor, Known, Running};
 use strip_hand::Hand;
 use strip_io::Memory;
+use strip_memo::Memo;
 
 /// Explores the path of `running`: it is ruled out by its static bound or a known line, or enlisted, and
 /// then those of its open firsts are shot next, by rising number, whose step and static bound don't rule
@@ -30,17 +30,17 @@ pub fn explore<H: Hand, F: Fn(u64, u64) -> u64>(
     hand: &mut H,
     cursor: &mut Cursor,
     running: &mut Running,
-    scratch: &mut Scratch,
+    memo: &mut Memo,
 ) -> Result<Found, Memory>
     requires sound { H.is_sound hand.old }
     requires keeps { Keeps (F.pre kept.now.f) (F.post kept.now.f) kept.now.kind kept.now.film.now }
     requires search { IsSearchOf kept.now.kind kept.now.film.now (H.shows hand.old) }
-    requires scratch { IsScratch kept.now.kind kept.now.film.now scratch.old }
+    requires memo { IsMemo kept.now.kind kept.now.film.now memo.old }
     requires running { IsRunning kept.now.film.now (running_data running.old) }
     requires may { MayExplore (H.shows hand.old) (cursor_data cursor.old) (running_data running.old).path }
     ensures sound { H.is_sound hand.new }
     ensures home { H.home hand.new ≡ H.home hand.old }
-    ensures scratch { IsScratch kept.now.kind kept.now.film.now scratch.new }
+    ensures memo { IsMemo kept.now.kind kept.now.film.now memo.new }
     ensures running { IfOk result (λ _. IsRunning kept.now.film.now (running_data running.new)
         × ((running_data running.new).path ≡ (running_data running.old).path)) }
     ensures explored { Explores (H.shows hand.old) (cursor_data cursor.old) (running_data running.old).path result
@@ -51,18 +51,18 @@ pub fn explore<H: Hand, F: Fn(u64, u64) -> u64>(
     if running.rest().is_empty() {
         return Ok(offer(hand, running.path()));
     }
-    let opened = match begin(kept, hand, cursor, running.path(), scratch)? {
+    let opened = match begin(kept, hand, cursor, running.path(), memo)? {
         Begun::Answered(found) => return Ok(found),
         Begun::Enlisted(opened) => opened,
     };
     hand.keeps_limits();
-    let mut sifted = sift(kept, running, scratch, opened.told);
+    let mut sifted = sift(kept, running, memo, opened.told);
     let mut spent = false;
     for s in sifted.visit.iter() {
         let paid = running.paid();
         running.take(film, s);
         let step = running.paid() - paid;
-        let found = explore(kept, hand, cursor, running, scratch)?;
+        let found = explore(kept, hand, cursor, running, memo)?;
         hand.keeps_limits();
         running.back(film);
         sifted.least = sifted.least.min(step + found.bound);

@@ -6,4 +6,5 @@ pub mod Spelled
 pub mod Given
 pub mod Shows
 pub mod Solving
+pub mod Planning
 pub mod OneJob

@@ -11,7 +11,7 @@ use Rattle.strip_pay.proofs.Lists.{same_test}
 use Rattle.strip_words.proofs.Given.{chosen_once, picked_once}
 use Rattle.strip_words.proofs.Spelled.{said}
 
-differ : {A : Type 0} (a b : Word) → bytes_eq a b ≡ false → a ≡ b → A
+pub differ : {A : Type 0} (a b : Word) → bytes_eq a b ≡ false → a ≡ b → A
 differ a b other same = absurd (true≢false (sym ((bytes_eq-Decides a b).1 same) ∙ other))
 
 kind_once : (a b : Kind) → bound_word a ≡ bound_word b → a ≡ b

@@ -6,15 +6,17 @@ use Rattle.std.specs.declared.alloc.Global.{Global}
 use Rattle.strip_words.specs.Words.{Word, Command as CommandData, Item as ItemData, Operand as AnOperand, Joined as AJoined, Apart as AnApart, Flag as AFlag}
 use Rattle.strip_words.specs.Options.{NumberOption as NumberData, ChoiceOption as ChoiceData}
 use Rattle.strip_words.specs.Solve.{SolveData}
-use Rattle.strip_words.specs.Jobs.{JobData, Solve as ToSolve}
+use Rattle.strip_words.specs.Plans.{PlanFilesData}
+use Rattle.strip_words.specs.Jobs.{JobData, Solve as ToSolve, Check as ToCheck, Convert as ToConvert}
 use Rattle.strip_words.specs.declared.command.Command.{Command}
 use Rattle.strip_words.specs.declared.command.NumberOption.{NumberOption}
 use Rattle.strip_words.specs.declared.command.ChoiceOption.{ChoiceOption}
 use Rattle.strip_words.specs.declared.command.CommandOption.{CommandOption}
 use Rattle.strip_words.specs.declared.command.CommandOption.TheVariants.{Number, Choice, Flag as FlagOption}
 use Rattle.strip_words.specs.declared.solve.SolveJob.{SolveJob}
+use Rattle.strip_words.specs.declared.plans.PlanFiles.{PlanFiles}
 use Rattle.strip_words.specs.declared.jobs.Job.{Job}
-use Rattle.strip_words.specs.declared.jobs.Job.TheVariants.{Solve}
+use Rattle.strip_words.specs.declared.jobs.Job.TheVariants.{Solve, Check, Convert}
 use Rattle.strip_words.specs.declared.item.Item.{Item}
 use Rattle.strip_words.specs.declared.item.Item.TheVariants.{Operand, Joined, Apart, Flag}
 
@@ -74,5 +76,11 @@ solve_data job = record {
   proof = job.proof;
 }
 
+-- a film's file and a plan's, as bytes
+abbrev pub plan_files_data : PlanFiles → PlanFilesData
+plan_files_data files = record { film = string_bytes files.film; plan = string_bytes files.plan }
+
 abbrev pub job_data : Job → JobData
 job_data (Solve job) = ToSolve (solve_data job)
+job_data (Check files) = ToCheck (plan_files_data files)
+job_data (Convert files) = ToConvert (plan_files_data files)

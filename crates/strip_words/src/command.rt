@@ -1,6 +1,7 @@
 // Commands and their options, as records.
 
 /// A command: its word, how many operands it has, and its options.
+#[derive(Drop)]
 pub(crate) struct Command {
     pub(crate) word: &'static str,
     pub(crate) operands: usize,

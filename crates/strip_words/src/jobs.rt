@@ -1,5 +1,6 @@
 // Jobs.
 
+use crate::plans::PlanFiles;
 use crate::solve::SolveJob;
 
 /// What to do, as the command words name it.
@@ -7,4 +8,8 @@ use crate::solve::SolveJob;
 pub enum Job {
     /// A film is to be solved.
     Solve(SolveJob),
+    /// A plan is to be checked.
+    Check(PlanFiles),
+    /// A plan is to be written in the newest format.
+    Convert(PlanFiles),
 }

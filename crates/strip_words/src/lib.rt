@@ -9,10 +9,12 @@ pub mod laws;
 mod naming;
 mod number;
 mod options;
+mod plans;
 mod reader;
 mod solve;
 
 pub use fault::WordsFault;
 pub use jobs::Job;
 pub use naming::job;
+pub use plans::{PlanFiles, plan_files};
 pub use solve::SolveJob;

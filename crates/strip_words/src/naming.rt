@@ -6,6 +6,7 @@ ghost use Rattle.strip_words.specs.Shown.{texts, job_data};
 
 use crate::WordsFault;
 use crate::jobs::Job;
+use crate::plans::plan_files;
 use crate::solve::solve_job;
 use std::alloc::Global;
 
@@ -15,6 +16,17 @@ pub fn job(alloc: Global, words: &[String]) -> Result<Job, WordsFault>
     ensures named { IfOk result (λ job. NameJob (texts words.now) (job_data job)) }
     ensures bad { IfErr result (λ e. e ≡ NoJob → NameNoJob (texts words.now)) }
 {
-    let job = solve_job(alloc, words)?;
-    Ok(Job::Solve(job))
+    let [word, later @ ..] = words else {
+        return Err(WordsFault::BadWords);
+    };
+    let word = word.as_str();
+    if word == "solve" {
+        Ok(Job::Solve(solve_job(alloc, later)?))
+    } else if word == "check" {
+        Ok(Job::Check(plan_files(alloc, "check", later)?))
+    } else if word == "convert" {
+        Ok(Job::Convert(plan_files(alloc, "convert", later)?))
+    } else {
+        Err(WordsFault::BadWords)
+    }
 }

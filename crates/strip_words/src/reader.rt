@@ -18,22 +18,16 @@ pub(crate) struct Reading<'w> {
     pub(crate) rest: Option<&'w [String]>,
 }
 
-/// What the words spell, where they are words of this command.
+/// What the words behind the command's own spell.
 pub(crate) fn read<'w>(
     alloc: Global,
     command: &Command,
-    words: &'w [String],
+    later: &'w [String],
 ) -> Result<Reading<'w>, WordsFault>
     requires { IsTrue (has_names (command_data command.now)) }
-    ensures ok { IfOk result (λ reading. IsSpelled (command_data command.now) (texts words.now) (items_data reading.items.items) (rest_data reading.rest)) }
-    ensures bad { IfErr result (λ e. e ≡ NoJob → (items : List ItemData) (rest : Option (List Word)) → ¬ IsSpelled (command_data command.now) (texts words.now) items rest) }
+    ensures ok { IfOk result (λ reading. IsSpelled (command_data command.now) (command.now.word.now ∷ texts later.now) (items_data reading.items.items) (rest_data reading.rest)) }
+    ensures bad { IfErr result (λ e. e ≡ NoJob → (items : List ItemData) (rest : Option (List Word)) → ¬ IsSpelled (command_data command.now) (command.now.word.now ∷ texts later.now) items rest) }
 {
-    let [word, later @ ..] = words else {
-        return Err(WordsFault::BadWords);
-    };
-    if word.as_str() != command.word {
-        return Err(WordsFault::BadWords);
-    }
     let reading = read_items(alloc, command, later)?;
     let operands = reading.operands(alloc)?;
     if operands.len() == command.operands

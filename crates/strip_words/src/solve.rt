@@ -1,5 +1,5 @@
 // The words of `solve`.
-ghost use Rattle.std.specs.Prelude.{◌≡◌, Contains, IfOk, IfErr};
+ghost use Rattle.std.specs.Prelude.{◌≡◌, ◌∷◌, Contains, IfOk, IfErr, codes};
 ghost use Rattle.strip_words.specs.declared.fault.WordsFault.TheVariants.{BadWords as NoJob};
 ghost use Rattle.strip_words.specs.Solve.{SolveData, NameSolve, bounds_option, bound_word};
 ghost use Rattle.strip_words.specs.Shown.{texts, solve_data};
@@ -69,12 +69,12 @@ pub struct SolveJob {
     pub proof: bool,
 }
 
-/// The job to solve that the words name.
-pub(crate) fn solve_job(alloc: Global, words: &[String]) -> Result<SolveJob, WordsFault>
-    ensures named { IfOk result (λ job. NameSolve (texts words.now) (solve_data job)) }
-    ensures bad { IfErr result (λ e. e ≡ NoJob → (job : SolveData) → ¬ NameSolve (texts words.now) job) }
+/// The job to solve that the words behind `solve` name.
+pub(crate) fn solve_job(alloc: Global, later: &[String]) -> Result<SolveJob, WordsFault>
+    ensures named { IfOk result (λ job. NameSolve (codes "solve" ∷ texts later.now) (solve_data job)) }
+    ensures bad { IfErr result (λ e. e ≡ NoJob → (job : SolveData) → ¬ NameSolve (codes "solve" ∷ texts later.now) job) }
 {
-    let reading = read(alloc, &SOLVE, words)?;
+    let reading = read(alloc, &SOLVE, later)?;
     let items = reading.items.as_slice();
     let workers = WORKERS.chosen(items)?;
     let nodes = NODES.chosen(items)?;

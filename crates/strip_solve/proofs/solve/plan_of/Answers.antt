@@ -1,6 +1,8 @@
-use Rattle.std.proofs.Common.{◌∙◌, ◌+◌, ◌*◌, ◌≤◌, ℕ, List, length, ap, sym, subst, arith}
+use Rattle.std.proofs.Common.{◌≡◌, ◌∙◌, ◌+◌, ◌*◌, ◌≤◌, ℕ, List, Option, None, Some, Vec, Global, length, ap, sym, subst, arith}
 use Rattle.strip_mask.proofs.Below.{IsSet-full}
+use Rattle.strip_pay.specs.declared.kind.Kind.{Kind}
 use Rattle.strip_pay.specs.Film.{FilmData}
+use Rattle.strip_film.specs.declared.shared.Line.{Line}
 use Rattle.strip_film.specs.Film.{all_scenes}
 use Rattle.strip_film.specs.Path.{PathData}
 use Rattle.strip_film.specs.Shown.{path_data}
@@ -10,34 +12,45 @@ use Rattle.strip_reduce.specs.Shown.{reduced_data}
 use Rattle.strip_reduce.specs.State.{way_back}
 use Rattle.strip_team.specs.Ended.{EndedData}
 use Rattle.strip_team.specs.Shown.{ended_data}
-use Rattle.strip_solve.specs.Solved.{IsSolved}
+use Rattle.strip_proof.specs.declared.plan.Status.{Status}
+use Rattle.strip_proof.specs.declared.plan.Status.TheVariants.{Optimal}
+use Rattle.strip_solve.specs.Searched.{IsProofOf, IsTrimmed}
+use Rattle.strip_solve.specs.Solved.{AreRows, IsSolved}
 use Rattle.strip_solve.proofs.Back.{HasOptimum, Tells, solved_by}
-use Rattle.strip_solve.proofs.solve.plan_of.Goals.{then-ended, else-ended}
 use Rattle.strip_solve.proofs.solve.plan_of.Goals as goal
+
+-- the status tells whether the bound is the cost, and which of the lines are kept
+tells_so : (kind : Kind) (film : FilmData) (ended : EndedData) (trimmed : Option (Vec Line Global)) (status : Status) (lines : List Line)
+    → IsTrimmed kind film ended trimmed → IsProofOf trimmed ended.lines status lines
+    → Tells ended status × AreRows (rules_of kind film) status ended.lines lines
+tells_so kind film ended (Some rows) status lines (same, are) (is, alike) =
+    subst (λ (s : Status). Tells ended s × AreRows (rules_of kind film) s ended.lines lines) (sym is)
+    (same, subst (λ (ls : List Line). AreRows (rules_of kind film) Optimal ended.lines ls) (sym alike) are)
+tells_so kind film ended None status lines other (is, alike) =
+    subst (λ (s : Status). Tells ended s × AreRows (rules_of kind film) s ended.lines lines) (sym is) (other, alike)
 
 pub returns : goal.returns
 returns c film same stands =
     let classes : FilmData = c.args.reduced.now.film in
-    let ended : EndedData = ended_data c.args.ended in
+    let ended : EndedData = ended_data c.args.searched.ended in
     let start : PathData = path_data c.args.start.now in
     let finish = c.a_least_tail_exists.ensures classes (all_scenes classes) c.keeps_limits.ensures (IsSet-full (length classes.casts) c.keeps_limits.ensures.scene_count.1) in
     let optimum : HasOptimum classes = (finish.0, (c.finishing_everything_is_the_optimum.ensures classes finish.0 c.keeps_limits.ensures).0 finish.1) in
     let most = c.paths_are_few.ensures.most classes (is_candidate (rules_of c.args.kind classes) start.paid) c.keeps_limits.ensures in
     let orders : few (rules_of c.args.kind classes) start.paid ≤ 2 * factorial (length classes.casts)
     = omega (arith, most, c.paths_are_few.ensures.orders (length classes.casts)) in
-    let tells : Tells ended c.if-ended.status = elim c.if-ended.branch [
-      | then-ended w ↦ subst (Tells ended) (sym w.status-is) w.if-ended.true
-      | else-ended w ↦ subst (Tells ended) (sym w.status-is) w.if-ended.false
-    ] in
+    let status = c.proof_of-status.result.0 in
+    let lines = c.proof_of-status.result.1.items in
+    let so = tells_so c.args.kind classes ended c.args.searched.trimmed status lines c.requires.searched.trimmed c.proof_of-status.ensures in
     subst (λ (order : List ℕ). IsSolved c.args.kind film c.args.nodes (record {
-      status = c.if-ended.status;
+      status = status;
       kind = c.args.kind;
-      cost = c.args.ended.cost + c.args.reduced.now.apart;
-      bound = c.args.ended.bound + c.args.reduced.now.apart;
-      held = c.args.ended.held;
+      cost = ended.cost + c.args.reduced.now.apart;
+      bound = ended.bound + c.args.reduced.now.apart;
+      held = ended.held;
       order = order;
-      lines = c.args.ended.lines.items;
+      lines = lines;
     }))
     (ap (way_back (reduced_data c.args.reduced.now).members) (sym c.deref.ensures.value) ∙ sym c.in_ok-expand.ensures)
-    (solved_by c.args.kind film c.args.nodes start ended c.oriented-order.result.items c.if-ended.status (reduced_data c.args.reduced.now) same stands
-    c.requires.start c.requires.ended optimum orders c.oriented-order.ensures.kept c.oriented-order.ensures.pay tells)
+    (solved_by c.args.kind film c.args.nodes start ended c.oriented-order.result.items status lines (reduced_data c.args.reduced.now) same stands
+    c.requires.start c.requires.searched.ended optimum orders c.oriented-order.ensures.kept c.oriented-order.ensures.pay so.0 so.1)

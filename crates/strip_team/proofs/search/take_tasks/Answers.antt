@@ -6,7 +6,7 @@ use Rattle.strip_team.proofs.search.take_tasks.Goals as goal
 pub loop-task-init : goal.loop-task-init
 loop-task-init g c = record {
   way = c.requires.walked;
-  scratch = c.in_ok-scratch.ensures c.args.kept.now.kind c.args.kept.now.film.now;
+  memo = c.in_ok-memo.ensures;
   search = refl;
 }
 
@@ -15,7 +15,7 @@ loop-task-preserved g c =
     let more : c.loop-task.task + 2 ≡ c.loop-task.task + 1 + 1 = omega arith in record {
       way = subst (λ (parts : ℕ). IsUnderWay c.args.kept.now.kind c.args.kept.now.film.now c.take_task.new.world (front_data c.args.front.now)
           c.take_task.new.walked.found.items parts c.take_task.new.walked.spent) more c.in_ok-take_task.ensures.walked;
-      scratch = c.take_task.ensures.scratch;
+      memo = c.take_task.ensures.memo;
       search = c.in_ok-take_task.ensures.search ∙ c.loop-task.invariant.search;
     }
 

@@ -1,13 +1,14 @@
 use Rattle.std.proofs.Common.{inr}
 use Rattle.strip_words.specs.Shown.{job_data, texts}
-use Rattle.strip_top.specs.Due.{AsksFor, IsFileOf}
-use Rattle.strip_top.proofs.Endings.{stay_wider}
-use Rattle.strip_top.proofs.FileKinds.{of_ok}
+use Rattle.strip_answer.specs.Claims.{AsksFor}
+use Rattle.strip_answer.proofs.Endings.{stay_wider}
+use Rattle.strip_inputs.proofs.Given.{of_ok}
+use Rattle.strip_top.specs.Due.{IsFileOf, board_claims}
 use Rattle.strip_top.proofs.answer.answer_words.Goals as goal
 
 pub returns-in-Ok-clause-files : goal.returns-in-Ok-clause-files
 returns-in-Ok-clause-files g c =
-    stay_wider _ _ (IsFileOf (job_data c.in-Ok.job)) (AsksFor (texts c.args.words.now)) _
+    stay_wider _ _ (IsFileOf (job_data c.in-Ok.job)) (AsksFor board_claims (texts c.args.words.now)) _
     (λ name its. (job_data c.in-Ok.job, c.in-Ok.ensures.named, its)) c.answer_job.ensures.files
 
 pub returns-in-Ok-clause-due : goal.returns-in-Ok-clause-due

@@ -39,7 +39,7 @@ loop-s-init g t c =
       sound = c.in_ok-found.ensures.sound;
       home = c.in_ok-found.ensures.home;
       limits = c.keeps_limits-2.ensures;
-      scratch = c.sift-sifted.ensures.scratch;
+      memo = c.sift-sifted.ensures.memo;
       running = c.requires.running;
       path = refl;
       walks = opened.0;
@@ -87,7 +87,7 @@ explore-requires g t c κs within =
               (
                 subst (λ (of : SearchData). (of.film ≡ c.args.kept.now.film.now) × (of.kind ≡ c.args.kept.now.kind)) (sym here) c.requires.search,
                 (
-                  c.loop-s.invariant.scratch,
+                  c.loop-s.invariant.memo,
                   (
                     subst (λ (film : FilmData). IsRunning film (running_data c.take.new.self)) c.film-film.ensures c.take.ensures.running,
                     subst (MayExplore (g.H.Hand.shows c.loop-s.hand) (cursor_data c.loop-s.cursor)) (sym longer_is)
@@ -172,7 +172,7 @@ loop-s-preserved g t c =
       sound = c.in_ok-found-2.ensures.sound;
       home = c.in_ok-found-2.ensures.home ∙ c.loop-s.invariant.home;
       limits = c.keeps_limits-in-loop-s.ensures;
-      scratch = c.in_ok-found-2.ensures.scratch;
+      memo = c.in_ok-found-2.ensures.memo;
       running = subst (λ (film : FilmData). IsRunning film (running_data c.back.new.self)) c.film-film.ensures c.back.ensures.running;
       path = taken_back c.film-film.result.now path longer (path_data c.back.new.self.path) c.in-Some.s
           (subst (λ (film : FilmData). IsPath film path) (sym c.film-film.ensures) c.requires.running.path) c.back.ensures.running.path
@@ -214,8 +214,8 @@ close-requires-clause-set g t c = c.loop-s.invariant.line.set ∙ ap (λ (path :
 pub returns-clause-home : goal.returns-clause-home
 returns-clause-home g t c = c.close.ensures.home ∙ c.loop-s.invariant.home
 
-pub returns-clause-scratch : goal.returns-clause-scratch
-returns-clause-scratch g t c = c.loop-s.invariant.scratch
+pub returns-clause-memo : goal.returns-clause-memo
+returns-clause-memo g t c = c.loop-s.invariant.memo
 
 pub returns-clause-running : goal.returns-clause-running
 returns-clause-running g t c = if_ok_holds _ c.close.result (c.loop-s.invariant.running, c.loop-s.invariant.path)

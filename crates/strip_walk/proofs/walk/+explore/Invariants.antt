@@ -5,7 +5,7 @@ use Rattle.strip_film.specs.Running.{IsRunning}
 use Rattle.strip_film.specs.Shown.{cursor_data, running_data}
 use Rattle.strip_hand.specs.Hand.{IsHand}
 use Rattle.strip_walk.specs.Walked.{Walks}
-use Rattle.strip_walk.specs.Scratch.{IsScratch}
+use Rattle.strip_memo.specs.Memo.{IsMemo}
 use Rattle.strip_walk.proofs.Ended.{HasLine}
 use Rattle.strip_walk.proofs.Settled.{AreSettled}
 use Rattle.strip_walk.proofs.walk.+explore.Given as goal
@@ -19,7 +19,7 @@ invariant-loop-s g l = record {
   sound : g.H.Hand.is_sound l.hand;
   home : g.H.Hand.home l.hand ≡ g.H.Hand.home l.fn.hand;
   limits : IsHand (g.H.Hand.shows l.hand);
-  scratch : IsScratch l.kept.kind l.kept.film.now l.scratch;
+  memo : IsMemo l.kept.kind l.kept.film.now l.memo;
   running : IsRunning l.kept.film.now (running_data l.running);
   path : (running_data l.running).path ≡ (running_data l.fn.running).path;
   walks : Walks (g.H.Hand.shows l.fn.hand) (cursor_data l.fn.cursor) (running_data l.fn.running).path (g.H.Hand.shows l.hand) (cursor_data l.cursor);

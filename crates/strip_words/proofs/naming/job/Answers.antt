@@ -1,9 +1,52 @@
-use Rattle.std.proofs.Common.{sym, ◌∙◌}
-use Rattle.strip_words.specs.Shown.{texts}
+use Rattle.std.proofs.Common.{bytes_eq, codes, true, take, drop, length, ◌-◌, ◌≡◌, ◌∷◌, refl, sym, ◌∙◌, subst}
+use Rattle.std.proofs.lemmas.Slice.Eq.{bytes_eq-Decides}
+use Rattle.strip_words.specs.Words.{Word}
+use Rattle.strip_words.specs.Solve.{NameSolve}
+use Rattle.strip_words.specs.Plans.{NamePlanFiles}
+use Rattle.strip_words.specs.Shown.{plan_files_data, solve_data, texts}
 use Rattle.strip_words.proofs.Results.{err_from}
-use Rattle.strip_words.proofs.OneJob.{no_job}
+use Rattle.strip_words.proofs.Shows.{texts_begin}
+use Rattle.strip_words.proofs.OneJob.{no_check, no_convert, no_solve}
 use Rattle.strip_words.proofs.naming.job.Goals as goal
 
-pub returns-in_err-job-clause-bad : goal.returns-in_err-job-clause-bad
-returns-in_err-job-clause-bad c = err_from c.from_residual.result _ _ c.from_residual.ensures.1 (λ e given is.
-    no_job (texts c.args.words.now) (c.in_err-job.ensures.bad (sym given ∙ is)))
+pub returns-in_err-solve_job-clause-bad : goal.returns-in_err-solve_job-clause-bad
+returns-in_err-solve_job-clause-bad c = err_from c.from_residual.result _ _ c.from_residual.ensures.1 (λ e given is.
+    let later = texts (take (length c.args.words.now - 1) (drop 1 c.args.words.now)) in
+    let begins = texts_begin c.args.words.now c.word-item.result (codes "solve") c.in-len1-up.len_at_least c.word-item.is
+    (sym c.as_str-word.ensures.value ∙ (bytes_eq-Decides c.as_str-word.result.now (codes "solve")).0 (sym c.eq.ensures ∙ c.if-eq.true)) in
+    no_solve (texts c.args.words.now) later (codes "solve") begins refl (λ job names. c.in_err-solve_job.ensures.bad (sym given ∙ is) job
+    (subst (λ ws. NameSolve ws job) begins names)))
+
+pub returns-in_err-plan_files-clause-bad : goal.returns-in_err-plan_files-clause-bad
+returns-in_err-plan_files-clause-bad c = err_from c.from_residual-in_err-plan_files.result _ _ c.from_residual-in_err-plan_files.ensures.1 (λ e given is.
+    let later = texts (take (length c.args.words.now - 1) (drop 1 c.args.words.now)) in
+    let begins = texts_begin c.args.words.now c.word-item.result (codes "check") c.in-len1-up.len_at_least c.word-item.is
+    (sym c.as_str-word.ensures.value ∙ (bytes_eq-Decides c.as_str-word.result.now (codes "check")).0 (sym c.eq-else-eq.ensures ∙ c.if-eq-2.true)) in
+    no_check (texts c.args.words.now) later (codes "check") begins refl (λ job names. c.in_err-plan_files.ensures.bad (sym given ∙ is) job
+    (subst (λ ws. NamePlanFiles (codes "check") ws job) begins names)))
+
+pub returns-in_err-plan_files-2-clause-bad : goal.returns-in_err-plan_files-2-clause-bad
+returns-in_err-plan_files-2-clause-bad c = err_from c.from_residual-in_err-plan_files-2.result _ _ c.from_residual-in_err-plan_files-2.ensures.1 (λ e given is.
+    let later = texts (take (length c.args.words.now - 1) (drop 1 c.args.words.now)) in
+    let begins = texts_begin c.args.words.now c.word-item.result (codes "convert") c.in-len1-up.len_at_least c.word-item.is
+    (sym c.as_str-word.ensures.value ∙ (bytes_eq-Decides c.as_str-word.result.now (codes "convert")).0 (sym c.eq-else-eq-2.ensures ∙ c.if-eq-3.true)) in
+    no_convert (texts c.args.words.now) later (codes "convert") begins refl (λ job names. c.in_err-plan_files-2.ensures.bad (sym given ∙ is) job
+    (subst (λ ws. NamePlanFiles (codes "convert") ws job) begins names)))
+
+pub returns-in_ok-solve_job-clause-named : goal.returns-in_ok-solve_job-clause-named
+returns-in_ok-solve_job-clause-named c =
+    let begins = texts_begin c.args.words.now c.word-item.result (codes "solve") c.in-len1-up.len_at_least c.word-item.is
+    (sym c.as_str-word.ensures.value ∙ (bytes_eq-Decides c.as_str-word.result.now (codes "solve")).0 (sym c.eq.ensures ∙ c.if-eq.true)) in
+    subst (λ ws. NameSolve ws (solve_data c.in_ok-solve_job.field-0)) (sym begins) c.in_ok-solve_job.ensures.named
+
+pub returns-in_ok-plan_files-clause-named : goal.returns-in_ok-plan_files-clause-named
+returns-in_ok-plan_files-clause-named c =
+    let begins = texts_begin c.args.words.now c.word-item.result (codes "check") c.in-len1-up.len_at_least c.word-item.is
+    (sym c.as_str-word.ensures.value ∙ (bytes_eq-Decides c.as_str-word.result.now (codes "check")).0 (sym c.eq-else-eq.ensures ∙ c.if-eq-2.true)) in
+    subst (λ ws. NamePlanFiles (codes "check") ws (plan_files_data c.in_ok-plan_files.field-0)) (sym begins) c.in_ok-plan_files.ensures.named
+
+pub returns-in_ok-plan_files-2-clause-named : goal.returns-in_ok-plan_files-2-clause-named
+returns-in_ok-plan_files-2-clause-named c =
+    let begins = texts_begin c.args.words.now c.word-item.result (codes "convert") c.in-len1-up.len_at_least c.word-item.is
+    (sym c.as_str-word.ensures.value ∙ (bytes_eq-Decides c.as_str-word.result.now (codes "convert")).0 (sym c.eq-else-eq-2.ensures ∙ c.if-eq-3.true)) in
+    subst (λ ws. NamePlanFiles (codes "convert") ws (plan_files_data c.in_ok-plan_files-2.field-0)) (sym begins) c.in_ok-plan_files-2.ensures.named

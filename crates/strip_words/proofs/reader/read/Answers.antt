@@ -10,29 +10,18 @@ use Rattle.strip_words.proofs.Shows.{texts_begin}
 use Rattle.strip_words.proofs.reader.read.Goals as goal
 use Rattle.strip_words.proofs.reader.read.Goals.{else-len-command-via-then-len-command+then-are_filled+else-are_distinct, else-len-command-via-then-len-command+else-are_filled, else-len-command-via-else-len-command}
 
-same_word : (a b : Word) → not (bytes_eq a b) ≡ false → a ≡ b
-same_word a b is = (bytes_eq-Decides a b).0 (by (bytes_eq a b) is)
-  where
-    by : (b : Bool) → not b ≡ false → b ≡ true
-    by true is = refl
-    by false is = absurd (true≢false is)
-
 pub returns-in_err-reading-clause-bad : goal.returns-in_err-reading-clause-bad
 returns-in_err-reading-clause-bad c = err_from c.from_residual.result _ _ c.from_residual.ensures.1 (λ e given is items rest spelled.
-    let later = texts (take (length c.args.words.now - 1) (drop 1 c.args.words.now)) in
-    let begins = texts_begin c.args.words.now c.word-item.result c.args.command.now.word.now c.in-len1-up.len_at_least c.word-item.is
-    (sym c.as_str.ensures.value ∙ same_word c.as_str.result.now c.args.command.now.word.now (sym c.ne.ensures ∙ c.if-ne.false)) in
-    c.in_err-reading.ensures.bad (sym given ∙ is) items rest (spells_from (command_data c.args.command.now) (texts c.args.words.now) later items rest begins spelled))
+    let later = texts c.args.later.now in
+    c.in_err-reading.ensures.bad (sym given ∙ is) items rest (spells_from (command_data c.args.command.now) (c.args.command.now.word.now ∷ texts c.args.later.now) later items rest refl spelled))
 
 pub returns-then-are_distinct-clause-ok : goal.returns-then-are_distinct-clause-ok
 returns-then-are_distinct-clause-ok c =
-    let later = texts (take (length c.args.words.now - 1) (drop 1 c.args.words.now)) in
-    let begins = texts_begin c.args.words.now c.word-item.result c.args.command.now.word.now c.in-len1-up.len_at_least c.word-item.is
-    (sym c.as_str.ensures.value ∙ same_word c.as_str.result.now c.args.command.now.word.now (sym c.ne.ensures ∙ c.if-ne.false)) in
+    let later = texts c.args.later.now in
     let reading = c.in_ok-reading.reading in
     let operands : strs c.in_ok-operands.operands.items ≡ operands_of (items_data reading.items.items) (rest_data reading.rest) = c.in_ok-operands.ensures in
     record {
-      spelled = begins ∙ ap (λ ws. c.args.command.now.word.now ∷ ws) c.in_ok-reading.ensures.ok.spelled;
+      spelled = ap (λ ws. c.args.command.now.word.now ∷ ws) c.in_ok-reading.ensures.ok.spelled;
       belong = c.in_ok-reading.ensures.ok.belong;
       once = subst (λ items. AreDistinct (options_in (items_data items))) c.as_slice-then-are_filled.ensures.value (c.are_distinct.ensures.0 c.if-are_distinct.true);
       count = ap length (sym operands) ∙ length-map c.in_ok-operands.operands.items (λ word. word.now) ∙ omega (arith, c.in_ok-operands.operands.ok.0, c.len.ensures, c.if-len-command.true);
@@ -42,14 +31,12 @@ returns-then-are_distinct-clause-ok c =
 pub returns-clause-bad : goal.returns-clause-bad
 returns-clause-bad c = λ bad items rest spelled.
     let command = command_data c.args.command.now in
-    let later = texts (take (length c.args.words.now - 1) (drop 1 c.args.words.now)) in
-    let begins = texts_begin c.args.words.now c.word-item.result c.args.command.now.word.now c.in-len1-up.len_at_least c.word-item.is
-    (sym c.as_str.ensures.value ∙ same_word c.as_str.result.now c.args.command.now.word.now (sym c.ne.ensures ∙ c.if-ne.false)) in
+    let later = texts c.args.later.now in
     let reading = c.in_ok-reading.reading in
     let once = spells_once command (names_from command c.requires) later items (items_data reading.items.items) rest (rest_data reading.rest)
-    (spells_from command (texts c.args.words.now) later items rest begins spelled) c.in_ok-reading.ensures.ok in
-    let here : IsSpelled command (texts c.args.words.now) (items_data reading.items.items) (rest_data reading.rest)
-    = subst (λ r. IsSpelled command (texts c.args.words.now) (items_data reading.items.items) r) once.1 (subst (λ items. IsSpelled command (texts c.args.words.now) items rest) once.0 spelled) in
+    (spells_from command (c.args.command.now.word.now ∷ texts c.args.later.now) later items rest refl spelled) c.in_ok-reading.ensures.ok in
+    let here : IsSpelled command (c.args.command.now.word.now ∷ texts c.args.later.now) (items_data reading.items.items) (rest_data reading.rest)
+    = subst (λ r. IsSpelled command (c.args.command.now.word.now ∷ texts c.args.later.now) (items_data reading.items.items) r) once.1 (subst (λ items. IsSpelled command (c.args.command.now.word.now ∷ texts c.args.later.now) items rest) once.0 spelled) in
     let operands : strs c.in_ok-operands.operands.items ≡ operands_of (items_data reading.items.items) (rest_data reading.rest) = c.in_ok-operands.ensures in
     elim c.else-len-command.branch [
       | else-len-command-via-then-len-command+then-are_filled+else-are_distinct w ↦

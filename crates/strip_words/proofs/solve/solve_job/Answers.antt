@@ -1,4 +1,4 @@
-use Rattle.std.proofs.Common.{◌≡◌, [], ◌∷◌, length, sym, ap, ◌∙◌, subst}
+use Rattle.std.proofs.Common.{◌≡◌, [], ◌∷◌, codes, length, sym, ap, ◌∙◌, subst}
 use Rattle.std.proofs.lemmas.List.{length-map}
 use Rattle.strip_words.specs.Words.{Word, operands_of}
 use Rattle.strip_words.specs.Options.{IsPicked}
@@ -16,22 +16,22 @@ returns-in_err-reading-clause-bad c = err_from c.from_residual.result _ _ c.from
 pub returns-in_err-workers-clause-bad : goal.returns-in_err-workers-clause-bad
 returns-in_err-workers-clause-bad c = if_err c.from_residual-in_err-workers.result _ (λ e is job names.
     c.in_err-workers.ensures.bad job.workers
-    (said_by_items (texts c.args.words.now) c.in_ok-reading.reading.items.items c.as_slice-items.result.now (rest_data c.in_ok-reading.reading.rest) job c.as_slice-items.ensures.value c.in_ok-reading.ensures.ok names).workers)
+    (said_by_items (codes "solve" ∷ texts c.args.later.now) c.in_ok-reading.reading.items.items c.as_slice-items.result.now (rest_data c.in_ok-reading.reading.rest) job c.as_slice-items.ensures.value c.in_ok-reading.ensures.ok names).workers)
 
 pub returns-in_err-nodes-clause-bad : goal.returns-in_err-nodes-clause-bad
 returns-in_err-nodes-clause-bad c = if_err c.from_residual-in_err-nodes.result _ (λ e is job names.
     c.in_err-nodes.ensures.bad job.nodes
-    (said_by_items (texts c.args.words.now) c.in_ok-reading.reading.items.items c.as_slice-items.result.now (rest_data c.in_ok-reading.reading.rest) job c.as_slice-items.ensures.value c.in_ok-reading.ensures.ok names).nodes)
+    (said_by_items (codes "solve" ∷ texts c.args.later.now) c.in_ok-reading.reading.items.items c.as_slice-items.result.now (rest_data c.in_ok-reading.reading.rest) job c.as_slice-items.ensures.value c.in_ok-reading.ensures.ok names).nodes)
 
 pub returns-in_err-table-clause-bad : goal.returns-in_err-table-clause-bad
 returns-in_err-table-clause-bad c = if_err c.from_residual-in_err-table.result _ (λ e is job names.
     c.in_err-table.ensures.bad job.table
-    (said_by_items (texts c.args.words.now) c.in_ok-reading.reading.items.items c.as_slice-items.result.now (rest_data c.in_ok-reading.reading.rest) job c.as_slice-items.ensures.value c.in_ok-reading.ensures.ok names).table)
+    (said_by_items (codes "solve" ∷ texts c.args.later.now) c.in_ok-reading.reading.items.items c.as_slice-items.result.now (rest_data c.in_ok-reading.reading.rest) job c.as_slice-items.ensures.value c.in_ok-reading.ensures.ok names).table)
 
 pub returns-in_err-picked-clause-bad : goal.returns-in_err-picked-clause-bad
 returns-in_err-picked-clause-bad c = if_err c.from_residual-in_err-picked.result _ (λ e is job names.
     c.in_err-picked.ensures.bad (bound_word job.kind)
-    (said_by_items (texts c.args.words.now) c.in_ok-reading.reading.items.items c.as_slice-items.result.now (rest_data c.in_ok-reading.reading.rest) job c.as_slice-items.ensures.value c.in_ok-reading.ensures.ok names).kind)
+    (said_by_items (codes "solve" ∷ texts c.args.later.now) c.in_ok-reading.reading.items.items c.as_slice-items.result.now (rest_data c.in_ok-reading.reading.rest) job c.as_slice-items.ensures.value c.in_ok-reading.ensures.ok names).kind)
 
 pub returns-clause-named : goal.returns-clause-named
 returns-clause-named c =

@@ -1,0 +1,5 @@
+mod Accepting
+mod Known
+mod Places
+mod Tests
+mod Undercut

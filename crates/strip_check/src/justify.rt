@@ -1,0 +1,170 @@
+// What a plan's lines justify.
+ghost use Rattle.std.specs.Prelude.{◌≡◌, ◌≢◌, ◌↔◌, ℕ, ◌+◌, ◌*◌, ◌<◌, ◌≤◌, nat_le, true, length, slice_index, All, IsTrue};
+ghost use Rattle.strip_mask.specs.Set.{LiesBelow, has, members, minus, sum_over, without};
+ghost use Rattle.strip_film.specs.Film.{LiesIn};
+ghost use Rattle.strip_film.specs.Shoot.{on_location, step_cost};
+ghost use Rattle.strip_bound.specs.Kept.{Keeps};
+ghost use Rattle.strip_lines.specs.Lines.{known, least_step, rules_of};
+ghost use Rattle.strip_memo.specs.Memo.{IsMemo};
+ghost use Rattle.strip_check.specs.Reasons.{by_lines, justified};
+
+use strip_best::Best;
+use strip_bound::Kept;
+use strip_film::{Film, on, step};
+use strip_mask::{Mask, sum_over};
+use strip_memo::Memo;
+use strip_rule::{open_firsts, open_firsts_with};
+
+/// Whether the lines justify a bound for a set. Most often its static bound decides, and else a step
+/// and a static bound for each open first.
+pub(crate) fn is_justified<F: Fn(u64, u64) -> u64>(
+    kept: &Kept<F>,
+    memo: &mut Memo,
+    best: &Best,
+    q: Mask,
+    bound: u64,
+) -> bool
+    requires keeps { Keeps (F.pre kept.now.f) (F.post kept.now.f) kept.now.kind kept.now.film.now }
+    requires memo { IsMemo kept.now.kind kept.now.film.now memo.old }
+    requires lies { LiesIn kept.now.film.now q.0 }
+    ensures memo { IsMemo kept.now.kind kept.now.film.now memo.new }
+    ensures justified { result
+        ≡ nat_le bound (justified (rules_of kept.now.kind kept.now.film.now) best.now.lines q.0) }
+{
+    if memo.reach(kept, q, bound) >= bound {
+        return true;
+    }
+    let film = kept.film();
+    film.keeps_limits();
+    let on = on(film, q);
+    let firsts = open_firsts_with(film, q, on);
+    !firsts.is_empty() && steps_reach(kept, memo, best, q, on, firsts, bound)
+}
+
+/// Whether each first step and what is known of the rest reach the bound.
+fn steps_reach<F: Fn(u64, u64) -> u64>(
+    kept: &Kept<F>,
+    memo: &mut Memo,
+    best: &Best,
+    q: Mask,
+    on: Mask,
+    firsts: Mask,
+    bound: u64,
+) -> bool
+    requires keeps { Keeps (F.pre kept.now.f) (F.post kept.now.f) kept.now.kind kept.now.film.now }
+    requires memo { IsMemo kept.now.kind kept.now.film.now memo.old }
+    requires lies { LiesIn kept.now.film.now q.0 }
+    requires on { on.0 ≡ on_location kept.now.film.now q.0 }
+    requires firsts { (scene : ℕ) → has firsts.0 scene ≡ true → has q.0 scene ≡ true }
+    ensures memo { IsMemo kept.now.kind kept.now.film.now memo.new }
+    ensures reach { IsTrue result ↔ All (λ scene. bound ≤ step_cost kept.now.film.now q.0 scene
+        + known (rules_of kept.now.kind kept.now.film.now) best.now.lines (without q.0 scene)) (members firsts.0) }
+{
+    for scene in firsts.iter() {
+        if !step_reaches(kept, memo, best, q, on, scene, bound) {
+            return false;
+        }
+    }
+    true
+}
+
+/// Whether the step of a scene of the set and what is known of the rest reach the bound.
+fn step_reaches<F: Fn(u64, u64) -> u64>(
+    kept: &Kept<F>,
+    memo: &mut Memo,
+    best: &Best,
+    q: Mask,
+    on: Mask,
+    s: u32,
+    bound: u64,
+) -> bool
+    requires keeps { Keeps (F.pre kept.now.f) (F.post kept.now.f) kept.now.kind kept.now.film.now }
+    requires memo { IsMemo kept.now.kind kept.now.film.now memo.old }
+    requires lies { LiesIn kept.now.film.now q.0 }
+    requires on { on.0 ≡ on_location kept.now.film.now q.0 }
+    requires scene { has q.0 s ≡ true }
+    ensures memo { IsMemo kept.now.kind kept.now.film.now memo.new }
+    ensures reach { IsTrue result ↔ (bound ≤ step_cost kept.now.film.now q.0 s
+        + known (rules_of kept.now.kind kept.now.film.now) best.now.lines (without q.0 s)) }
+{
+    let film = kept.film();
+    film.keeps_limits();
+    let step = step_with(film, on, s);
+    step >= bound || is_known(kept, memo, best, q.without(s), bound - step)
+}
+
+/// Whether a set's static bound or a line reaches so far.
+fn is_known<F: Fn(u64, u64) -> u64>(
+    kept: &Kept<F>,
+    memo: &mut Memo,
+    best: &Best,
+    q: Mask,
+    need: u64,
+) -> bool
+    requires keeps { Keeps (F.pre kept.now.f) (F.post kept.now.f) kept.now.kind kept.now.film.now }
+    requires memo { IsMemo kept.now.kind kept.now.film.now memo.old }
+    requires lies { LiesIn kept.now.film.now q.0 }
+    ensures memo { IsMemo kept.now.kind kept.now.film.now memo.new }
+    ensures known { IsTrue result ↔ (need ≤ known (rules_of kept.now.kind kept.now.film.now) best.now.lines q.0) }
+{
+    memo.reach(kept, q, need) >= need || best.bound_of(q.0) >= need
+}
+
+/// What it costs to shoot a scene of the set next, while these are on location.
+fn step_with(film: &Film, on: Mask, s: u32) -> u64
+    requires known { s < length film.now.casts }
+    requires actors { LiesBelow (length film.now.rates) on.0 }
+    ensures { result ≡ slice_index film.now.days s * (sum_over film.now.rates (slice_index film.now.casts s)
+        + sum_over film.now.holds (minus on.0 (slice_index film.now.casts s))) }
+{
+    film.keeps_limits();
+    let cast = Mask(film.casts()[s as usize]);
+    let waiting = on.minus(cast);
+    let (rates, holds) = (film.rates(), film.holds());
+    film.days()[s as usize] * (sum_over(rates, cast) + sum_over(holds, waiting))
+}
+
+/// The greatest bound that the lines justify for a set, in units of money: static bounds are asked for
+/// in full, and the sums may be above what 64 bits hold, since a plan's bounds may be any numbers.
+pub(crate) fn justified<F: Fn(u64, u64) -> u64>(kept: &Kept<F>, best: &Best, q: Mask) -> u128
+    requires keeps { Keeps (F.pre kept.now.f) (F.post kept.now.f) kept.now.kind kept.now.film.now }
+    requires lies { LiesIn kept.now.film.now q.0 }
+    ensures { result ≡ justified (rules_of kept.now.kind kept.now.film.now) best.now.lines q.0 }
+{
+    let bound = u128::from(kept.at(q));
+    let film = kept.film();
+    let firsts = open_firsts(film, q);
+    if firsts.is_empty() {
+        return bound;
+    }
+    bound.max(least_step(kept, best, q, firsts))
+}
+
+/// The least of the first steps and what is known of the rest.
+fn least_step<F: Fn(u64, u64) -> u64>(kept: &Kept<F>, best: &Best, q: Mask, firsts: Mask) -> u128
+    requires keeps { Keeps (F.pre kept.now.f) (F.post kept.now.f) kept.now.kind kept.now.film.now }
+    requires lies { LiesIn kept.now.film.now q.0 }
+    requires firsts { (scene : ℕ) → has firsts.0 scene ≡ true → has q.0 scene ≡ true }
+    requires some { firsts.0 ≢ 0 }
+    ensures { (none : ℕ) → result ≡ least_step (by_lines (rules_of kept.now.kind kept.now.film.now) best.now.lines)
+        q.0 none (members firsts.0) }
+{
+    let film = kept.film();
+    film.keeps_limits();
+    let mut least = u128::MAX;
+    for scene in firsts.iter() {
+        let step = step(film, q, scene);
+        let rest = known(kept, best, q.without(scene));
+        least = least.min(u128::from(step) + u128::from(rest));
+    }
+    least
+}
+
+/// What the lines make known of a set, in units of money.
+pub(crate) fn known<F: Fn(u64, u64) -> u64>(kept: &Kept<F>, best: &Best, q: Mask) -> u64
+    requires keeps { Keeps (F.pre kept.now.f) (F.post kept.now.f) kept.now.kind kept.now.film.now }
+    requires lies { LiesIn kept.now.film.now q.0 }
+    ensures { result ≡ known (rules_of kept.now.kind kept.now.film.now) best.now.lines q.0 }
+{
+    kept.at(q).max(best.bound_of(q.0))
+}

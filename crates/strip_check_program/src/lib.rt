@@ -1,0 +1,7 @@
+//! The program over a runtime: its words, files and output are handed to `strip_audit::report`, and the
+//! status that this gives is the exit code.
+#![tactic(auto)]
+
+mod outcome;
+
+pub use outcome::run;

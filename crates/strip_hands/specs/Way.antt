@@ -1,0 +1,23 @@
+-- A search over a hand, on its way from the front through the tasks.
+use Rattle.std.specs.Prelude.{◌≡◌, ℕ, List, length}
+use Rattle.strip_pay.specs.declared.kind.Kind.{Kind}
+use Rattle.strip_pay.specs.Film.{FilmData}
+use Rattle.strip_hand.specs.Hand.{HandData}
+use Rattle.strip_front.specs.Calls.{AreFound}
+use Rattle.strip_front.specs.Filled.{IsFilled}
+use Rattle.strip_front.specs.Front.{FrontData, IsFrontOf}
+use Rattle.strip_front.specs.Tasks.{tasks_of}
+
+-- the hand's search is one of the film by its tasks, with static bounds of this kind
+pub record IsSearchBy (kind : Kind) (film : FilmData) (hand : HandData) : Type 0 where
+  pub same_film : hand.search.film ≡ film
+  pub same_kind : hand.search.kind ≡ kind
+  pub tasks : hand.search.tasks ≡ tasks_of film
+
+-- the front was gone down, and what was found of each task is at most what is known of what remains after it
+pub record IsOnItsWay (kind : Kind) (film : FilmData) (hand : HandData) (front : FrontData) (found : List ℕ) : Type 0 where
+  pub search : IsSearchBy kind film hand
+  pub front_of : IsFrontOf film front
+  pub filled : IsFilled hand front
+  pub long : length found ≡ length front.tasks
+  pub known : AreFound hand front found

@@ -1,0 +1,120 @@
+// What the table saves: a search whose hand drops its notes makes more lines.
+ghost use Rattle.strip_film.specs.Path.{IsComplete};
+ghost use Rattle.strip_film.specs.Shown.{path_data};
+ghost use Rattle.strip_bound.specs.Kept.{Keeps};
+
+use crate::films::eight;
+use crate::forgetful::Forgetful;
+use crate::walks::search;
+use std::alloc::Global;
+use std::test::Fail;
+use strip_bound::{BoundTables, Kept, static_bound};
+use strip_film::{Film, Path};
+use strip_front::laws::tasks_are_starts;
+use strip_front::layers;
+use strip_mask::Mask;
+use strip_pay::Kind;
+use strip_race::{Limits, World};
+use strip_start::{greedy, improve};
+use strip_team::alone;
+
+/// What a search comes to: the cost of its best order and its bound, in units of money, and its lines.
+#[derive(Clone, Copy, Debug)]
+struct Outcome {
+    cost: u64,
+    bound: u64,
+    lines: u64,
+}
+
+/// How many lines a search may make, and how many entries its table has.
+const CAP: u32 = 10_000;
+
+const ENTRIES: u32 = 65_536;
+
+/// The end of a search that drops its notes.
+fn without_notes<F: Fn(u64, u64) -> u64>(
+    alloc: Global,
+    kept: &Kept<F>,
+    start: &Path,
+) -> Result<Outcome, Fail>
+    requires keeps { Keeps (F.pre kept.now.f) (F.post kept.now.f) kept.now.kind kept.now.film.now }
+    requires start { IsComplete kept.now.film.now (path_data start.now) }
+{
+    let film = kept.film();
+    film.keeps_limits();
+    tasks_are_starts();
+    let mut front = layers(alloc, film)?;
+    let limits = Limits {
+        workers: 1,
+        cap: CAP,
+        entries: ENTRIES,
+    };
+    let world = World::new(alloc, film, kept.kind(), start, &front.tasks, &limits)?;
+    let mut hand = Forgetful {
+        world,
+        last_note: None,
+    };
+    let bound = search(alloc, kept, &mut hand, &mut front)?;
+    Ok(Outcome {
+        cost: hand.world.best(0).paid(),
+        bound,
+        lines: hand.world.lines().len() as u64,
+    })
+}
+
+/// The end of the search itself.
+fn with_notes<F: Fn(u64, u64) -> u64>(
+    alloc: Global,
+    kept: &Kept<F>,
+    start: &Path,
+) -> Result<Outcome, Fail>
+    requires keeps { Keeps (F.pre kept.now.f) (F.post kept.now.f) kept.now.kind kept.now.film.now }
+    requires start { IsComplete kept.now.film.now (path_data start.now) }
+{
+    let ended = alone(alloc, kept, start, CAP, ENTRIES)?;
+    Ok(Outcome {
+        cost: ended.cost,
+        bound: ended.bound,
+        lines: ended.held,
+    })
+}
+
+/// What both searches come to by static bounds of this kind, the one with notes first. They begin with the
+/// same order.
+fn both(alloc: Global, film: &Film, kind: Kind) -> Result<[Outcome; 2], Fail> {
+    let tables = BoundTables::of(alloc, film)?;
+    let kept = Kept::new(film, kind, |q, _need| {
+        static_bound(film, &tables, kind, Mask(q))
+    });
+    let start = improve(film, &greedy(film));
+    let noting = with_notes(alloc, &kept, &start)?;
+    let forgetful = without_notes(alloc, &kept, &start)?;
+    Ok([noting, forgetful])
+}
+
+/// Whether both searches ran to their ends at this cost, with so many lines each.
+fn have_ended(ends: &[Outcome; 2], cost: u64, lines: [u64; 2]) -> bool {
+    let [noting, forgetful] = ends;
+    noting.cost == cost
+        && noting.bound == cost
+        && noting.lines == lines[0]
+        && forgetful.cost == cost
+        && forgetful.bound == cost
+        && forgetful.lines == lines[1]
+}
+
+// A cheapest order costs 51. What is noted of the scenes that one path leaves rules out other paths that leave
+// the same. The numbers of lines are those of another program of the same rules.
+#[test]
+fn notes_save_lines(rt: HostRuntime) -> Result<(), Fail> {
+    let alloc = rt.alloc();
+    let film = eight(alloc)?;
+    let ends = both(alloc, &film, Kind::Pairs)?;
+    assert!(&rt; have_ended(&ends, 51, [48, 75]), "by pairs {ends:?}");
+    let ends = both(alloc, &film, Kind::Plain)?;
+    assert!(&rt;
+        have_ended(&ends, 51, [106, 165]),
+        "by plain bounds {ends:?}"
+    );
+    Ok(())
+}

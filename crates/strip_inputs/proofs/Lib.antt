@@ -1,0 +1,4 @@
+pub mod Long
+pub mod Ways
+pub mod Given
+pub mod Due

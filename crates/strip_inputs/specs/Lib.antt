@@ -1,0 +1,4 @@
+pub mod Said
+pub mod Input
+pub mod Both
+pub mod Fit

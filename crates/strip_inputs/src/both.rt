@@ -1,0 +1,66 @@
+// The file of a film, and then that of a plan.
+ghost use Rattle.std.specs.Prelude.{◌≡◌, Err, IfOk, string_bytes};
+ghost use Rattle.strip_answer.specs.Run.{FilesStay, HasReadFault, files_data};
+ghost use Rattle.strip_inputs.specs.Both.{AreSaid, BothSay, IsEither, ways_of_input};
+
+use crate::film::film_input;
+use crate::input::Input;
+use crate::plan::plan_input;
+use std::alloc::Global;
+use strip_answer::Stop;
+use strip_io::Files;
+use strip_model::Instance;
+use strip_proof::Plan;
+use strip_words::PlanFiles;
+
+/// The instance that the film's file says and the plan that the plan's says of it, or the answer to the
+/// first of the two that isn't fit. The plan's file is read only where the film's is fit.
+pub fn both_inputs<F: Files>(
+    alloc: Global,
+    files: &mut F,
+    names: &PlanFiles,
+) -> Result<Input<(Instance, Plan)>, Stop>
+    ensures given { IfOk result (λ input. BothSay (ways_of_input input) (string_bytes names.now.film) (string_bytes names.now.plan)
+        (files_data (F.holds files.old) (F.bytes files.old) (F.faults files.old) (F.came files.old))
+        (files_data (F.holds files.new) (F.bytes files.new) (F.faults files.new) (F.came files.new))) }
+    ensures said { IfOk result AreSaid }
+    ensures read { result ≡ Err Stop.Read → HasReadFault
+        (files_data (F.holds files.old) (F.bytes files.old) (F.faults files.old) (F.came files.old))
+        (files_data (F.holds files.new) (F.bytes files.new) (F.faults files.new) (F.came files.new))
+        (IsEither (string_bytes names.now.film) (string_bytes names.now.plan)) }
+    ensures files { FilesStay
+        (files_data (F.holds files.old) (F.bytes files.old) (F.faults files.old) (F.came files.old))
+        (files_data (F.holds files.new) (F.bytes files.new) (F.faults files.new) (F.came files.new))
+        (IsEither (string_bytes names.now.film) (string_bytes names.now.plan)) (result ≡ Err Stop.Read) }
+{
+    both_said(alloc, files, names.film.as_str(), names.plan.as_str())
+}
+
+fn both_said<F: Files>(
+    alloc: Global,
+    files: &mut F,
+    film: &str,
+    plan: &str,
+) -> Result<Input<(Instance, Plan)>, Stop>
+    ensures given { IfOk result (λ input. BothSay (ways_of_input input) film.now plan.now
+        (files_data (F.holds files.old) (F.bytes files.old) (F.faults files.old) (F.came files.old))
+        (files_data (F.holds files.new) (F.bytes files.new) (F.faults files.new) (F.came files.new))) }
+    ensures said { IfOk result AreSaid }
+    ensures read { result ≡ Err Stop.Read → HasReadFault
+        (files_data (F.holds files.old) (F.bytes files.old) (F.faults files.old) (F.came files.old))
+        (files_data (F.holds files.new) (F.bytes files.new) (F.faults files.new) (F.came files.new))
+        (IsEither film.now plan.now) }
+    ensures files { FilesStay
+        (files_data (F.holds files.old) (F.bytes files.old) (F.faults files.old) (F.came files.old))
+        (files_data (F.holds files.new) (F.bytes files.new) (F.faults files.new) (F.came files.new))
+        (IsEither film.now plan.now) (result ≡ Err Stop.Read) }
+{
+    let inst = match film_input(alloc, files, film)? {
+        Input::Said(inst) => inst,
+        Input::Refused(answer) => return Ok(Input::Refused(answer)),
+    };
+    match plan_input(alloc, files, &inst, plan)? {
+        Input::Said(plan) => Ok(Input::Said((inst, plan))),
+        Input::Refused(answer) => Ok(Input::Refused(answer)),
+    }
+}

@@ -1,0 +1,75 @@
+// The file of a film.
+ghost use Rattle.std.specs.Prelude.{◌≡◌, ◌≢◌, ◌≤◌, length, Err, IfOk, OnOk};
+ghost use Rattle.strip_io.specs.Counts.{ReadFailed};
+ghost use Rattle.strip_instance.specs.declared.fault.InstanceFault.TheVariants.{Memory as OutOfMemory};
+ghost use Rattle.strip_instance.specs.Told.{told_of};
+ghost use Rattle.strip_answer.specs.declared.status.Status.TheVariants.{BadInstance};
+ghost use Rattle.strip_answer.specs.Ending.{answer_text};
+ghost use Rattle.strip_answer.specs.Run.{FilesStay, files_data};
+ghost use Rattle.strip_inputs.specs.Said.{IsFilmGiven, IsRefusal, film_said};
+ghost use Rattle.strip_inputs.specs.Input.{HasInput};
+
+use crate::input::{Input, too_long};
+use std::alloc::Global;
+use strip_answer::{Answer, Status, Stop};
+use strip_instance::laws::{
+    what_is_said_has_no_pairs, what_is_said_has_readable_names, what_is_said_keeps_the_limits,
+};
+use strip_instance::{InstanceFault, read_instance};
+use strip_io::{Files, LoadFault, Memory, load};
+use strip_model::Instance;
+
+/// How many bytes a film's file may have.
+pub const MAX_FILM: u64 = 1_048_576;
+
+/// The instance that the file says, or the answer to a file that says none.
+pub fn film_input<F: Files>(
+    alloc: Global,
+    files: &mut F,
+    name: &str,
+) -> Result<Input<Instance>, Stop>
+    ensures given { IfOk result (λ input. HasInput name.now 1_048_576
+        (files_data (F.holds files.old) (F.bytes files.old) (F.faults files.old) (F.came files.old))
+        (files_data (F.holds files.new) (F.bytes files.new) (F.faults files.new) (F.came files.new))
+        (λ text. IsFilmGiven (film_said text) input)) }
+    ensures read { result ≡ Err Stop.Read
+        → ReadFailed name.now (F.holds files.old) (F.faults files.old) (F.faults files.new) }
+    ensures files { FilesStay
+        (files_data (F.holds files.old) (F.bytes files.old) (F.faults files.old) (F.came files.old))
+        (files_data (F.holds files.new) (F.bytes files.new) (F.faults files.new) (F.came files.new))
+        (λ file. name.now ≡ file) (result ≡ Err Stop.Read) }
+{
+    match load(alloc, files, name, MAX_FILM) {
+        Ok(text) => Ok(said(alloc, &text)?),
+        Err(LoadFault::TooLong) => Ok(Input::Refused(too_long(alloc, Status::BadInstance)?)),
+        Err(LoadFault::Read) => Err(Stop::Read),
+        Err(LoadFault::Memory) => Err(Stop::Memory),
+    }
+}
+
+/// What a text that isn't too long says.
+fn said(alloc: Global, text: &[u8]) -> Result<Input<Instance>, Memory>
+    requires { length text.now ≤ 1_048_576 }
+    ensures { IfOk result (IsFilmGiven (film_said text.now)) }
+{
+    match read_instance(alloc, text) {
+        Ok(inst) => {
+            what_is_said_keeps_the_limits();
+            what_is_said_has_readable_names();
+            what_is_said_has_no_pairs();
+            Ok(Input::Said(inst))
+        }
+        Err(fault) => Ok(Input::Refused(refused(alloc, fault)?)),
+    }
+}
+
+/// The answer to a text that says this fault. Want of memory says nothing of the text.
+fn refused(alloc: Global, fault: InstanceFault) -> Result<Answer, Memory>
+    ensures of_text { OnOk result (fault ≢ OutOfMemory) }
+    ensures refusal { IfOk result (λ answer. IsRefusal BadInstance (told_of fault) answer.status (answer_text answer)) }
+{
+    match fault.told() {
+        Some(told) => Answer::error(alloc, Status::BadInstance, told),
+        None => Err(Memory),
+    }
+}

@@ -1,0 +1,68 @@
+// The file of a plan.
+ghost use Rattle.std.specs.Prelude.{◌≡◌, ◌≢◌, ◌≤◌, length, Err, IfOk, OnOk};
+ghost use Rattle.strip_io.specs.Counts.{ReadFailed};
+ghost use Rattle.strip_proof.specs.declared.fault.PlanFault.TheVariants.{Memory as OutOfMemory};
+ghost use Rattle.strip_proof.specs.Told.{told_of};
+ghost use Rattle.strip_answer.specs.declared.status.Status.TheVariants.{BadPlan};
+ghost use Rattle.strip_answer.specs.Ending.{answer_text};
+ghost use Rattle.strip_answer.specs.Run.{FilesStay, files_data};
+ghost use Rattle.strip_inputs.specs.Said.{IsPlanGiven, IsRefusal, plan_said};
+ghost use Rattle.strip_inputs.specs.Input.{HasInput};
+
+use crate::input::{Input, too_long};
+use std::alloc::Global;
+use strip_answer::{Answer, Status, Stop};
+use strip_io::{Files, LoadFault, Memory, load};
+use strip_model::Instance;
+use strip_proof::{Plan, PlanFault, read_plan};
+
+/// How many bytes a plan's file may have.
+pub const MAX_PLAN: u64 = 1_073_741_824;
+
+/// The plan of the instance that the file says, or the answer to a file that says none.
+pub fn plan_input<F: Files>(
+    alloc: Global,
+    files: &mut F,
+    inst: &Instance,
+    name: &str,
+) -> Result<Input<Plan>, Stop>
+    ensures given { IfOk result (λ input. HasInput name.now 1_073_741_824
+        (files_data (F.holds files.old) (F.bytes files.old) (F.faults files.old) (F.came files.old))
+        (files_data (F.holds files.new) (F.bytes files.new) (F.faults files.new) (F.came files.new))
+        (λ text. IsPlanGiven inst.now (plan_said inst.now text) input)) }
+    ensures read { result ≡ Err Stop.Read
+        → ReadFailed name.now (F.holds files.old) (F.faults files.old) (F.faults files.new) }
+    ensures files { FilesStay
+        (files_data (F.holds files.old) (F.bytes files.old) (F.faults files.old) (F.came files.old))
+        (files_data (F.holds files.new) (F.bytes files.new) (F.faults files.new) (F.came files.new))
+        (λ file. name.now ≡ file) (result ≡ Err Stop.Read) }
+{
+    match load(alloc, files, name, MAX_PLAN) {
+        Ok(text) => Ok(said(alloc, inst, &text)?),
+        Err(LoadFault::TooLong) => Ok(Input::Refused(too_long(alloc, Status::BadPlan)?)),
+        Err(LoadFault::Read) => Err(Stop::Read),
+        Err(LoadFault::Memory) => Err(Stop::Memory),
+    }
+}
+
+/// What a text that isn't too long says.
+fn said(alloc: Global, inst: &Instance, text: &[u8]) -> Result<Input<Plan>, Memory>
+    requires { length text.now ≤ 1_073_741_824 }
+    ensures { IfOk result (IsPlanGiven inst.now (plan_said inst.now text.now)) }
+{
+    match read_plan(alloc, inst, text) {
+        Ok(plan) => Ok(Input::Said(plan)),
+        Err(fault) => Ok(Input::Refused(refused(alloc, fault)?)),
+    }
+}
+
+/// The answer to a text that says this fault. Want of memory says nothing of the text.
+fn refused(alloc: Global, fault: PlanFault) -> Result<Answer, Memory>
+    ensures of_text { OnOk result (fault ≢ OutOfMemory) }
+    ensures refusal { IfOk result (λ answer. IsRefusal BadPlan (told_of fault) answer.status (answer_text answer)) }
+{
+    match fault.told() {
+        Some(told) => Answer::error(alloc, Status::BadPlan, told),
+        None => Err(Memory),
+    }
+}

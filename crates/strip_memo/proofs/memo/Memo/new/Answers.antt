@@ -1,0 +1,8 @@
+use Rattle.std.proofs.Common.{◌≡◌, false}
+use Rattle.strip_mask.specs.Set.{has}
+use Rattle.strip_mask.proofs.ByMembers.{has-empty}
+use Rattle.strip_memo.proofs.memo.Memo.new.Goals as goal
+
+-- the empty set lies in every film
+pub at-requires-clause-lies : goal.at-requires-clause-lies
+at-requires-clause-lies g c = λ i there. absurd (let e : has 0 i ≡ false = has-empty i in cc)

@@ -1,0 +1,118 @@
+// A memo of static bounds.
+ghost use Rattle.std.specs.Prelude.{◌-◌, ◌^◌, ◌<◌, ◌≤◌, vec_len};
+
+use std::alloc::Global;
+use strip_bound::Kept;
+use strip_io::Memory;
+use strip_mask::Mask;
+use strip_pay::Kind;
+
+const MULTIPLIER: u64 = 0x9E37_79B9_7F4A_7C15;
+
+/// What is remembered of a set: a number that is at most its static bound.
+#[derive(Clone, Copy, Debug)]
+pub(crate) struct Entry {
+    pub set: u64,
+    pub value: u64,
+}
+
+/// A memo of static bounds: a table in which each set has one place, by the top bits of its hash, and the
+/// last set that came there stands.
+#[derive(Debug, Drop)]
+pub struct Memo {
+    pub(crate) entries: Vec<Entry>,
+    /// Whether each value is the whole bound.
+    pub(crate) is_whole: bool,
+    shift: u32,
+    pub ghost room: { (shift < 64) × (2 ^ (64 - shift) ≤ vec_len entries) },
+}
+
+impl Memo {
+    ghost use Rattle.std.specs.Prelude.{◌≡◌, ℕ, ◌≤◌, ◌⊎◌, ◌<◌, true, IfOk, vec_len};
+    ghost use Rattle.strip_mask.specs.Set.{has};
+    ghost use Rattle.strip_film.specs.Film.{LiesIn};
+    ghost use Rattle.strip_bound.specs.Bounds.{bound};
+    ghost use Rattle.strip_bound.specs.Kept.{Keeps};
+    ghost use Rattle.strip_memo.specs.Memo.{IsMemo};
+
+    /// A memo that remembers the empty set alone: 2^18 entries of 16 bytes, 2^19 for groups.
+    pub fn new<F: Fn(u64, u64) -> u64>(alloc: Global, kept: &Kept<F>) -> Result<Memo, Memory>
+        requires { Keeps (F.pre kept.now.f) (F.post kept.now.f) kept.now.kind kept.now.film.now }
+        ensures { IfOk result (IsMemo kept.now.kind kept.now.film.now) }
+    {
+        let bits = bits_of(kept.kind());
+        let empty = Entry {
+            set: 0,
+            value: kept.at(Mask(0)),
+        };
+        Ok(Memo {
+            entries: vec![in alloc; empty; 1 << bits]?,
+            is_whole: is_answered_whole(kept.kind()),
+            shift: 64 - bits,
+        })
+    }
+
+    /// A number that is at most the static bound of the set, in units of money, and at least `need` or the
+    /// bound: the one that stands here, or else one that is asked for and then stands here.
+    pub fn reach<F: Fn(u64, u64) -> u64>(&mut self, kept: &Kept<F>, q: Mask, need: u64) -> u64
+        requires keeps { Keeps (F.pre kept.now.f) (F.post kept.now.f) kept.now.kind kept.now.film.now }
+        requires memo { IsMemo kept.now.kind kept.now.film.now self.old }
+        requires lies { LiesIn kept.now.film.now q.0 }
+        ensures memo { IsMemo kept.now.kind kept.now.film.now self.new }
+        ensures most { result ≤ bound kept.now.kind kept.now.film.now q.0 }
+        ensures reaches { (need ≤ result) ⊎ (result ≡ bound kept.now.kind kept.now.film.now q.0) }
+    {
+        let place = self.place(q);
+        let entry = self.entries[place];
+        if entry.set == q.0 && (self.is_whole || entry.value >= need) {
+            return entry.value;
+        }
+        let value = if self.is_whole {
+            kept.at(q)
+        } else {
+            kept.reach(q, need)
+        };
+        self.entries[place] = Entry { set: q.0, value };
+        value
+    }
+
+    /// Those of the scenes without each of which the set is one that stands here. The places are looked at in
+    /// a row, so that they come from memory at once. Which stand is a hint, on which the time alone depends.
+    pub fn standing(&self, q: Mask, scenes: Mask) -> Mask
+        ensures { (scene : ℕ) → has result.0 scene ≡ true → has scenes.0 scene ≡ true }
+    {
+        let mut standing = Mask(0);
+        for s in scenes.iter() {
+            let rest = q.without(s);
+            if self.entries[self.place(rest)].set == rest.0 {
+                standing = standing.with(s);
+            }
+        }
+        standing
+    }
+
+    /// The place of the set's entry.
+    fn place(&self, q: Mask) -> usize
+        ensures { result < vec_len self.now.entries }
+    {
+        (q.0.wrapping_mul(MULTIPLIER) >> self.shift) as usize
+    }
+}
+
+/// How many bits of its hash tell a set's place.
+fn bits_of(kind: Kind) -> u32
+    ensures some { 0 < result }
+    ensures few { result ≤ 19 }
+{
+    match kind {
+        Kind::Plain | Kind::Pairs => 18,
+        Kind::Groups => 19,
+    }
+}
+
+/// Whether the whole bound is answered whatever is asked for, so that it costs nothing to ask for it.
+fn is_answered_whole(kind: Kind) -> bool {
+    match kind {
+        Kind::Plain | Kind::Pairs | Kind::Groups => true,
+    }
+}

@@ -1,0 +1,28 @@
+// What a fault tells.
+ghost use Rattle.std.specs.Prelude.{◌≡◌, option_map};
+ghost use Rattle.strip_text.specs.Told.{told_data};
+ghost use Rattle.strip_proof.specs.Told.{told_of};
+
+use crate::fault::PlanFault;
+use strip_text::Told;
+
+impl PlanFault {
+    /// The fault's name, and the row that it tells, where it tells one; none for want of memory,
+    /// which is no fault of a text.
+    pub fn told(&self) -> Option<Told>
+        ensures { option_map told_data result ≡ told_of self.now }
+    {
+        let (name, first) = match *self {
+            PlanFault::BadRow { row } => ("BadRow", Some(row)),
+            PlanFault::Missing { which } => ("Missing", Some(which)),
+            PlanFault::UnknownScene { row } => ("UnknownScene", Some(row)),
+            PlanFault::TooManyLines => ("TooManyLines", None),
+            PlanFault::Memory => return None,
+        };
+        Some(Told {
+            name,
+            first,
+            second: None,
+        })
+    }
+}

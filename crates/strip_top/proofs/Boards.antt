@@ -1,0 +1,98 @@
+-- What is claimed of each command.
+use Rattle.std.proofs.Common.{◌≡◌, ◌∙◌, ◌⊎◌, inl, inr, ◌<◌, ◌≤◌, ℕ, List, Option, Some, Result, Ok, Err, IfOk, refl, sym, subst, ap, arith}
+use Rattle.std.proofs.lemmas.Bool.{cases_lt}
+use Rattle.strip_model.specs.Data.{InstanceData}
+use Rattle.strip_model.specs.Film.{film_of}
+use Rattle.strip_reduce.specs.Reduction.{class_count}
+use Rattle.strip_text.specs.Told.{ToldData}
+use Rattle.strip_words.specs.Words.{Word}
+use Rattle.strip_words.specs.Solve.{SolveData}
+use Rattle.strip_words.specs.Plans.{PlanFilesData}
+use Rattle.strip_words.specs.Jobs.{JobData, Solve, Check, Convert, NameJob}
+use Rattle.strip_proof.specs.declared.plan.Status.{Status as PlanStatus}
+use Rattle.strip_proof.specs.declared.plan.Status.TheVariants.{Optimal, Bounded as CutShort}
+use Rattle.strip_proof.specs.Plan.{PlanData}
+use Rattle.strip_answer.specs.declared.status.Status.{Status}
+use Rattle.strip_answer.specs.declared.status.Status.TheVariants.{Done, Bounded, BadInstance}
+use Rattle.strip_answer.specs.Run.{FilesData}
+use Rattle.strip_answer.proofs.Endings.{AreShown, IsOfJob}
+use Rattle.strip_inputs.specs.Fit.{AreUnfit, IsNoFilm}
+use Rattle.strip_inputs.specs.Said.{film_said}
+use Rattle.strip_inputs.proofs.Ways.{due_by, due_told, due_unfit}
+use Rattle.strip_audit.proofs.Audits.{audit_answers, audit_fit, audit_unfit}
+use Rattle.strip_top.specs.Plan.{IsPlan, exit_of}
+use Rattle.strip_top.specs.Solve.{HasClasses, IsAnswerTo, IsSolveAnswer, IsSolveDue, IsSolveFit, IsSolveUnfit}
+use Rattle.strip_top.specs.Convert.{IsConvertDue, IsConvertFit, IsConverted}
+use Rattle.strip_top.specs.Due.{IsDueFor, IsFitFor, IsFitStatus, IsUnfitFor, board_claims}
+
+exits : (status : PlanStatus) → (exit_of status ≡ Done) ⊎ (exit_of status ≡ Bounded)
+exits Optimal = inl refl
+exits CutShort = inr refl
+
+plan_ends : (job : SolveData) (inst : InstanceData) (status : Status) (printed : List ℕ) → IsPlan job inst status printed → (status ≡ Done) ⊎ (status ≡ Bounded)
+plan_ends job inst status printed plan = elim (exits plan.plan.status) [
+  | inl done ↦ inl (plan.ends ∙ done)
+  | inr bounded ↦ inr (plan.ends ∙ bounded)
+]
+
+ends_answer : (status : Status) → (status ≡ Done) ⊎ (status ≡ Bounded) → IsOfJob status
+ends_answer status (inl is) = subst IsOfJob (sym is) tt
+ends_answer status (inr is) = subst IsOfJob (sym is) tt
+
+module _ (job : SolveData) (before after : FilesData) (status : Status) (printed : List ℕ) (due : IsSolveDue job before after status printed) where
+  solve_answers : IsOfJob status
+  solve_answers = by (film_said due.text) due.holds
+    where
+      by : (said : Result InstanceData (Option ToldData)) → IsAnswerTo job status printed said → IsOfJob status
+      by (Ok inst) is = elim (cases_lt 64 (class_count (film_of inst))) [
+        | inl many ↦ subst IsOfJob (sym (is.too_many many).0) tt
+        | inr few ↦ ends_answer status (plan_ends job inst status printed (is.plan few))
+      ]
+      by (Err told) is = subst IsOfJob (sym is.0) tt
+
+  -- what is due for an instance that the files tell
+  solve_told : (IsCount : ℕ → Type 0) (has : HasClasses IsCount job before) → IsSolveAnswer job has.inst status printed
+  solve_told IsCount has =
+      subst (IsAnswerTo job status printed) (ap film_said (due.told has.text has.told) ∙ has.says) due.holds
+
+  solve_fit : IsSolveFit job before → (status ≡ Done) ⊎ (status ≡ Bounded)
+  solve_fit has = plan_ends job has.inst status printed ((solve_told (λ count. count ≤ 64) has).plan has.count)
+
+  solve_unfit : (why : Status) → IsSolveUnfit job before why → status ≡ why
+  solve_unfit why (inl none, is) =
+      let way : IsAnswerTo job status printed (Err none.fault)
+      = subst (IsAnswerTo job status printed) (ap film_said (due.told none.text none.told) ∙ none.refused) due.holds in
+      way.0 ∙ sym is
+  solve_unfit why (inr has, is) = ((solve_told (λ count. 64 < count) has).too_many has.count).0 ∙ sym is
+
+module _ (files : PlanFilesData) (before after : FilesData) (status : Status) (printed : List ℕ) (due : IsConvertDue files before after status printed) where
+  convert_answers : IsOfJob status
+  convert_answers =
+      due_by IsConverted files.film files.plan before after status printed IsOfJob tt tt (λ inst plan is. subst IsOfJob (sym is.done) tt) due
+
+  convert_fit : IsConvertFit files before → status ≡ Done
+  convert_fit (inst, plan, told, any) = (due_told IsConverted files.film files.plan before after status printed inst plan told due).1.done
+
+  convert_unfit : (why : Status) → AreUnfit files.film files.plan before why → status ≡ why
+  convert_unfit why unfit = due_unfit IsConverted files.film files.plan before after status printed why unfit due
+
+job_answers : (job : JobData) (before after : FilesData) (status : Status) (printed : List ℕ) → IsDueFor job before after status printed → IsOfJob status
+job_answers (Solve job) = solve_answers job
+job_answers (Check files) = audit_answers files
+job_answers (Convert files) = convert_answers files
+
+job_fit : (job : JobData) (before after : FilesData) (status : Status) (printed : List ℕ) → IsFitFor job before
+    → IsDueFor job before after status printed → IsFitStatus job status
+job_fit (Solve job) before after status printed fit due = solve_fit job before after status printed due fit
+job_fit (Check files) before after status printed fit due = audit_fit files before after status printed due fit
+job_fit (Convert files) before after status printed fit due = convert_fit files before after status printed due fit
+
+job_unfit : (job : JobData) (before after : FilesData) (status why : Status) (printed : List ℕ) → IsUnfitFor job before why
+    → IsDueFor job before after status printed → status ≡ why
+job_unfit (Solve job) before after status why printed unfit due = solve_unfit job before after status printed due why unfit
+job_unfit (Check files) before after status why printed unfit due = audit_unfit files before after status printed due why unfit
+job_unfit (Convert files) before after status why printed unfit due = convert_unfit files before after status printed due why unfit
+
+-- the claims hold where words name one job
+pub board_shown : ((words : List Word) (a b : JobData) → NameJob words a → NameJob words b → a ≡ b) → AreShown board_claims
+board_shown once = record { once = once; answers = job_answers; fit = job_fit; unfit = job_unfit }

@@ -1,0 +1,84 @@
+-- The text of a plan that was found.
+use Rattle.std.proofs.Common.{◌≡◌, ◌∙◌, ◌↔◌, ◌<◌, ◌≤◌, ◌+◌, ℕ, Bool, true, false, List, Ok, Err, IfOk, Result, refl, sym, subst, ap, arith, if◌then◌else◌}
+use Rattle.strip_pay.specs.declared.kind.Kind.{Kind}
+use Rattle.strip_pay.specs.Film.{FilmData}
+use Rattle.strip_film.specs.Film.{all_scenes}
+use Rattle.strip_film.specs.Path.{PathData}
+use Rattle.strip_lines.specs.Lines.{AreJustified, known}
+use Rattle.strip_model.specs.Data.{InstanceData}
+use Rattle.strip_model.specs.Film.{film_of}
+use Rattle.strip_reduce.specs.Reduction.{class_count, reduced}
+use Rattle.strip_words.specs.Solve.{SolveData}
+use Rattle.strip_proof.specs.declared.plan.Status.{Status as PlanStatus}
+use Rattle.strip_proof.specs.declared.plan.Status.TheVariants.{Optimal, Bounded as CutShort}
+use Rattle.strip_proof.specs.Plan.{PlanData}
+use Rattle.strip_proof.specs.Rows.{bare_text, plan_text}
+use Rattle.strip_proof.specs.Text.{HasReadableScenes, IsReadablePlan, says}
+use Rattle.strip_check.specs.Accepted.{IsAccepted}
+use Rattle.strip_check.specs.Accepted.{class_rules as rules_of_classes}
+use Rattle.strip_solve.specs.Solved.{Closes, IsSolved, RanOut, class_rules}
+use Rattle.strip_answer.specs.declared.answer.Answer.{Answer}
+use Rattle.strip_answer.specs.declared.status.Status.{Status}
+use Rattle.strip_answer.specs.declared.status.Status.TheVariants.{BadInstance}
+use Rattle.strip_answer.specs.Ending.{answer_text}
+use Rattle.strip_answer.specs.Rows.{error_row}
+use Rattle.strip_inputs.specs.Said.{IsSaidFilm, too_many_told}
+use Rattle.strip_top.specs.Plan.{IsPlan, exit_of, text_of}
+use Rattle.strip_top.specs.Solve.{IsSolveAnswer}
+
+-- the status of a plan that was found tells whether its bound is its cost
+status_tells : (kind : Kind) (film : FilmData) (most : ℕ) (start : PathData) (plan : PlanData) (status : PlanStatus) → Closes kind film most start plan status
+    → (status ≡ Optimal) ↔ (plan.bound ≡ plan.cost)
+status_tells kind film most start plan Optimal closes = ((λ is. closes), (λ is. refl))
+status_tells kind film most start plan CutShort closes =
+    ((λ is. absurd (let e : CutShort ≡ Optimal = is in cc)), (λ is. absurd (omega (arith, is, closes.below))))
+
+-- a plan that was found is accepted by a checker
+pub solved_accepted : (kind : Kind) (film : FilmData) (most : ℕ) (plan : PlanData) → IsSolved kind film most plan → IsAccepted film plan
+solved_accepted kind film most plan solved = record {
+  order = solved.order;
+  cost = solved.cost;
+  justified = subst (λ k. AreJustified (rules_of_classes k film) plan.lines) (sym solved.same_kind) solved.proof.justified;
+  reaches =
+      let reached = solved.proof.reaches in
+      subst (λ k. plan.bound ≤ (reduced film).apart + known (rules_of_classes k film) plan.lines (all_scenes (reduced film).film)) (sym solved.same_kind)
+      (omega (arith, reached));
+  status = status_tells kind film most solved.start plan plan.status solved.closes;
+}
+
+proved_text : (proof : Bool) (inst : InstanceData) (plan : PlanData) → proof ≡ true → text_of proof inst plan ≡ plan_text inst plan
+proved_text true inst plan is = refl
+proved_text false inst plan is = absurd (let e : false ≡ true = is in cc)
+
+-- the answer to an instance that is solved
+pub plan_answer : {E : Type 0} (job : SolveData) (inst : InstanceData) (plan : PlanData) (r : Result Answer E) → IsSaidFilm inst
+    → class_count (film_of inst) ≤ 64 → IsSolved job.kind (film_of inst) job.nodes plan → IsReadablePlan inst plan
+    → ((inst : InstanceData) (plan : PlanData) → HasReadableScenes inst → IsReadablePlan inst plan → says inst (plan_text inst plan) ≡ Ok plan)
+    → IfOk r (λ answer. answer.status ≡ exit_of plan.status) → IfOk r (λ answer. answer_text answer ≡ text_of job.proof inst plan)
+    → IfOk r (λ answer. IsSolveAnswer job inst answer.status (answer_text answer))
+plan_answer job inst plan (Ok answer) said few solved readable back ends text = record {
+  plan = λ _. record {
+    is_instance = said.is_instance;
+    no_pairs = said.no_pairs;
+    plan = plan;
+    solved = solved;
+    ends = ends;
+    text = text;
+    proves = λ asked. (
+      ap (says inst) (text ∙ proved_text job.proof inst plan asked) ∙ back inst plan said.names readable,
+      solved_accepted job.kind (film_of inst) job.nodes plan solved,
+    );
+  };
+  too_many = λ many. absurd (omega (arith, few, many));
+}
+plan_answer job inst plan (Err e) said few solved readable back ends text = tt
+
+-- the answer to one with too many classes
+pub many_answer : {E : Type 0} (job : SolveData) (inst : InstanceData) (count : ℕ) (r : Result Answer E) → 64 < count → count ≡ class_count (film_of inst)
+    → IfOk r (λ answer. answer.status ≡ BadInstance) → IfOk r (λ answer. answer_text answer ≡ error_row (too_many_told count))
+    → IfOk r (λ answer. IsSolveAnswer job inst answer.status (answer_text answer))
+many_answer job inst count (Ok answer) many is status text = record {
+  plan = λ few. absurd (omega (arith, many, is, few));
+  too_many = λ _. (status, text ∙ ap (λ n. error_row (too_many_told n)) is);
+}
+many_answer job inst count (Err e) many is status text = tt

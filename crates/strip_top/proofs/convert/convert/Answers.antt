@@ -1,0 +1,18 @@
+use Rattle.std.proofs.Common.{subst}
+use Rattle.strip_inputs.specs.Both.{AreSaid}
+use Rattle.strip_inputs.proofs.Due.{given_due, refused_due}
+use Rattle.strip_top.specs.Convert.{IsConverted}
+use Rattle.strip_top.proofs.convert.convert.Goals as goal
+
+pub written-requires-clause-names : goal.written-requires-clause-names
+written-requires-clause-names g c = (subst AreSaid c.in-Said.is c.in_ok-inst.ensures.said).0.names
+
+pub written-requires-clause-readable : goal.written-requires-clause-readable
+written-requires-clause-readable g c = (subst AreSaid c.in-Said.is c.in_ok-inst.ensures.said).1
+
+pub returns-in_ok-written-in-Said-clause-due : goal.returns-in_ok-written-in-Said-clause-due
+returns-in_ok-written-in-Said-clause-due g c =
+    given_due IsConverted _ _ _ _ c.in_ok-inst.field-0 c.in-Said.inst c.in-Said.plan _ _ c.in-Said.is (λ said readable. c.in_ok-written-in-Said.ensures) c.in_ok-inst.ensures.given
+
+pub returns-in-Refused-clause-due : goal.returns-in-Refused-clause-due
+returns-in-Refused-clause-due g c = refused_due IsConverted _ _ _ _ c.in_ok-inst.field-0 c.in-Refused.answer c.in-Refused.is c.in_ok-inst.ensures.given

@@ -1,0 +1,100 @@
+use Rattle.std.proofs.Common.{arith, ◌≡◌, ◌-◌, ◌<◌, ℕ, true, false, length, append_assoc, sym, ap, ◌∙◌, subst}
+use Rattle.strip_mask.specs.Iter.{rest_of}
+use Rattle.strip_mask.specs.Set.{members, without}
+use Rattle.strip_mask.proofs.Below.{LiesBelow-without}
+use Rattle.strip_mask.proofs.Turns.{turn_below, turn_member, turns_all}
+use Rattle.strip_pay.specs.Film.{FilmData}
+use Rattle.strip_film.specs.Film.{IsFilm, LiesIn}
+use Rattle.strip_film.specs.Shoot.{step_cost}
+use Rattle.strip_bound.specs.Bounds.{bound}
+use Rattle.strip_lines.specs.Lines.{rules_of}
+use Rattle.strip_rule.specs.Rule.{open_firsts}
+use Rattle.strip_best.specs.Best.{best_bound}
+use Rattle.strip_trim.specs.Marks.{IsBestOf, MarksMore}
+use Rattle.strip_trim.proofs.Firsts.{first_there, firsts_set, short_from, short_to}
+use Rattle.strip_trim.proofs.Followers.{IsShort, follows_all, follows_more, follows_none, follows_same}
+use Rattle.strip_trim.proofs.marks.mark_followers.Goals as goal
+
+pub loop-s-init : goal.loop-s-init
+loop-s-init g c = record {
+  memo = c.is_below.ensures.memo;
+  turns = ap rest_of c.into_iter-s-iterator.ensures.into_iter_gives ∙ c.iter-s-items.ensures.left
+      ∙ (λ i. members (c.open_firsts.ensures.«open» i)) ∙ (λ i. members (open_firsts (c.film-film.ensures i) c.args.entry.now.set));
+  marked = follows_none (rules_of c.args.kept.now.kind c.args.kept.now.film.now) c.args.best.now.lines c.args.entry.now.set c.args.marks.now;
+}
+
+pub without-rest-requires : goal.without-rest-requires
+without-rest-requires g c =
+    turn_below (open_firsts c.args.kept.now.film.now c.args.entry.now.set) c.in-Some.s c.loop-s.yielded (rest_of c.loop-s.s-iterator) (rest_of c.next.new.self)
+    c.loop-s.invariant.turns c.in-Some.ensures.steps
+
+pub step-requires-clause-remains : goal.step-requires-clause-remains
+step-requires-clause-remains g c =
+    first_there c.args.kept.now.film.now c.args.entry.now.set c.in-Some.s
+    (turn_member (open_firsts c.args.kept.now.film.now c.args.entry.now.set) c.in-Some.s c.loop-s.yielded (rest_of c.loop-s.s-iterator) (rest_of c.next.new.self)
+    c.loop-s.invariant.turns c.in-Some.ensures.steps)
+
+pub is_below-requires-in-loop-s-clause-memo : goal.is_below-requires-in-loop-s-clause-memo
+is_below-requires-in-loop-s-clause-memo g c = c.loop-s.invariant.memo
+
+pub is_below-requires-in-loop-s-clause-lies : goal.is_below-requires-in-loop-s-clause-lies
+is_below-requires-in-loop-s-clause-lies g c =
+    subst (LiesIn c.args.kept.now.film.now) (sym c.without-rest.ensures)
+    (LiesBelow-without (length c.args.kept.now.film.now.casts) c.args.entry.now.set c.in-Some.s c.requires.lies)
+
+pub loop-s-preserved-then-is_below : goal.loop-s-preserved-then-is_below
+loop-s-preserved-then-is_below g c =
+    let q : ℕ = c.args.entry.now.set in
+    let lines = c.args.best.now.lines in
+    let step : c.step.result ≡ step_cost c.args.kept.now.film.now q c.in-Some.s
+    = omega (arith, c.step.ensures, ap (λ (film : FilmData). step_cost film q c.in-Some.s) c.film-film.ensures) in
+    let need : c.saturating_sub-need.result ≡ best_bound lines q - step_cost c.args.kept.now.film.now q c.in-Some.s
+    = omega (arith, c.saturating_sub-need.ensures, c.requires.bound, step) in
+    let below : bound c.args.kept.now.kind c.args.kept.now.film.now (without q c.in-Some.s) < c.saturating_sub-need.result
+    = subst (λ (rest : ℕ). bound c.args.kept.now.kind c.args.kept.now.film.now rest < c.saturating_sub-need.result) c.without-rest.ensures
+    (c.is_below-in-loop-s.ensures.below.0 c.if-is_below.true) in
+    record {
+      memo = c.is_below-in-loop-s.ensures.memo;
+      turns = rw append_assoc (rw (← c.in-Some.ensures.steps) c.loop-s.invariant.turns);
+      marked = follows_more (rules_of c.args.kept.now.kind c.args.kept.now.film.now) lines q c.args.marks.now c.loop-s.marks c.loop-s.yielded c.in-Some.s
+          c.loop-s.invariant.marked c.mark.new.marks
+          (subst (λ (rest : ℕ). MarksMore c.loop-s.marks c.mark.new.marks (IsBestOf lines rest)) c.without-rest.ensures c.mark.ensures)
+          (short_from (step_cost c.args.kept.now.film.now q c.in-Some.s) (bound c.args.kept.now.kind c.args.kept.now.film.now (without q c.in-Some.s))
+          c.saturating_sub-need.result (best_bound lines q) need below);
+    }
+
+pub loop-s-preserved : goal.loop-s-preserved
+loop-s-preserved g c =
+    let q : ℕ = c.args.entry.now.set in
+    let lines = c.args.best.now.lines in
+    let step : c.step.result ≡ step_cost c.args.kept.now.film.now q c.in-Some.s
+    = omega (arith, c.step.ensures, ap (λ (film : FilmData). step_cost film q c.in-Some.s) c.film-film.ensures) in
+    let need : c.saturating_sub-need.result ≡ best_bound lines q - step_cost c.args.kept.now.film.now q c.in-Some.s
+    = omega (arith, c.saturating_sub-need.ensures, c.requires.bound, step) in
+    let long : IsShort (rules_of c.args.kept.now.kind c.args.kept.now.film.now) lines q c.in-Some.s → ⊥ = λ short.
+    (let less : bound c.args.kept.now.kind c.args.kept.now.film.now c.without-rest.result.0 < c.saturating_sub-need.result
+    = subst (λ (rest : ℕ). bound c.args.kept.now.kind c.args.kept.now.film.now rest < c.saturating_sub-need.result) (sym c.without-rest.ensures)
+    (short_to (step_cost c.args.kept.now.film.now q c.in-Some.s) (bound c.args.kept.now.kind c.args.kept.now.film.now (without q c.in-Some.s))
+    c.saturating_sub-need.result (best_bound lines q) need short) in
+    let both : true ≡ false = sym (c.is_below-in-loop-s.ensures.below.1 less) ∙ c.if-is_below.false in cc) in
+    record {
+      memo = c.is_below-in-loop-s.ensures.memo;
+      turns = rw append_assoc (rw (← c.in-Some.ensures.steps) c.loop-s.invariant.turns);
+      marked = follows_same (rules_of c.args.kept.now.kind c.args.kept.now.film.now) lines q c.args.marks.now c.loop-s.marks c.loop-s.yielded c.in-Some.s
+          c.loop-s.invariant.marked long;
+    }
+
+pub returns-clause-memo : goal.returns-clause-memo
+returns-clause-memo g c = c.loop-s.invariant.memo
+
+pub returns-clause-marked : goal.returns-clause-marked
+returns-clause-marked g c =
+    let film : FilmData = c.args.kept.now.film.now in
+    let is : IsFilm film = subst IsFilm c.film-film.ensures c.keeps_limits.ensures in
+    let above : bound c.args.kept.now.kind film c.args.entry.now.set < best_bound c.args.best.now.lines c.args.entry.now.set
+    = subst (λ (most : ℕ). bound c.args.kept.now.kind film c.args.entry.now.set < most) c.requires.bound
+    (c.is_below.ensures.below.0 c.if-not-is_below.false) in
+    follows_all (rules_of c.args.kept.now.kind film) c.args.best.now.lines c.args.entry.now.set c.args.marks.now c.loop-s.marks c.loop-s.yielded
+    (firsts_set film c.args.entry.now.set is c.requires.lies)
+    (turns_all (open_firsts film c.args.entry.now.set) c.loop-s.yielded (rest_of c.loop-s.s-iterator) c.loop-s.invariant.turns c.in-None.ensures.steps.0)
+    above c.loop-s.invariant.marked

@@ -1,0 +1,10 @@
+use Rattle.strip_lines.specs.Lines.{rules_of}
+use Rattle.strip_memo.specs.Memo.{IsMemo}
+use Rattle.strip_trim.proofs.Reached.{IsUnderWay}
+use Rattle.strip_trim.proofs.marks.mark_reached.Given as goal
+
+abbrev pub invariant-loop-entry : goal.invariant-loop-entry
+invariant-loop-entry g l = record {
+  memo : IsMemo l.kept.kind l.kept.film.now l.memo;
+  way : IsUnderWay (rules_of l.kept.kind l.kept.film.now) l.best.lines l.best.entries l.entry-iterator.iter.rest.now l.marks;
+}

@@ -1,0 +1,3 @@
+pub mod Trimmed
+pub mod Marks
+pub mod Worked

@@ -1,0 +1,111 @@
+// Which lines stay, as marks on their places.
+ghost use Rattle.std.specs.Prelude.{◌≡◌, ◌↔◌, ℕ, ◌<◌, false, length, IfOk, IsTrue};
+ghost use Rattle.strip_film.specs.Film.{LiesIn};
+ghost use Rattle.strip_bound.specs.Bounds.{bound};
+ghost use Rattle.strip_bound.specs.Kept.{Keeps};
+ghost use Rattle.strip_lines.specs.Lines.{AreJustified, rules_of};
+ghost use Rattle.strip_memo.specs.Memo.{IsMemo};
+ghost use Rattle.strip_best.specs.Best.{best_bound};
+ghost use Rattle.strip_trim.specs.Marks.{AreMarked, Follows, IsBestOf, MarksMore, is_marked};
+
+use std::alloc::Global;
+use strip_best::{Best, BestLine};
+use strip_bound::Kept;
+use strip_film::step;
+use strip_io::Memory;
+use strip_mask::Mask;
+use strip_memo::Memo;
+use strip_rule::open_firsts;
+
+/// For each line whether it stays: it is the best one of its set, and the set is reached.
+pub(crate) fn marks_of<F: Fn(u64, u64) -> u64>(
+    alloc: Global,
+    kept: &Kept<F>,
+    best: &Best,
+    count: usize,
+) -> Result<Vec<bool>, Memory>
+    requires keeps { Keeps (F.pre kept.now.f) (F.post kept.now.f) kept.now.kind kept.now.film.now }
+    requires justified { AreJustified (rules_of kept.now.kind kept.now.film.now) best.now.lines }
+    requires count { count ≡ length best.now.lines }
+    ensures { IfOk result (λ marks. AreMarked (rules_of kept.now.kind kept.now.film.now) best.now.lines marks.items) }
+{
+    let mut memo = Memo::new(alloc, kept)?;
+    let mut marks = vec![in alloc; false; count]?;
+    mark_reached(kept, &mut memo, best, &mut marks);
+    Ok(marks)
+}
+
+/// Marks the lines that stay. What a set leads on to has a lesser number, so one pass by falling set
+/// meets each set behind all that lead on to it.
+fn mark_reached<F: Fn(u64, u64) -> u64>(
+    kept: &Kept<F>,
+    memo: &mut Memo,
+    best: &Best,
+    marks: &mut [bool],
+)
+    requires keeps { Keeps (F.pre kept.now.f) (F.post kept.now.f) kept.now.kind kept.now.film.now }
+    requires justified { AreJustified (rules_of kept.now.kind kept.now.film.now) best.now.lines }
+    requires memo { IsMemo kept.now.kind kept.now.film.now memo.old }
+    requires count { length marks.old ≡ length best.now.lines }
+    requires none { (place : ℕ) → is_marked marks.old place ≡ false }
+    ensures { AreMarked (rules_of kept.now.kind kept.now.film.now) best.now.lines marks.new }
+{
+    mark(best, marks, kept.film().all());
+    for entry in best.entries().iter().rev() {
+        if marks[entry.line] {
+            mark_followers(kept, memo, best, marks, entry);
+        }
+    }
+}
+
+/// Marks the lines that the best line of a set leads on to.
+fn mark_followers<F: Fn(u64, u64) -> u64>(
+    kept: &Kept<F>,
+    memo: &mut Memo,
+    best: &Best,
+    marks: &mut [bool],
+    entry: &BestLine,
+)
+    requires keeps { Keeps (F.pre kept.now.f) (F.post kept.now.f) kept.now.kind kept.now.film.now }
+    requires memo { IsMemo kept.now.kind kept.now.film.now memo.old }
+    requires count { length marks.old ≡ length best.now.lines }
+    requires lies { LiesIn kept.now.film.now entry.now.set }
+    requires bound { entry.now.bound ≡ best_bound best.now.lines entry.now.set }
+    ensures memo { IsMemo kept.now.kind kept.now.film.now memo.new }
+    ensures marked { MarksMore marks.old marks.new (Follows (rules_of kept.now.kind kept.now.film.now) best.now.lines entry.now.set) }
+{
+    let film = kept.film();
+    let q = Mask(entry.set);
+    if !is_below(kept, memo, q, entry.bound) {
+        return;
+    }
+    film.keeps_limits();
+    for s in open_firsts(film, q).iter() {
+        let rest = q.without(s);
+        let need = entry.bound.saturating_sub(step(film, q, s));
+        if is_below(kept, memo, rest, need) {
+            mark(best, marks, rest);
+        }
+    }
+}
+
+/// Whether the static bound of the set is below this number.
+fn is_below<F: Fn(u64, u64) -> u64>(kept: &Kept<F>, memo: &mut Memo, q: Mask, need: u64) -> bool
+    requires keeps { Keeps (F.pre kept.now.f) (F.post kept.now.f) kept.now.kind kept.now.film.now }
+    requires memo { IsMemo kept.now.kind kept.now.film.now memo.old }
+    requires lies { LiesIn kept.now.film.now q.0 }
+    ensures memo { IsMemo kept.now.kind kept.now.film.now memo.new }
+    ensures below { IsTrue result ↔ (bound kept.now.kind kept.now.film.now q.0 < need) }
+{
+    memo.reach(kept, q, need) < need
+}
+
+/// Marks the best line of the set, where a line has the set.
+fn mark(best: &Best, marks: &mut [bool], q: Mask)
+    requires { length marks.old ≡ length best.now.lines }
+    ensures { MarksMore marks.old marks.new (IsBestOf best.now.lines q.0) }
+{
+    if let Some(place) = best.place(q.0) {
+        marks[best.entries()[place].line] = true;
+    }
+}

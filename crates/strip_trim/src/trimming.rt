@@ -1,0 +1,46 @@
+// The lines of a list that stay.
+ghost use Rattle.std.specs.Prelude.{◌≡◌, length, IfOk};
+ghost use Rattle.strip_bound.specs.Kept.{Keeps};
+ghost use Rattle.strip_lines.specs.Lines.{AreJustified, rules_of};
+ghost use Rattle.strip_trim.specs.Marks.{marked_lines};
+ghost use Rattle.strip_trim.specs.Trimmed.{AreTrimmed};
+
+use crate::marks::marks_of;
+use std::alloc::Global;
+use strip_best::Best;
+use strip_bound::Kept;
+use strip_film::Line;
+use strip_io::Memory;
+
+/// The lines that the bound of the whole set needs: of each set that is reached the best line, if a
+/// line has the set, in the order of the list. The whole set is reached; and where the best line of a
+/// set that is reached has a bound above the static one, what then remains after each open first whose
+/// step and static bound come to less. Time n log n; for each set that is reached a static bound, and
+/// a step and a static bound for each open first.
+pub fn trim<F: Fn(u64, u64) -> u64>(
+    alloc: Global,
+    kept: &Kept<F>,
+    lines: &[Line],
+) -> Result<Vec<Line>, Memory>
+    requires keeps { Keeps (F.pre kept.now.f) (F.post kept.now.f) kept.now.kind kept.now.film.now }
+    requires justified { AreJustified (rules_of kept.now.kind kept.now.film.now) lines.now }
+    ensures trimmed { IfOk result (λ trimmed. AreTrimmed (rules_of kept.now.kind kept.now.film.now) lines.now trimmed.items) }
+{
+    let best = Best::of(alloc, lines)?;
+    let marks = marks_of(alloc, kept, &best, lines.len())?;
+    marked(alloc, lines, &marks)
+}
+
+/// The lines that are marked.
+fn marked(alloc: Global, lines: &[Line], marks: &[bool]) -> Result<Vec<Line>, Memory>
+    requires { length marks.now ≡ length lines.now }
+    ensures { IfOk result (λ kept. kept.items ≡ marked_lines lines.now marks.now) }
+{
+    let mut kept = Vec::new(alloc);
+    for (place, line) in lines.iter().enumerate() {
+        if marks[place] {
+            kept.push(*line)?;
+        }
+    }
+    Ok(kept)
+}
