@@ -1,0 +1,4 @@
+pub mod Days
+pub mod Codes
+pub mod Sums
+pub mod Text
