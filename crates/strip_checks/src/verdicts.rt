@@ -19,7 +19,16 @@ fn plans_that_cannot_be_read(rt: HostRuntime) -> Result<(), Fail> {
     check(&rt, TRIANGLE, cut, 6, "error,Missing,4,")?;
     check(&rt, TRIANGLE, "", 6, "error,Missing,1,")?;
     let unknown = "status,optimal\ncost,13\nbound,13\nlines,1\norder,s1,s2,s9\n";
-    check(&rt, TRIANGLE, unknown, 6, "error,UnknownScene,5,")
+    check(&rt, TRIANGLE, unknown, 6, "error,UnknownScene,5,")?;
+    let large = "status,optimal\ncost,9223372036854775808\n";
+    check(&rt, TRIANGLE, large, 6, "error,BadRow,2,")
+}
+
+#[test]
+fn a_scene_shot_twice(rt: HostRuntime) -> Result<(), Fail> {
+    let twice = "status,optimal\ncost,13\nbound,13\nlines,1\norder,s1,s2,s2\n\
+        line,0000000000000007,13\n";
+    check(&rt, TRIANGLE, twice, 4, "refused,NotAnOrder,,")
 }
 
 // The bound of the four scenes in which one actor each works is greater by groups than by pairs.
