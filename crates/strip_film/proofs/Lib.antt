@@ -6,12 +6,12 @@ pub mod Casts
 pub mod Located
 pub mod Counts
 pub mod Turned
-pub mod Walk
 pub mod StepSum
 pub mod Orders
 pub mod Optimum
 pub mod Least
 pub mod Costs
+pub mod Small
 pub mod Paths
 pub mod Moves
 pub mod Started

@@ -19,7 +19,7 @@ use Rattle.strip_film.specs.Located.{WorksInside, WorksOutside}
 use Rattle.strip_film.proofs.Lists.{AllOnce, has_from_list, list_has}
 use Rattle.strip_film.proofs.Casts.{cast_has, has_cast, called_is, is_called, cast_lies}
 use Rattle.strip_film.proofs.Located.{waiting_lies}
-use Rattle.strip_film.proofs.Walk.{is_paid, paid_after, paid_after-new}
+use Rattle.strip_pay.proofs.Walk.{is_paid, paid_after, paid_after-new}
 
 -- who works is paid at his rate, and who waits, called before and working later, at his hold rate
 paid_by_tests : (now later called : Bool) (days rate hold : ℕ)

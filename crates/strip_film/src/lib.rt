@@ -17,4 +17,4 @@ pub use limits::{MAX_COUNT, MAX_DAY_SUM, MAX_RATE_SUM};
 pub use path::Path;
 pub use running::Running;
 pub use shared::{Known, Line, Listed, Noted, Probe};
-pub use shoot::{cast_of, on, ready, step};
+pub use shoot::{cast_of, on, ready, step, step_with};

@@ -41,9 +41,9 @@ pub fn step(film: &Film, q: Mask, s: u32) -> u64
     step_with(film, on(film, q), s)
 }
 
-/// What it costs to shoot scene `s` next while the actors of the set are on location, like `step`. One
-/// turn for each actor who is paid.
-pub(crate) fn step_with(film: &Film, on: Mask, s: u32) -> u64
+/// What it costs, in units of money, to shoot scene `s` next while the actors of the set are on
+/// location, like `step`. One turn for each actor who is paid.
+pub fn step_with(film: &Film, on: Mask, s: u32) -> u64
     requires known { s < length film.now.casts }
     requires actors { LiesBelow (length film.now.rates) on.0 }
     ensures { result ≡ slice_index film.now.days s * (sum_over film.now.rates (slice_index film.now.casts s)

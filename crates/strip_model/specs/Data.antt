@@ -1,5 +1,5 @@
 -- An instance as plain data: names as their bytes, casts as sets of actor numbers.
-use Rattle.std.specs.Prelude.{◌≢◌, ℕ, ◌≤◌, ◌<◌, List, length, All}
+use Rattle.std.specs.Prelude.{◌≢◌, ℕ, ◌≤◌, ◌<◌, List, [], length, map, All, slice_index_or}
 use Rattle.std.specs.List.{AllPairs}
 use Rattle.strip_mask.specs.Set.{LiesBelow}
 use Rattle.strip_pay.specs.declared.pair.Pair.{Pair}
@@ -22,6 +22,10 @@ pub record InstanceData : Type 0 where
   pub scenes : List SceneData
   pub actors : List ActorData
   pub pairs : List Pair
+
+-- the name of the scene with this number
+abbrev pub scene_name : InstanceData → ℕ → List ℕ
+scene_name inst scene = slice_index_or (map (λ s. s.name) inst.scenes) scene []
 
 -- a name within the limits
 abbrev pub IsName : List ℕ → Type 0

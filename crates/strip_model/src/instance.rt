@@ -52,8 +52,8 @@ impl Instance {
     }
 
     /// Whether the instance can have these pairs: two different scenes of it each, no pair twice, and
-    /// no way along the pairs from a scene back to it. It takes no memory, and time with the square of
-    /// the number of pairs.
+    /// no way along the pairs from a scene back to it. It takes no memory, a few instructions for each
+    /// pair, and 200 turns for one that the pairs before it don't imply.
     pub fn fits_pairs(&self, pairs: &[Pair]) -> bool
         ensures { IsTrue result ↔ FitPairs (length self.now.scenes) pairs.now }
     {

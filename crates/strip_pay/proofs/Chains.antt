@@ -1,45 +1,27 @@
--- Ways along pairs, and that one which is longer than there are scenes comes back.
-use Rattle.std.proofs.Common.{◌≡◌, ℕ, zero, suc, ◌+◌, ◌<◌, ◌≤◌, Bool, true, false, ◌&&◌, eqb, List, [], ◌∷◌, ◌++◌, length, All, Contains, refl, sym, ap, subst, arith, append_assoc, inl, inr}
+-- Chains of pairs, and that one of more scenes than there are comes back.
+use Rattle.std.proofs.Common.{◌≡◌, ℕ, zero, suc, ◌+◌, ◌<◌, Bool, true, false, ◌&&◌, eqb, List, [], ◌∷◌, ◌++◌, length, All, Contains, refl, sym, ap, subst, arith, append_assoc, inl, inr}
 use Rattle.std.specs.List.{list_any}
 use Rattle.std.proofs.lemmas.Bool.{cases_Bool, and_parts}
 use Rattle.std.proofs.lemmas.Bool.Decides.{nat_tests}
-use Rattle.std.proofs.lemmas.List.Elements.{All-nil, All-cons, All-contains}
+use Rattle.std.proofs.lemmas.List.Elements.{All-nil, All-cons}
 use Rattle.strip_pay.specs.declared.pair.Pair.{Pair}
-use Rattle.strip_pay.specs.Pairs.{Precedes, IsChain, HasCycle, IsKnownPair}
+use Rattle.strip_pay.specs.Pairs.{Precedes, IsChain, HasCycle}
 use Rattle.strip_pay.proofs.Lists.{any_from, any_is}
 use Rattle.strip_pay.proofs.Counts.{Repeats, repeats}
-
--- pairs lead on from the scene for this many steps
-abbrev pub LeadsOn : List Pair → ℕ → ℕ → Type 0
-LeadsOn pairs steps scene = (later : List ℕ) × (length later ≡ steps) × IsChain pairs (scene ∷ later)
 
 module _ (pairs : List Pair) where
   chain-tail : (x : ℕ) (xs : List ℕ) → IsChain pairs (x ∷ xs) → IsChain pairs xs
   chain-tail x [] chain = tt
   chain-tail x (y ∷ ys) chain = chain.1
 
-  chain-behind : (before xs : List ℕ) → IsChain pairs (before ++ xs) → IsChain pairs xs
+  pub chain-behind : (before xs : List ℕ) → IsChain pairs (before ++ xs) → IsChain pairs xs
   chain-behind [] xs chain = chain
   chain-behind (x ∷ before) xs chain = chain-behind before xs (chain-tail x (before ++ xs) chain)
 
-  chain-front : (xs after : List ℕ) → IsChain pairs (xs ++ after) → IsChain pairs xs
+  pub chain-front : (xs after : List ℕ) → IsChain pairs (xs ++ after) → IsChain pairs xs
   chain-front [] after chain = tt
   chain-front (x ∷ []) after chain = tt
   chain-front (x ∷ y ∷ ys) after chain = (chain.0, chain-front (y ∷ ys) after chain.1)
-
-  chain-push : (xs : List ℕ) (x y : ℕ) → IsChain pairs (xs ++ x ∷ []) → Precedes pairs x y → IsChain pairs ((xs ++ x ∷ []) ++ y ∷ [])
-  chain-push [] x y chain step = (step, tt)
-  chain-push (z ∷ []) x y chain step = (chain.0, (step, tt))
-  chain-push (z ∷ w ∷ ws) x y chain step = (chain.0, chain-push (w ∷ ws) x y chain.1 step)
-
-  -- the scenes of a chain with a step in it are known
-  chain_known : (n x y : ℕ) (ys : List ℕ) → All (IsKnownPair n) pairs → IsChain pairs (x ∷ y ∷ ys) → All (λ z. z < n) (x ∷ y ∷ ys)
-  chain_known n x y [] known chain =
-      let is : IsKnownPair n (record { first = x; then = y }) = All-contains (IsKnownPair n) pairs (record { first = x; then = y }) known chain.0 in
-      All-cons (λ z. z < n) x (y ∷ []) is.0 (All-cons (λ z. z < n) y [] is.1 (All-nil (λ z. z < n)))
-  chain_known n x y (z ∷ zs) known chain =
-      let is : IsKnownPair n (record { first = x; then = y }) = All-contains (IsKnownPair n) pairs (record { first = x; then = y }) known chain.0 in
-      All-cons (λ z. z < n) x (y ∷ z ∷ zs) is.0 (chain_known n y z zs known chain.1)
 
   -- a chain of more scenes than there are comes back to one of them
   pub cycle_from_long : (n : ℕ) (xs : List ℕ) → IsChain pairs xs → All (λ x. x < n) xs → n < length xs → HasCycle pairs
@@ -50,27 +32,6 @@ module _ (pairs : List Pair) where
       let regrouped : IsChain pairs ((twice.number ∷ twice.between ++ twice.number ∷ []) ++ twice.after)
       = subst (IsChain pairs) (ap (λ (zs : List ℕ). twice.number ∷ zs) (sym (append_assoc twice.between (twice.number ∷ []) twice.after))) behind in
       record { scene = twice.number; between = twice.between; returns = chain-front (twice.number ∷ twice.between ++ twice.number ∷ []) twice.after regrouped }
-
-  pub cycle_from_leads_on : (n steps scene : ℕ) → n ≤ steps → All (IsKnownPair n) pairs → scene < n → LeadsOn pairs steps scene → HasCycle pairs
-  cycle_from_leads_on n steps scene all known lt ([], count, chain) = absurd (omega (arith, lt, count))
-  cycle_from_leads_on n steps scene all known lt (next ∷ later, count, chain) =
-      cycle_from_long n (scene ∷ next ∷ later) chain (chain_known n scene next later known chain) (omega (arith, count))
-
-  -- a chain leads from the scene back to it
-  abbrev pub Returns : ℕ → Type 0
-  Returns scene = (between : List ℕ) × IsChain pairs (scene ∷ between ++ scene ∷ [])
-
-  -- so the next scene on the way comes back too
-  pub next_returns : (scene : ℕ) → Returns scene → (next : ℕ) × Precedes pairs scene next × Returns next
-  next_returns scene ([], chain) = (scene, chain.0, ([], chain))
-  next_returns scene (next ∷ rest, chain) = (next, chain.0, (rest ++ scene ∷ [], chain-push (next ∷ rest) scene next chain.1 chain.0))
-
-  pub returning_leads_on : (steps scene : ℕ) → Returns scene → LeadsOn pairs steps scene
-  returning_leads_on zero scene back = ([], refl, tt)
-  returning_leads_on (suc steps) scene back =
-      let onward = next_returns scene back in
-      let rest : LeadsOn pairs steps onward.0 = returning_leads_on steps onward.0 onward.2 in
-      (onward.0 ∷ rest.0, omega (arith, rest.1), (onward.1, rest.2))
 
   -- ---- the first scene of a set
 

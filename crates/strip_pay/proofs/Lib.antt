@@ -3,8 +3,12 @@ pub mod Counts
 pub mod Chains
 pub mod Before
 pub mod Ahead
-pub mod Marks
+pub mod SceneSets
+pub mod Leads
+pub mod Knowing
+pub mod Fits
 pub mod Spans
+pub mod Walk
 pub mod Seams
 pub mod Pays
 pub mod Moves

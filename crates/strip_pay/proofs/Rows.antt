@@ -1,12 +1,13 @@
 -- Worked rows of the definitions, by computation.
-use Rattle.std.proofs.Common.{◌≡◌, ℕ, [], ◌∷◌, List, refl, inl, inr, arith}
+use Rattle.std.proofs.Common.{◌≡◌, ℕ, [], ◌∷◌, ◌++◌, List, refl, ap, inl, inr, arith}
 use Rattle.strip_mask.specs.Set.{has}
 use Rattle.strip_mask.specs.Sums.{sum_below}
 use Rattle.strip_pay.specs.declared.pair.Pair.{Pair}
 use Rattle.strip_pay.specs.Film.{FilmData}
 use Rattle.strip_pay.specs.Order.{StandsBefore}
-use Rattle.strip_pay.specs.Pairs.{HasCycle}
+use Rattle.strip_pay.specs.Pairs.{HasCycle, IsChain, Leads, Precedes}
 use Rattle.strip_pay.specs.Pay.{span, pay_of}
+use Rattle.strip_pay.proofs.Lists.{contains_cases, contains_none}
 
 -- three scenes of two actors each, one day each, at these rates
 abbrev triangle : List ℕ → List ℕ → FilmData
@@ -56,6 +57,27 @@ ring = record { first = 0; then = 1 } ∷ record { first = 1; then = 2 } ∷ rec
 
 ring_returns : HasCycle ring
 ring_returns = record { scene = 0; between = 1 ∷ 2 ∷ []; returns = ((0, omega arith, refl), ((1, omega arith, refl), ((2, omega arith, refl), tt))) }
+
+-- two of them lead on by the scene between
+ring_leads : Leads ring 0 2
+ring_leads = (1 ∷ [], ((0, omega arith, refl), ((1, omega arith, refl), tt)))
+
+-- and one alone doesn't lead back
+abbrev single : List Pair
+single = record { first = 0; then = 1 } ∷ []
+
+one_way : Leads single 1 0 → ⊥
+one_way leads = by leads.0 leads.1
+  where
+    begins_at_0 : (next : ℕ) → Precedes single 1 next → ⊥
+    begins_at_0 next there = elim (contains_cases (record { first = 0; then = 1 }) [] (record { first = 1; then = next }) there) [
+      | inl same ↦ absurd (let begins : 0 ≡ 1 = ap (λ (pair : Pair). pair.first) same in omega (arith, begins))
+      | inr none ↦ contains_none (record { first = 1; then = next }) none
+    ]
+
+    by : (between : List ℕ) → IsChain single (1 ∷ between ++ 0 ∷ []) → ⊥
+    by [] chain = begins_at_0 0 chain.0
+    by (next ∷ rest) chain = begins_at_0 next chain.0
 
 stands : StandsBefore 2 1 (0 ∷ 2 ∷ 1 ∷ [])
 stands = inr (inl (refl, (0, omega arith, refl)))

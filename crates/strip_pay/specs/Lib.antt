@@ -1,3 +1,4 @@
+pub mod Befores
 pub mod Film
 pub mod Order
 pub mod Pairs

@@ -1,5 +1,5 @@
 -- Pairs that can be kept together.
-use Rattle.std.specs.Prelude.{◌≡◌, ◌≢◌, ℕ, ◌<◌, Bool, true, false, slice_index_or, List, [], ◌∷◌, ◌++◌, All, Contains}
+use Rattle.std.specs.Prelude.{◌≢◌, ℕ, ◌<◌, List, [], ◌∷◌, ◌++◌, All, Contains}
 use Rattle.std.specs.List.{AllPairs}
 use Rattle.strip_pay.specs.declared.pair.Pair.{Pair}
 
@@ -13,6 +13,10 @@ IsChain pairs [] = Unit {0}
 IsChain pairs (scene ∷ []) = Unit {0}
 IsChain pairs (scene ∷ next ∷ later) = Precedes pairs scene next × IsChain pairs (next ∷ later)
 
+-- a chain leads from the one scene to the other
+abbrev pub Leads : List Pair → ℕ → ℕ → Type 0
+Leads pairs from to = (between : List ℕ) × IsChain pairs (from ∷ between ++ to ∷ [])
+
 -- a chain leads from a scene back to it
 pub record HasCycle (pairs : List Pair) : Type 0 where
   pub scene : ℕ
@@ -22,10 +26,6 @@ pub record HasCycle (pairs : List Pair) : Type 0 where
 -- a pair of two different scenes below n
 abbrev pub IsKnownPair : ℕ → Pair → Type 0
 IsKnownPair n pair = (pair.first < n) × (pair.then < n) × (pair.first ≢ pair.then)
-
--- a pair puts the scene before one of those that are marked
-abbrev pub LeadsInto : List Pair → List Bool → ℕ → Type 0
-LeadsInto pairs marks scene = (next : ℕ) × Precedes pairs scene next × (slice_index_or marks next false ≡ true)
 
 -- pairs that n scenes can have: two different scenes each, no pair twice, no cycle
 pub record FitPairs (n : ℕ) (pairs : List Pair) : Type 0 where

@@ -1,11 +1,11 @@
 //! Laws of the definitions. Each function does nothing: its contract is the law.
-ghost use Rattle.std.specs.Prelude.{◌≡◌, ◌⊎◌, ℕ, ◌*◌, ◌+◌, ◌^◌, ◌<◌, ◌≤◌, Bool, true, false, List, ◌∷◌, ◌++◌, All, length, reverse, slice_index, sum, sum_by, count_by, ◌==◌};
+ghost use Rattle.std.specs.Prelude.{◌≡◌, ◌≢◌, ◌⊎◌, ℕ, ◌*◌, ◌+◌, ◌^◌, ◌<◌, ◌≤◌, Bool, true, false, List, [], ◌∷◌, ◌++◌, All, length, reverse, slice_index, sum, sum_by, count_by, ◌==◌};
 ghost use Rattle.std.specs.List.Sorted.{IsPermutation};
 ghost use Rattle.strip_mask.specs.Sums.{sum_below};
 ghost use Rattle.strip_pay.specs.declared.pair.Pair.{Pair};
 ghost use Rattle.strip_pay.specs.Film.{FilmData};
 ghost use Rattle.strip_pay.specs.Order.{IsBefore, IsOrder, Keeps};
-ghost use Rattle.strip_pay.specs.Pairs.{HasCycle, Precedes};
+ghost use Rattle.strip_pay.specs.Pairs.{HasCycle, Leads, Precedes};
 ghost use Rattle.strip_pay.specs.Pay.{pay_of};
 
 /// An order of n scenes has n numbers, and the orders of n scenes are the permutations of one of them.
@@ -53,6 +53,15 @@ pub fn cycles_can_not_be_kept()
     ensures first { (n : ℕ) (pairs : List Pair) (inside : ℕ → Bool) (x : ℕ) → ¬ HasCycle pairs
         → ((y : ℕ) → inside y ≡ true → y < n) → inside x ≡ true
         → (scene : ℕ) × (inside scene ≡ true) × ((first : ℕ) → Precedes pairs first scene → inside first ≡ false) }
+{}
+
+/// When a pair more makes a cycle: pairs without one have none with it either where its scenes differ and
+/// its second doesn't lead to its first; where it leads there they have one; and one that was there stays.
+pub fn cycles_come_by_pairs()
+    ensures none { (pairs : List Pair) (pair : Pair) → ¬ HasCycle pairs → pair.first ≢ pair.then → ¬ Leads pairs pair.then pair.first
+        → ¬ HasCycle (pairs ++ pair ∷ []) }
+    ensures closed { (pairs : List Pair) (pair : Pair) → Leads pairs pair.then pair.first → HasCycle (pairs ++ pair ∷ []) }
+    ensures stays { (pairs more : List Pair) → HasCycle pairs → HasCycle (pairs ++ more) }
 {}
 
 /// Two scenes of equal cast can stand together: to bring the later one forward or the earlier one back

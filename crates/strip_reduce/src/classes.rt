@@ -24,7 +24,7 @@ use strip_model::Instance;
 /// scenes from the first one on again only where an actor was dropped, since casts change then. So
 /// the time is at most with the number of actors by the square of the number of scenes, with the
 /// number of scenes by the square of the number of actors, with the number of steps by that of pairs,
-/// and at the end, where at most 64 classes are left, with the square of the number of their pairs.
+/// and at the end, where at most 64 classes are left, with the number of their pairs.
 pub fn reduce(alloc: Global, inst: &Instance) -> Result<Reduced, ReduceFault>
     ensures classes { IfOk result (λ r. reduced_data r ≡ reduced (film_of inst.now)) }
     ensures stands { IfOk result (λ r. StandsFor (film_of inst.now) (reduced_data r)) }

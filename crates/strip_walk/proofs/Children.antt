@@ -7,7 +7,7 @@ use Rattle.strip_mask.specs.Set.{has, members, with, without}
 use Rattle.strip_mask.proofs.Below.{LiesBelow-without, is_set_below}
 use Rattle.strip_mask.proofs.ByMembers.{has-empty, has-with_other, has-with_same}
 use Rattle.strip_mask.proofs.Members.{Contains-members, has_from_members}
-use Rattle.strip_pay.specs.declared.kind.Kind.{Kind}
+use Rattle.strip_kind.specs.declared.kind.Kind.{Kind}
 use Rattle.strip_pay.specs.Film.{FilmData}
 use Rattle.strip_pay.proofs.Lists.{contains_none}
 use Rattle.strip_film.specs.Film.{IsFilm, LiesIn}

@@ -64,17 +64,6 @@ offered_explores before after cursor path found may none offers =
 
 -- ---- numbers
 
--- what is at most the cost of finishing is small
-pub finish_small : (film : FilmData) (set n : ℕ) → IsFilm film → LiesIn film set → IsAtMostFinish film set n → n < 2 ^ 63
-finish_small film set n is lies most =
-    let set_is : IsSet set = is_set_below (length film.casts) set is.scene_count.1 lies in
-    small set_is (finish_exists film is set set_is)
-  where
-    small : IsSet set → (cost : ℕ) × IsFinish film set cost → n < 2 ^ 63
-    small set_is (cost, finish) =
-        let each = finish.attained.1 in
-        omega (arith, most finish.attained.0 each, steps_limit film set finish.attained.0 is set_is (AllRemained-from_ready film set finish.attained.0 each.0))
-
 -- a path with one scene more leaves fewer
 pub fewer : (film : FilmData) (path : PathData) (s : ℕ) → IsFilm film → LiesIn film path.rest → has (open_firsts film path.rest) s ≡ true
     → size (without path.rest s) < size path.rest

@@ -5,7 +5,7 @@ use Rattle.std.proofs.lemmas.List.Elements.{Contains-append_left, Contains-push,
 use Rattle.std.specs.List.{starts_with}
 use Rattle.strip_mask.specs.Set.{has, without}
 use Rattle.strip_pay.proofs.Lists.{contains_none}
-use Rattle.strip_pay.specs.declared.kind.Kind.{Kind}
+use Rattle.strip_kind.specs.declared.kind.Kind.{Kind}
 use Rattle.strip_pay.specs.Film.{FilmData}
 use Rattle.strip_film.specs.Film.{all_scenes}
 use Rattle.strip_film.specs.Path.{IsPath, PathData}

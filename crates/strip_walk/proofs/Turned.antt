@@ -16,13 +16,14 @@ use Rattle.strip_film.specs.Shown.{CursorData}
 use Rattle.strip_film.proofs.Costs.{step_limit}
 use Rattle.strip_film.proofs.Lists.{ready_there}
 use Rattle.strip_film.proofs.Paths.{rest_lies}
+use Rattle.strip_film.proofs.Small.{finish_small}
 use Rattle.strip_rule.proofs.Open.{open_is}
 use Rattle.strip_hand.specs.Search.{SearchData}
 use Rattle.strip_hand.specs.Hand.{HandData}
 use Rattle.strip_walk.specs.declared.found.Found.{Found}
 use Rattle.strip_walk.specs.Found.{IsFound}
 use Rattle.strip_walk.specs.Walked.{Explores, Walks}
-use Rattle.strip_walk.proofs.Ended.{fewer, finish_small}
+use Rattle.strip_walk.proofs.Ended.{fewer}
 use Rattle.strip_walk.proofs.Settled.{AreSettled, IsFirst, shot}
 use Rattle.strip_walk.proofs.Stayed.{rose_around, walks_child, walks_trans}
 

@@ -1,0 +1,5 @@
+pub mod Ways
+pub mod Nearer
+pub mod Closer
+pub mod Least
+pub mod Rows
