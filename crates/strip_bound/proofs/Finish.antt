@@ -1,7 +1,7 @@
 -- Each static bound is at most the cost of finishing.
 use Rattle.std.proofs.Common.{ℕ, ◌≤◌, arith}
-use Rattle.strip_pay.specs.declared.kind.Kind.{Kind}
-use Rattle.strip_pay.specs.declared.kind.Kind.TheVariants.{Plain, Pairs, Groups}
+use Rattle.strip_kind.specs.declared.kind.Kind.{Kind}
+use Rattle.strip_kind.specs.declared.kind.Kind.TheVariants.{Plain, Pairs, Groups}
 use Rattle.strip_pay.specs.Film.{FilmData}
 use Rattle.strip_film.specs.Film.{IsFilm, LiesIn}
 use Rattle.strip_film.specs.Finish.{IsAtMostFinish, steps_cost}

@@ -2,7 +2,7 @@
 use Rattle.std.proofs.Common.{◌≡◌, [], ◌∷◌, refl}
 use Rattle.strip_mask.specs.Set.{has, union, meet, minus, with, without, members, numbers_below, size, sum_over, full}
 use Rattle.strip_pay.specs.Film.{FilmData}
-use Rattle.strip_pay.specs.declared.kind.Kind.TheVariants.{Plain, Pairs, Groups}
+use Rattle.strip_kind.specs.declared.kind.Kind.TheVariants.{Plain, Pairs, Groups}
 use Rattle.strip_bound.specs.Bounds.{bound}
 
 -- both actors work in scene 0, and each in one of the scenes 1 and 2 alone

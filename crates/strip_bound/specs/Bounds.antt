@@ -1,8 +1,8 @@
 -- The static bounds of a set: what shooting it costs at least.
 use Rattle.std.specs.Prelude.{ℕ, zero, suc, ◌+◌, ◌*◌, min, not, ◌&&◌, List, [], ◌∷◌, length, map, take, drop, filter, fold, sum_by, slice_index}
 use Rattle.strip_mask.specs.Set.{with, members}
-use Rattle.strip_pay.specs.declared.kind.Kind.{Kind}
-use Rattle.strip_pay.specs.declared.kind.Kind.TheVariants.{Plain, Pairs, Groups}
+use Rattle.strip_kind.specs.declared.kind.Kind.{Kind}
+use Rattle.strip_kind.specs.declared.kind.Kind.TheVariants.{Plain, Pairs, Groups}
 use Rattle.strip_pay.specs.Film.{FilmData}
 use Rattle.strip_pay.specs.Pay.{works}
 use Rattle.strip_film.specs.Bounds.{plain_bound}

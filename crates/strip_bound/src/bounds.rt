@@ -1,7 +1,7 @@
 // The static bounds of a set.
 ghost use Rattle.std.specs.Prelude.{◌≡◌, ◌≢◌, ℕ, ◌<◌, ◌≤◌, true, ◌∷◌, drop, length, take};
 ghost use Rattle.strip_mask.specs.Set.{has, members, size, without};
-ghost use Rattle.strip_pay.specs.declared.kind.Kind.TheVariants.{Groups, Pairs, Plain};
+ghost use Rattle.strip_kind.specs.declared.kind.Kind.TheVariants.{Groups, Pairs, Plain};
 ghost use Rattle.strip_film.specs.Film.{LiesIn};
 ghost use Rattle.strip_film.specs.Shoot.{on_location};
 ghost use Rattle.strip_bound.specs.Bounds.{bound, days_with_without, groups_extra, groups_of, pair_extra, pairs_extra, set_of};
@@ -9,8 +9,8 @@ ghost use Rattle.strip_bound.specs.Tables.{AreTables};
 
 use crate::tables::BoundTables;
 use strip_film::{Film, on};
+use strip_kind::Kind;
 use strip_mask::{Mask, sum_over};
-use strip_pay::Kind;
 
 /// The static bound of this kind of a set of the film's scenes: what shooting it costs at least, in
 /// whole units of money. It takes no memory.

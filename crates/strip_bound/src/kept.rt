@@ -5,8 +5,8 @@ ghost use Rattle.strip_bound.specs.Bounds.{bound};
 ghost use Rattle.strip_bound.specs.Kept.{Keeps};
 
 use strip_film::Film;
+use strip_kind::Kind;
 use strip_mask::Mask;
-use strip_pay::Kind;
 
 /// A stored bound: a closure that is asked for the bound of a set, and how far it has to reach.
 #[derive(Drop)]

@@ -1,8 +1,8 @@
 //! Laws of the definitions. Each function does nothing: its contract is the law.
 ghost use Rattle.std.specs.Prelude.{◌≡◌, ℕ, ◌+◌, ◌≤◌, true, List};
 ghost use Rattle.strip_mask.specs.Set.{IsSet, has};
-ghost use Rattle.strip_pay.specs.declared.kind.Kind.{Kind};
-ghost use Rattle.strip_pay.specs.declared.kind.Kind.TheVariants.{Groups, Pairs, Plain};
+ghost use Rattle.strip_kind.specs.declared.kind.Kind.{Kind};
+ghost use Rattle.strip_kind.specs.declared.kind.Kind.TheVariants.{Groups, Pairs, Plain};
 ghost use Rattle.strip_pay.specs.Film.{FilmData};
 ghost use Rattle.strip_film.specs.Bounds.{plain_bound};
 ghost use Rattle.strip_film.specs.Film.{IsFilm, LiesIn};

@@ -10,7 +10,7 @@ use Rattle.strip_mask.specs.Set.{IsSet, has, members, size, without}
 use Rattle.strip_mask.proofs.Below.{LiesBelow-full, LiesBelow-without, is_set_below, size-full}
 use Rattle.strip_mask.proofs.Members.{All-members, Contains-members}
 use Rattle.strip_mask.proofs.Sizes.{length-members, size-empty, size-le, size-without, size_mono}
-use Rattle.strip_pay.specs.declared.kind.Kind.{Kind}
+use Rattle.strip_kind.specs.declared.kind.Kind.{Kind}
 use Rattle.strip_pay.specs.Film.{FilmData}
 use Rattle.strip_pay.proofs.Lists.{contains_here}
 use Rattle.strip_film.specs.Film.{IsFilm, LiesIn, all_scenes}

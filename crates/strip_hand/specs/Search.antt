@@ -1,7 +1,7 @@
 -- What a search goes by, and doesn't change.
 use Rattle.std.specs.Prelude.{ℕ, ◌≡◌, ◌≢◌, min, List, length, All, ◌≤◌}
 use Rattle.std.specs.List.{AllPairs}
-use Rattle.strip_pay.specs.declared.kind.Kind.{Kind}
+use Rattle.strip_kind.specs.declared.kind.Kind.{Kind}
 use Rattle.strip_pay.specs.Film.{FilmData}
 use Rattle.strip_film.specs.Path.{PathData, IsPath}
 use Rattle.strip_film.specs.Rules.{Rules}

@@ -1,6 +1,6 @@
 -- What a memo of static bounds holds.
 use Rattle.std.specs.Prelude.{◌≡◌, ◌≤◌, Bool, true, All}
-use Rattle.strip_pay.specs.declared.kind.Kind.{Kind}
+use Rattle.strip_kind.specs.declared.kind.Kind.{Kind}
 use Rattle.strip_pay.specs.Film.{FilmData}
 use Rattle.strip_bound.specs.Bounds.{bound}
 use Rattle.strip_memo.specs.declared.memo.Entry.{Entry}

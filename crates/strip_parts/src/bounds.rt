@@ -5,8 +5,8 @@ use std::alloc::Global;
 use std::test::Fail;
 use strip_bound::{BoundTables, Kept, plain, static_bound};
 use strip_film::Film;
+use strip_kind::Kind;
 use strip_mask::Mask;
-use strip_pay::Kind;
 
 #[derive(Drop)]
 struct Row {

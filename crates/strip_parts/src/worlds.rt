@@ -12,7 +12,7 @@ use std::test::Fail;
 use strip_film::{Film, Known, Line, Listed, Noted, Path, Probe};
 use strip_front::laws::tasks_are_starts;
 use strip_front::layers;
-use strip_pay::Kind;
+use strip_kind::Kind;
 use strip_race::{Event, Limits, Reply, World};
 use strip_start::greedy;
 

@@ -5,7 +5,7 @@ use Rattle.std.proofs.lemmas.List.Elements.{All-cons, All-nil}
 use Rattle.std.proofs.lemmas.List.Kept.{AllPairs-cons}
 use Rattle.strip_mask.specs.Set.{LiesBelow, has, union, meet, minus, with, without, members, numbers_below, sum_over, full}
 use Rattle.strip_mask.proofs.Below.{lies_by_minus}
-use Rattle.strip_pay.specs.declared.kind.Kind.TheVariants.{Plain}
+use Rattle.strip_kind.specs.declared.kind.Kind.TheVariants.{Plain}
 use Rattle.strip_pay.specs.Film.{FilmData}
 use Rattle.strip_pay.specs.Pairs.{IsChain, IsKnownPair}
 use Rattle.strip_pay.proofs.Lists.{contains_none}

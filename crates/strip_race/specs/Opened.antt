@@ -1,6 +1,6 @@
 -- The world that a search opens with, and its limits.
 use Rattle.std.specs.Prelude.{suc, ◌/◌, ◌≤◌, None, List, [], length, replicate}
-use Rattle.strip_pay.specs.declared.kind.Kind.{Kind}
+use Rattle.strip_kind.specs.declared.kind.Kind.{Kind}
 use Rattle.strip_pay.specs.Film.{FilmData}
 use Rattle.strip_film.specs.Path.{PathData}
 use Rattle.strip_race.specs.declared.event.Limits.{Limits}

@@ -16,7 +16,7 @@ use std::alloc::{AllocError, Global};
 use strip_bound::BoundTables;
 use strip_film::{Film, Path};
 use strip_io::Memory;
-use strip_pay::Kind;
+use strip_kind::Kind;
 use strip_table::{STRIPES, Stripe};
 
 impl World {

@@ -10,7 +10,7 @@ use crate::state::{Part, Worker};
 use std::marker::Model;
 use strip_bound::BoundTables;
 use strip_film::{Film, Line, Path};
-use strip_pay::Kind;
+use strip_kind::Kind;
 use strip_table::{Bucket, Stripe};
 
 /// The world of a search: the least cost so far, the lines, the entries of the table, who claimed which

@@ -2,8 +2,8 @@
 use crate::films::instance;
 use std::alloc::{AllocError, Global};
 use std::test::Fail;
+use strip_kind::Kind;
 use strip_model::Instance;
-use strip_pay::Kind;
 use strip_proof::{Plan, Status};
 use strip_reduce::reduce;
 use strip_solve::solve_alone;

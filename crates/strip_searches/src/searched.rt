@@ -7,8 +7,8 @@ use std::alloc::Global;
 use strip_bound::{BoundTables, Kept, static_bound};
 use strip_film::{Film, Path};
 use strip_io::Memory;
+use strip_kind::Kind;
 use strip_mask::Mask;
-use strip_pay::Kind;
 use strip_team::{Ended, alone};
 
 /// The end of a search of the film, by static bounds of this kind, that begins with this path.

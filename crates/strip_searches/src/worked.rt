@@ -3,7 +3,7 @@ use crate::films::{HELD_TRIANGLE, RING, TRIANGLE, WAITING_TRIANGLE, instance};
 use crate::searched::searched;
 use std::test::Fail;
 use strip_film::Line;
-use strip_pay::Kind;
+use strip_kind::Kind;
 use strip_proof::{Plan, Status};
 use strip_reduce::reduce;
 use strip_solve::solve_alone;

@@ -3,15 +3,13 @@ use Rattle.std.proofs.Common.{◌≡◌, ◌≢◌, ◌<◌, ◌≤◌, ◌^◌,
 use Rattle.std.proofs.lemmas.List.{length-map}
 use Rattle.strip_mask.specs.Set.{IsSet}
 use Rattle.strip_mask.proofs.Below.{is_set_below}
-use Rattle.strip_pay.specs.declared.kind.Kind.{Kind}
+use Rattle.strip_kind.specs.declared.kind.Kind.{Kind}
 use Rattle.strip_pay.specs.Film.{FilmData}
 use Rattle.strip_pay.specs.Order.{IsOrder}
 use Rattle.strip_film.specs.declared.shared.Line.{Line}
 use Rattle.strip_film.specs.Film.{IsFilm, LiesIn}
 use Rattle.strip_film.specs.Finish.{IsAtMostFinish, IsFinish}
-use Rattle.strip_film.proofs.Costs.{steps_limit}
-use Rattle.strip_film.proofs.Least.{finish_exists}
-use Rattle.strip_film.proofs.Lists.{AllRemained-from_ready}
+use Rattle.strip_film.proofs.Small.{finish_small}
 use Rattle.strip_film.specs.Rules.{BeginLeast, BoundsFinish}
 use Rattle.strip_lines.specs.Lines.{AreJustified}
 use Rattle.strip_lines.proofs.Justified.{lines_are_true}
@@ -22,17 +20,6 @@ use Rattle.strip_reduce.specs.Reduction.{reduced}
 use Rattle.strip_proof.specs.Plan.{PlanData}
 use Rattle.strip_proof.specs.Text.{IsReadableLine, IsReadablePlan}
 use Rattle.strip_solve.specs.Solved.{IsSolved, class_rules}
-
--- what is at most the cost of finishing is small
-finish_small : (film : FilmData) (set n : ℕ) → IsFilm film → LiesIn film set → IsAtMostFinish film set n → n < 2 ^ 63
-finish_small film set n is lies most =
-    let set_is : IsSet set = is_set_below (length film.casts) set is.scene_count.1 lies in
-    small set_is (finish_exists film is set set_is)
-  where
-    small : IsSet set → (cost : ℕ) × IsFinish film set cost → n < 2 ^ 63
-    small set_is (cost, finish) =
-        let each = finish.attained.1 in
-        omega (arith, most finish.attained.0 each, steps_limit film set finish.attained.0 is set_is (AllRemained-from_ready film set finish.attained.0 each.0))
 
 -- each of justified lines has a set and a bound that a text can say
 lines_readable : (kind : Kind) (film : FilmData) (lines : List Line) → IsFilm (reduced film).film → BoundsFinish (class_rules kind film)

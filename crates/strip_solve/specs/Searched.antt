@@ -1,7 +1,7 @@
 -- The end of a search with the lines that its bound needs.
 use Rattle.std.specs.Prelude.{◌≡◌, ◌≢◌, ℕ, Option, None, Some, List, Vec}
 use Rattle.std.specs.declared.alloc.Global.{Global}
-use Rattle.strip_pay.specs.declared.kind.Kind.{Kind}
+use Rattle.strip_kind.specs.declared.kind.Kind.{Kind}
 use Rattle.strip_pay.specs.Film.{FilmData}
 use Rattle.strip_film.specs.declared.shared.Line.{Line}
 use Rattle.strip_film.specs.Path.{PathData}

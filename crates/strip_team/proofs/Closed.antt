@@ -2,7 +2,7 @@
 use Rattle.std.proofs.Common.{◌≡◌, ℕ, suc, ◌<◌, ◌≤◌, Bool, Some, Result, Ok, Err, IfOk, List, length, count_by, eqb, refl, sym, ap, ◌∙◌, subst, arith}
 use Rattle.strip_io.specs.declared.files.Memory.{Memory}
 use Rattle.strip_mask.proofs.Below.{LiesBelow-full}
-use Rattle.strip_pay.specs.declared.kind.Kind.{Kind}
+use Rattle.strip_kind.specs.declared.kind.Kind.{Kind}
 use Rattle.strip_pay.specs.Film.{FilmData}
 use Rattle.strip_pay.specs.Order.{IsKeptOrder}
 use Rattle.strip_pay.specs.Pay.{IsLeast, pay_of}

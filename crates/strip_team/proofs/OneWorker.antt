@@ -4,7 +4,7 @@ use Rattle.std.proofs.lemmas.Bool.{cases_eq, cases_lt}
 use Rattle.std.specs.Option.{option_map, unwrap_or}
 use Rattle.strip_mask.specs.Sums.{sum_below}
 use Rattle.strip_mask.proofs.Sums.{sum_below-suc, sum_below-zero}
-use Rattle.strip_pay.specs.declared.kind.Kind.{Kind}
+use Rattle.strip_kind.specs.declared.kind.Kind.{Kind}
 use Rattle.strip_pay.specs.Film.{FilmData}
 use Rattle.strip_film.specs.Path.{PathData}
 use Rattle.strip_film.specs.Finish.{rest_after}

@@ -2,7 +2,7 @@
 use Rattle.std.proofs.Common.{◌≡◌, ℕ, suc, ◌+◌, ◌<◌, Bool, true, Option, Some, Result, Ok, Err, IfOk, List, length, nat_eq, slice_index_or, slice_set, All, ◌||◌, false, sym, ap, ◌∙◌, subst, arith}
 use Rattle.std.specs.List.{starts_with}
 use Rattle.std.proofs.lemmas.List.{get_or-map, get_or_default}
-use Rattle.strip_pay.specs.declared.kind.Kind.{Kind}
+use Rattle.strip_kind.specs.declared.kind.Kind.{Kind}
 use Rattle.strip_pay.specs.Film.{FilmData}
 use Rattle.strip_io.specs.declared.files.Memory.{Memory}
 use Rattle.strip_film.specs.declared.path.Path.{Path}

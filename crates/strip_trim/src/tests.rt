@@ -8,8 +8,8 @@ use std::alloc::Global;
 use std::test::Fail;
 use strip_bound::{BoundTables, Kept, static_bound};
 use strip_film::{Film, Line};
+use strip_kind::Kind;
 use strip_mask::Mask;
-use strip_pay::Kind;
 
 fn triangle(alloc: Global) -> Result<Film, Fail>
     ensures { IfOk result (λ film. film ≡ triangle) }

@@ -1,6 +1,6 @@
 use Rattle.std.proofs.Common.{◌≡◌, ◌∙◌, length, sym, ap, arith}
 use Rattle.strip_mask.proofs.Below.{LiesBelow-full}
-use Rattle.strip_pay.specs.declared.kind.Kind.{Kind}
+use Rattle.strip_kind.specs.declared.kind.Kind.{Kind}
 use Rattle.strip_pay.specs.Film.{FilmData}
 use Rattle.strip_film.specs.Film.{all_scenes}
 use Rattle.strip_bound.specs.Bounds.{bound}

@@ -1,7 +1,7 @@
 use Rattle.std.proofs.Common.{◌≡◌, ◌∙◌, ◌<◌, ℕ, true, length, sym, ap, subst, arith}
 use Rattle.strip_mask.specs.Set.{has, without}
 use Rattle.strip_mask.proofs.Below.{LiesBelow-full}
-use Rattle.strip_pay.specs.declared.kind.Kind.{Kind}
+use Rattle.strip_kind.specs.declared.kind.Kind.{Kind}
 use Rattle.strip_pay.specs.Film.{FilmData}
 use Rattle.strip_film.specs.Film.{LiesIn, all_scenes}
 use Rattle.strip_bound.specs.Bounds.{bound}

@@ -3,7 +3,7 @@ use Rattle.strip_mask.specs.Iter.{rest_of}
 use Rattle.strip_mask.specs.Set.{has, members}
 use Rattle.strip_mask.proofs.Below.{LiesBelow-full}
 use Rattle.strip_mask.proofs.Turns.{turn_member, turns_all}
-use Rattle.strip_pay.specs.declared.kind.Kind.{Kind}
+use Rattle.strip_kind.specs.declared.kind.Kind.{Kind}
 use Rattle.strip_pay.specs.Film.{FilmData}
 use Rattle.strip_film.specs.Film.{IsFilm, all_scenes}
 use Rattle.strip_film.specs.Shoot.{step_cost}

@@ -1,5 +1,5 @@
 use Rattle.std.proofs.Common.{sym, subst}
-use Rattle.strip_pay.specs.declared.kind.Kind.TheVariants.{Pairs}
+use Rattle.strip_kind.specs.declared.kind.Kind.TheVariants.{Pairs}
 use Rattle.strip_pay.specs.Film.{FilmData}
 use Rattle.strip_lines.specs.Lines.{AreJustified, rules_of}
 use Rattle.strip_trim.specs.Worked.{triangle_lines}
