@@ -1,5 +1,5 @@
 -- What a program claims of its jobs, and what is due for words and files.
-use Rattle.std.specs.Prelude.{◌≡◌, ◌⊎◌, ℕ, List, codes, None}
+use Rattle.std.specs.Prelude.{◌≡◌, ◌⊎◌, ℕ, List, [], codes, None}
 use Rattle.strip_text.specs.Told.{ToldData}
 use Rattle.strip_answer.specs.declared.status.Status.{Status}
 use Rattle.strip_answer.specs.declared.status.Status.TheVariants.{NoJob}
@@ -26,7 +26,7 @@ AsksFor {Job} claims words file = (job : Job) × claims.Names words job × claim
 
 -- what is told of words that name no job
 abbrev pub no_job_told : ToldData
-no_job_told = record { name = codes "Words"; first = None; second = None }
+no_job_told = record { name = codes "Words"; first = None; second = None; names = [] }
 
 -- what is due for the words: they name no job, or a job that they name asks for it
 abbrev pub IsDue : {Job : Type 0} → Claims Job → List (List ℕ) → FilesData → FilesData → Status → List ℕ → Type 0

@@ -10,9 +10,9 @@ abbrev pub number_field : Option ℕ → Field
 number_field None = []
 number_field (Some number) = decimal number
 
--- a word, the fault's name, and its numbers where it has them
+-- a word, the fault's name, its numbers where it has them, and the names that it lists
 abbrev pub told_row : Field → ToldData → List ℕ
-told_row word told = csv_row (word ∷ told.name ∷ number_field told.first ∷ number_field told.second ∷ [])
+told_row word told = csv_row (word ∷ told.name ∷ number_field told.first ∷ number_field told.second ∷ told.names)
 
 abbrev pub error_row : ToldData → List ℕ
 error_row told = told_row (codes "error") told

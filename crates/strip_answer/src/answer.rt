@@ -26,9 +26,9 @@ pub struct Answer {
 
 impl Answer {
     /// The answer that ends with this status and prints the `error` row of what a fault tells.
-    pub fn error(alloc: Global, status: Status, told: Told) -> Result<Answer, Memory>
+    pub fn error(alloc: Global, status: Status, told: Told<'_>) -> Result<Answer, Memory>
         ensures status { IfOk result (λ answer. answer.status ≡ status) }
-        ensures row { IfOk result (λ answer. answer_text answer ≡ error_row (told_data told)) }
+        ensures row { IfOk result (λ answer. answer_text answer ≡ error_row (told_data told.entry)) }
     {
         let text = told_row(alloc, b"error", told)?;
         let lines = Vec::new(alloc);
@@ -51,15 +51,16 @@ impl Answer {
             name,
             first,
             second,
+            names: &[],
         };
         Answer::error(alloc, Status::NoJob, told)
     }
 }
 
 /// The row that begins with this word and has what a fault tells: its name and its two numbers, each
-/// an empty field where the fault has none.
-pub fn told_row(alloc: Global, word: &'static [u8], told: Told) -> Result<Vec<u8>, Memory>
-    ensures { IfOk result (λ text. text.items ≡ told_row word.now (told_data told)) }
+/// an empty field where the fault has none, and behind them the names that it lists.
+pub fn told_row(alloc: Global, word: &'static [u8], told: Told<'_>) -> Result<Vec<u8>, Memory>
+    ensures { IfOk result (λ text. text.items ≡ told_row word.now (told_data told.entry)) }
 {
     let first = number_field(alloc, told.first)?;
     let second = number_field(alloc, told.second)?;
@@ -68,6 +69,9 @@ pub fn told_row(alloc: Global, word: &'static [u8], told: Told) -> Result<Vec<u8
     fields.push(told.name.as_bytes())?;
     fields.push(first.as_bytes())?;
     fields.push(second.as_bytes())?;
+    for name in told.names {
+        fields.push(name.as_bytes())?;
+    }
     let mut text = Text::new(alloc);
     text.push(&fields)?;
     text.into_bytes()

@@ -7,7 +7,7 @@ use Rattle.strip_mask.specs.Set.{has, members, minus, without}
 use Rattle.strip_mask.proofs.Below.{lies_by_minus}
 use Rattle.strip_mask.proofs.ByMembers.{empty_from, has-empty}
 use Rattle.strip_mask.proofs.Members.{All-members, Contains-members}
-use Rattle.strip_pay.specs.declared.kind.Kind.{Kind}
+use Rattle.strip_kind.specs.declared.kind.Kind.{Kind}
 use Rattle.strip_pay.specs.Film.{FilmData}
 use Rattle.strip_pay.specs.Order.{IsKeptOrder, KeepsPair}
 use Rattle.strip_pay.specs.Pay.{pay_of}

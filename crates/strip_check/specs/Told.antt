@@ -1,12 +1,12 @@
 -- What a reason tells.
-use Rattle.std.specs.Prelude.{ℕ, List, codes, Option, None, Some}
+use Rattle.std.specs.Prelude.{ℕ, List, [], codes, Option, None, Some}
 use Rattle.strip_text.specs.Told.{ToldData}
 use Rattle.strip_check.specs.declared.verdict.Reason.{Reason}
 use Rattle.strip_check.specs.declared.verdict.Reason.TheVariants.{BadSet, BrokenPair, NotAnOrder, RootBound, StatusWrong, Unjustified, WrongCost}
 
 -- a name, and the numbers that are told
 abbrev pub told : List ℕ → Option ℕ → Option ℕ → ToldData
-told name first second = record { name = name; first = first; second = second }
+told name first second = record { name = name; first = first; second = second; names = [] }
 
 -- each reason's own name and its numbers
 abbrev pub told_of : Reason → ToldData

@@ -1,6 +1,6 @@
 // What a plan's lines justify.
-ghost use Rattle.std.specs.Prelude.{◌≡◌, ◌≢◌, ◌↔◌, ℕ, ◌+◌, ◌*◌, ◌<◌, ◌≤◌, nat_le, true, length, slice_index, All, IsTrue};
-ghost use Rattle.strip_mask.specs.Set.{LiesBelow, has, members, minus, sum_over, without};
+ghost use Rattle.std.specs.Prelude.{◌≡◌, ◌≢◌, ◌↔◌, ℕ, ◌+◌, ◌≤◌, nat_le, true, All, IsTrue};
+ghost use Rattle.strip_mask.specs.Set.{has, members, without};
 ghost use Rattle.strip_film.specs.Film.{LiesIn};
 ghost use Rattle.strip_film.specs.Shoot.{on_location, step_cost};
 ghost use Rattle.strip_bound.specs.Kept.{Keeps};
@@ -10,8 +10,8 @@ ghost use Rattle.strip_check.specs.Reasons.{by_lines, justified};
 
 use strip_best::Best;
 use strip_bound::Kept;
-use strip_film::{Film, on, step};
-use strip_mask::{Mask, sum_over};
+use strip_film::{Film, on, step, step_with};
+use strip_mask::Mask;
 use strip_memo::Memo;
 use strip_rule::{open_firsts, open_firsts_with};
 
@@ -108,20 +108,6 @@ fn is_known<F: Fn(u64, u64) -> u64>(
     ensures known { IsTrue result ↔ (need ≤ known (rules_of kept.now.kind kept.now.film.now) best.now.lines q.0) }
 {
     memo.reach(kept, q, need) >= need || best.bound_of(q.0) >= need
-}
-
-/// What it costs to shoot a scene of the set next, while these are on location.
-fn step_with(film: &Film, on: Mask, s: u32) -> u64
-    requires known { s < length film.now.casts }
-    requires actors { LiesBelow (length film.now.rates) on.0 }
-    ensures { result ≡ slice_index film.now.days s * (sum_over film.now.rates (slice_index film.now.casts s)
-        + sum_over film.now.holds (minus on.0 (slice_index film.now.casts s))) }
-{
-    film.keeps_limits();
-    let cast = Mask(film.casts()[s as usize]);
-    let waiting = on.minus(cast);
-    let (rates, holds) = (film.rates(), film.holds());
-    film.days()[s as usize] * (sum_over(rates, cast) + sum_over(holds, waiting))
 }
 
 /// The greatest bound that the lines justify for a set, in units of money: static bounds are asked for

@@ -1,6 +1,6 @@
 //! Laws of the definitions. Each function does nothing but cite other laws: its contract is the law.
 ghost use Rattle.std.specs.Prelude.{◌≡◌, ◌↔◌, ℕ, ◌≤◌, None, List, IsTrue};
-ghost use Rattle.strip_pay.specs.declared.kind.Kind.{Kind};
+ghost use Rattle.strip_kind.specs.declared.kind.Kind.{Kind};
 ghost use Rattle.strip_pay.specs.Film.{FilmData};
 ghost use Rattle.strip_pay.specs.Order.{IsOrder, StandsBefore};
 ghost use Rattle.strip_film.specs.declared.shared.Line.{Line};

@@ -9,7 +9,7 @@ use strip_text::Told;
 impl Reason {
     /// The reason's name, and the numbers that it tells: of a line first its number, and then the
     /// greatest bound that is justified, in units of money.
-    pub fn told(&self) -> Told
+    pub fn told(&self) -> Told<'static>
         ensures { told_data result ≡ told_of self.now }
     {
         let (name, first, second) = match *self {
@@ -25,6 +25,7 @@ impl Reason {
             name,
             first,
             second,
+            names: &[],
         }
     }
 }

@@ -24,17 +24,16 @@ of_ok P Q (Ok x) more holds = more x holds
 of_ok P Q (Err e) more holds = tt
 
 -- the names by which a text says an instance serve a plan's text too
-said_film : (inst : InstanceData) → IsInstance inst → HasReadableNames inst → inst.pairs ≡ [] → IsSaidFilm inst
-said_film inst is names none = record {
+said_film : (inst : InstanceData) → IsInstance inst → HasReadableNames inst → IsSaidFilm inst
+said_film inst is names = record {
   is_instance = is;
   names = record { apart = is.scene_names; bare = All-weaker _ _ (λ scene (name : IsReadableName is_scene_name scene.name). name.bare) inst.scenes names.scenes };
-  no_pairs = none;
 }
 
 pub film_given : (text : List ℕ) (inst : InstanceData) → length text ≤ 1_048_576 → film_says text ≡ Ok inst → IsInstance inst → HasReadableNames inst
-    → inst.pairs ≡ [] → IsFilmGiven (film_said text) (Said inst)
-film_given text inst short says is names none =
-    subst (λ said. IsFilmGiven said (Said inst)) (sym (short_film text short ∙ ap film_of_says says)) (refl, said_film inst is names none)
+    → IsFilmGiven (film_said text) (Said inst)
+film_given text inst short says is names =
+    subst (λ said. IsFilmGiven said (Said inst)) (sym (short_film text short ∙ ap film_of_says says)) (refl, said_film inst is names)
 
 -- the film's file is refused, and the plan's isn't read
 pub film_refused : (film plan : List ℕ) (before after : FilesData) (first : Input InstanceData) (answer : Answer) → first ≡ Refused answer → after.bytes ≡ before.bytes

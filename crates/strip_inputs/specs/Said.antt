@@ -1,7 +1,7 @@
 -- What the text of a file says, and what is given of it.
 use Rattle.std.specs.Prelude.{◌≡◌, ℕ, nat_le, List, [], length, Option, None, Some, Result, Ok, Err, codes, if◌then◌else◌}
 use Rattle.strip_model.specs.Data.{InstanceData, IsInstance}
-use Rattle.strip_instance.specs.declared.fault.InstanceFault.{InstanceFault}
+use Rattle.strip_instance.specs.Fault.{FaultData}
 use Rattle.strip_instance.specs.Text.{says as film_says}
 use Rattle.strip_instance.specs.Told.{told_of as film_told}
 use Rattle.strip_proof.specs.declared.plan.Plan.{Plan}
@@ -18,13 +18,13 @@ use Rattle.strip_inputs.specs.declared.input.Input.{Input}
 use Rattle.strip_inputs.specs.declared.input.Input.TheVariants.{Said, Refused}
 
 abbrev pub too_long_told : ToldData
-too_long_told = record { name = codes "TooLong"; first = None; second = None }
+too_long_told = record { name = codes "TooLong"; first = None; second = None; names = [] }
 
 abbrev pub too_many_told : ℕ → ToldData
-too_many_told count = record { name = codes "TooManyClasses"; first = Some count; second = None }
+too_many_told count = record { name = codes "TooManyClasses"; first = Some count; second = None; names = [] }
 
 -- an instance, or what is told of a text that says none
-abbrev pub film_of_says : Result InstanceData InstanceFault → Result InstanceData (Option ToldData)
+abbrev pub film_of_says : Result InstanceData FaultData → Result InstanceData (Option ToldData)
 film_of_says (Ok inst) = Ok inst
 film_of_says (Err fault) = Err (film_told fault)
 
@@ -44,11 +44,10 @@ plan_said inst text = if nat_le (length text) 1_073_741_824 then plan_of_says (p
 abbrev pub IsRefusal : Status → Option ToldData → Status → List ℕ → Type 0
 IsRefusal why told status printed = (status ≡ why) × (fault : ToldData) × (told ≡ Some fault) × (printed ≡ error_row fault)
 
--- an instance that a text says: it keeps the limits, has names by which a plan's text can say an order, and no pairs
+-- an instance that a text says: it keeps the limits, and has names by which a plan's text can say an order
 pub record IsSaidFilm (inst : InstanceData) : Type 0 where
   pub is_instance : IsInstance inst
   pub names : HasReadableScenes inst
-  pub no_pairs : inst.pairs ≡ []
 
 -- what is given is what the text says, or refuses it
 abbrev pub IsFilmGiven : Result InstanceData (Option ToldData) → Input InstanceData → Type 0

@@ -2,6 +2,7 @@
 ghost use Rattle.std.specs.Prelude.{◌≡◌, ◌≢◌, ◌≤◌, length, Err, IfOk, OnOk};
 ghost use Rattle.strip_io.specs.Counts.{ReadFailed};
 ghost use Rattle.strip_instance.specs.declared.fault.InstanceFault.TheVariants.{Memory as OutOfMemory};
+ghost use Rattle.strip_instance.specs.Fault.{fault_data};
 ghost use Rattle.strip_instance.specs.Told.{told_of};
 ghost use Rattle.strip_answer.specs.declared.status.Status.TheVariants.{BadInstance};
 ghost use Rattle.strip_answer.specs.Ending.{answer_text};
@@ -12,9 +13,7 @@ ghost use Rattle.strip_inputs.specs.Input.{HasInput};
 use crate::input::{Input, too_long};
 use std::alloc::Global;
 use strip_answer::{Answer, Status, Stop};
-use strip_instance::laws::{
-    what_is_said_has_no_pairs, what_is_said_has_readable_names, what_is_said_keeps_the_limits,
-};
+use strip_instance::laws::{what_is_said_has_readable_names, what_is_said_keeps_the_limits};
 use strip_instance::{InstanceFault, read_instance};
 use strip_io::{Files, LoadFault, Memory, load};
 use strip_model::Instance;
@@ -56,7 +55,6 @@ fn said(alloc: Global, text: &[u8]) -> Result<Input<Instance>, Memory>
         Ok(inst) => {
             what_is_said_keeps_the_limits();
             what_is_said_has_readable_names();
-            what_is_said_has_no_pairs();
             Ok(Input::Said(inst))
         }
         Err(fault) => Ok(Input::Refused(refused(alloc, fault)?)),
@@ -66,7 +64,7 @@ fn said(alloc: Global, text: &[u8]) -> Result<Input<Instance>, Memory>
 /// The answer to a text that says this fault. Want of memory says nothing of the text.
 fn refused(alloc: Global, fault: InstanceFault) -> Result<Answer, Memory>
     ensures of_text { OnOk result (fault ≢ OutOfMemory) }
-    ensures refusal { IfOk result (λ answer. IsRefusal BadInstance (told_of fault) answer.status (answer_text answer)) }
+    ensures refusal { IfOk result (λ answer. IsRefusal BadInstance (told_of (fault_data fault)) answer.status (answer_text answer)) }
 {
     match fault.told() {
         Some(told) => Answer::error(alloc, Status::BadInstance, told),

@@ -34,6 +34,7 @@ pub(crate) fn too_long(alloc: Global, status: Status) -> Result<Answer, Memory>
             name,
             first,
             second,
+            names: &[],
         },
     )
 }
@@ -53,6 +54,7 @@ pub fn too_many_classes(alloc: Global, count: u64) -> Result<Answer, Memory>
             name,
             first,
             second,
+            names: &[],
         },
     )
 }

@@ -1,10 +1,10 @@
 -- Worked examples of what texts say, by computation.
-use Rattle.std.proofs.Common.{◌≡◌, [], ◌∷◌, ◌++◌, Ok, Err, codes, refl}
-use Rattle.strip_text.proofs.OnLiterals.{read_on_literals, written_on_literals}
-use Rattle.strip_mask.specs.Set.{has}
+use Rattle.std.proofs.Common.{◌≡◌, ℕ, List, [], ◌∷◌, ◌++◌, Ok, Err, codes, refl}
+use Rattle.strip_text.proofs.OnLiterals.{read_on_literals}
+use Rattle.strip_pay.specs.declared.pair.Pair.{Pair}
 use Rattle.strip_model.specs.Data.{InstanceData}
-use Rattle.strip_instance.specs.declared.fault.InstanceFault.TheVariants.{Empty, BadHeader, NoRateRow, Width, BadName, DuplicateActor, BadDays, BadRate, BadHold, BadMark, NoScene, NotUtf8}
-use Rattle.strip_instance.specs.Text.{canonical_text, says}
+use Rattle.strip_instance.specs.Fault.{BadBefore, Cycle, Empty, BadHeader, NoRateRow, Width, BadName, DuplicateActor, BadDays, BadRate, BadHold, BadMark, NoScene, NotUtf8}
+use Rattle.strip_instance.specs.Text.{says}
 
 no_row : says (codes "") ≡ Err Empty
 unfolding read_on_literals
@@ -56,7 +56,7 @@ no_days : says (codes "scene,days,a,b\nrate,,5,6\ns1,0,x,x\n") ≡ Err (BadDays 
 unfolding read_on_literals
 no_days = refl
 
-kept_word : says (codes "scene,days,a,b\nrate,,5,6\nBEFORE,1,x,x\n") ≡ Err (BadName 3 1)
+kept_word : says (codes "scene,days,a,b\nrate,,5,6\nRATE,1,x,x\n") ≡ Err (BadName 3 1)
 unfolding read_on_literals
 kept_word = refl
 
@@ -154,10 +154,58 @@ same_rates_read : says (codes "scene,days,a,b\nrate,,1,2\nhold,,01,2\ns1,1,x,.\n
 unfolding read_on_literals same_rates
 same_rates_read = refl
 
-same_rates_written : canonical_text same_rates ≡ codes "scene,days,a,b\nrate,,1,2\ns1,1,x,.\n"
-unfolding written_on_literals has same_rates
-same_rates_written = refl
+-- ---- which scene is shot before which
 
-triangle_written : canonical_text triangle ≡ codes "scene,days,a,b,c\nrate,,1,2,3\nhold,,5,1,4\ns1,1,x,x,.\ns2,1,.,x,x\ns3,1,x,.,x\n"
-unfolding written_on_literals has triangle
-triangle_written = refl
+three : List Pair → InstanceData
+three pairs = record {
+  scenes = record { name = codes "s1"; days = 1; cast = 3 } ∷ record { name = codes "s2"; days = 1; cast = 5 } ∷ record { name = codes "s3"; days = 1; cast = 6 } ∷ [];
+  actors = record { name = codes "a"; rate = 1; hold = 1 } ∷ record { name = codes "b"; rate = 2; hold = 2 } ∷ record { name = codes "c"; rate = 3; hold = 3 } ∷ [];
+  pairs = pairs;
+}
+
+abbrev three_rows : List ℕ
+three_rows = codes "scene,days,a,b,c\nrate,,1,2,3\ns1,1,x,x,.\ns2,1,x,.,x\ns3,1,.,x,x\n"
+
+two_pairs : says (three_rows ++ codes "before,s1,s2\nbefore,s3,s2\n") ≡ Ok (three (record { first = 0; then = 1 } ∷ record { first = 2; then = 1 } ∷ []))
+unfolding read_on_literals three
+two_pairs = refl
+
+-- the word in any case, blanks, a row that is passed over, empty fields behind the names, and a pair that was said before
+said_again : says (three_rows ++ codes "BEFORE, s1 ,s2\n,,\nbefore,s3,s2,,\nbefore,s1,s2\n") ≡ Ok (three (record { first = 0; then = 1 } ∷ record { first = 2; then = 1 } ∷ []))
+unfolding read_on_literals three
+said_again = refl
+
+cycle_of_three : says (three_rows ++ codes "before,s1,s2\nbefore,s2,s3\nbefore,s3,s1\n") ≡ Err (Cycle 8 (0 ∷ 1 ∷ 2 ∷ []) (codes "s1" ∷ codes "s2" ∷ codes "s3" ∷ []))
+unfolding read_on_literals
+cycle_of_three = refl
+
+no_such_scene : says (three_rows ++ codes "before,s1,s9\n") ≡ Err (BadBefore 6)
+unfolding read_on_literals
+no_such_scene = refl
+
+equal_names : says (three_rows ++ codes "before,s1,s1\n") ≡ Err (BadBefore 6)
+unfolding read_on_literals
+equal_names = refl
+
+two_fields : says (three_rows ++ codes "before,s1\n") ≡ Err (BadBefore 6)
+unfolding read_on_literals
+two_fields = refl
+
+fourth_field : says (three_rows ++ codes "before,s1,s2,s3\n") ≡ Err (BadBefore 6)
+unfolding read_on_literals
+fourth_field = refl
+
+scene_behind : says (three_rows ++ codes "before,s1,s2\ns4,1,x,x,x\n") ≡ Err (BadBefore 7)
+unfolding read_on_literals
+scene_behind = refl
+
+-- a pair in a text without scenes is no pair, and where all rows are passed over there is no scene
+pair_alone : says (codes "scene,days,a\nrate,,5\nbefore,s1,s2\n") ≡ Err (BadBefore 3)
+unfolding read_on_literals
+pair_alone = refl
+
+-- the least of the shortest ways
+shortest_way_back : says (codes "scene,days\nrate,\ns1,1\ns2,1\ns3,1\ns4,1\nbefore,s1,s3\nbefore,s1,s2\nbefore,s3,s4\nbefore,s2,s4\nbefore,s4,s1\n")
+    ≡ Err (Cycle 11 (0 ∷ 1 ∷ 3 ∷ []) (codes "s1" ∷ codes "s2" ∷ codes "s4" ∷ []))
+unfolding read_on_literals
+shortest_way_back = refl

@@ -1,5 +1,5 @@
-mod Casts
-mod read
+pub mod Casts
+pub mod pairs
+pub mod read
 mod said
-mod back
 mod Examples

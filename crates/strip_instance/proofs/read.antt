@@ -5,3 +5,6 @@ pub mod EarlierNames
 pub mod Rows
 pub mod Marks
 pub mod Whole
+pub mod Filmed
+pub mod HandedOn
+pub mod Later

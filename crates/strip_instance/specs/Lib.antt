@@ -1,5 +1,7 @@
 pub mod Field
+pub mod Fault
 pub mod Parts
+pub mod Befores
 pub mod Checks
 pub mod Faults
 pub mod Text

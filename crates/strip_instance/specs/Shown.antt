@@ -4,14 +4,19 @@ use Rattle.std.specs.Borrow.{Bor}
 use Rattle.strip_text.specs.Field.{Field}
 use Rattle.strip_text.specs.Rows.{Row}
 use Rattle.strip_model.specs.Data.{ActorData}
-use Rattle.strip_instance.specs.declared.fault.InstanceFault.{InstanceFault}
-use Rattle.strip_instance.specs.declared.fault.InstanceFault.TheVariants.{BadRate, BadHold}
+use Rattle.strip_model.specs.Instance.{scene_data}
+use Rattle.strip_model.specs.declared.scene.Scene.{Scene}
+use Rattle.strip_instance.specs.Fault.{FaultData, BadRate, BadHold}
 use Rattle.strip_instance.specs.declared.kind.RateKind.{RateKind}
 use Rattle.strip_instance.specs.declared.kind.RateKind.TheVariants.{Work, Wait}
 
 -- the rows from this one on, where there was one to read; else there are none
 abbrev pub rows_from : Bool → Row → List Row → List Row
 rows_from there row left = if there then row ∷ left else []
+
+-- the scenes' names
+abbrev pub names_of : List Scene → List Field
+names_of scenes = map (λ scene. scene.name) (map scene_data scenes)
 
 -- the bytes of borrowed texts
 abbrev pub strs : List (Bor (List ℕ)) → List (List ℕ)
@@ -23,7 +28,7 @@ rate_word Work = codes "rate"
 rate_word Wait = codes "hold"
 
 -- the fault of a field in it that is no rate, by its column
-abbrev pub rate_fault : RateKind → ℕ → InstanceFault
+abbrev pub rate_fault : RateKind → ℕ → FaultData
 rate_fault Work = BadRate
 rate_fault Wait = BadHold
 

@@ -9,7 +9,7 @@ use strip_io::Memory;
 
 /// Why no instance was read from a text. Rows and columns are counted from 1, as a spreadsheet
 /// counts them.
-#[derive(Clone, Copy, Debug, PartialEq, Eq)]
+#[derive(Debug, PartialEq, Eq, Drop)]
 pub enum InstanceFault {
     /// There is no row.
     Empty,
@@ -18,21 +18,51 @@ pub enum InstanceFault {
     /// There is no second row that begins with `rate`.
     NoRateRow,
     /// The row has another number of fields than the first.
-    Width { row: u64 },
+    Width {
+        row: u64,
+    },
     /// The field is no name, or a scene's name is a kept word.
-    BadName { row: u64, col: u64 },
+    BadName {
+        row: u64,
+        col: u64,
+    },
     /// The row has the name of an earlier scene.
-    DuplicateScene { row: u64 },
+    DuplicateScene {
+        row: u64,
+    },
     /// The column has the name of an earlier actor.
-    DuplicateActor { col: u64 },
+    DuplicateActor {
+        col: u64,
+    },
     /// The row's days are no number from 1 to 99.
-    BadDays { row: u64 },
+    BadDays {
+        row: u64,
+    },
     /// The column's rate is no number from 0 to 1,000,000,000.
-    BadRate { col: u64 },
+    BadRate {
+        col: u64,
+    },
     /// The column's hold rate is no number from 0 to 1,000,000,000.
-    BadHold { col: u64 },
+    BadHold {
+        col: u64,
+    },
     /// The field is no mark.
-    BadMark { row: u64, col: u64 },
+    BadMark {
+        row: u64,
+        col: u64,
+    },
+    /// The row, behind those of the scenes, doesn't say that one scene is shot before another.
+    BadBefore {
+        row: u64,
+    },
+    /// The row's pair makes a cycle with earlier ones: of the ways along these that lead from its second
+    /// scene back to its first the shortest, and the least by scene numbers of those, with the names of
+    /// its scenes.
+    Cycle {
+        row: u64,
+        scenes: Vec<u16>,
+        names: Vec<String>,
+    },
     /// There is no scene.
     NoScene,
     /// There is a 201st scene.
@@ -40,7 +70,10 @@ pub enum InstanceFault {
     /// There is a 65th actor.
     TooManyActors,
     /// The name isn't UTF-8.
-    NotUtf8 { row: u64, col: u64 },
+    NotUtf8 {
+        row: u64,
+        col: u64,
+    },
     /// Memory ran out.
     Memory,
 }
@@ -72,9 +105,10 @@ impl From<Memory> for InstanceFault {
 /// A sentence that says what is wrong, and where.
 impl fmt::Display for InstanceFault {
     ghost use Rattle.std.specs.Prelude.{Some};
+    ghost use Rattle.strip_instance.specs.Fault.{fault_data};
     ghost use Rattle.strip_instance.specs.Told.{sentence};
 
-    ghost output = { λ fault. Some (sentence fault) };
+    ghost output = { λ fault. Some (sentence (fault_data fault)) };
 
     fn fmt<W: fmt::Write>(&self, f: &mut fmt::Formatter<W>) -> fmt::Result {
         match self {
@@ -94,6 +128,11 @@ impl fmt::Display for InstanceFault {
             InstanceFault::BadRate { col } => write!(f, "column {col}: not a rate"),
             InstanceFault::BadHold { col } => write!(f, "column {col}: not a hold rate"),
             InstanceFault::BadMark { row, col } => write!(f, "row {row}, column {col}: not a mark"),
+            InstanceFault::BadBefore { row } => write!(f, "row {row}: not a pair of scenes"),
+            InstanceFault::Cycle { row, .. } => write!(
+                f,
+                "row {row}: scenes that must come before one another"
+            ),
             InstanceFault::NoScene => f.write_str("there is no scene"),
             InstanceFault::TooManyScenes => f.write_str("there are too many scenes"),
             InstanceFault::TooManyActors => f.write_str("there are too many actors"),

@@ -3,7 +3,7 @@ ghost use Rattle.std.specs.Prelude.{◌≡◌, true, false, MatchOption, IfOk};
 ghost use Rattle.std.specs.List.{list_all};
 ghost use Rattle.std.specs.Str.{is_utf8};
 ghost use Rattle.strip_text.specs.Checks.{checks_of_one};
-ghost use Rattle.strip_instance.specs.declared.fault.InstanceFault.TheVariants.{NotUtf8};
+ghost use Rattle.strip_instance.specs.Fault.{NotUtf8};
 ghost use Rattle.strip_instance.specs.Field.{is_kept, is_mark, is_name, is_name_byte, is_scene_name, is_word, is_work_mark};
 ghost use Rattle.strip_instance.specs.Checks.{Makes};
 

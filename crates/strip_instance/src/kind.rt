@@ -1,6 +1,7 @@
 // The two kinds of rates: for a day of work, and for a day of waiting.
 ghost use Rattle.std.specs.Prelude.{◌≡◌};
 ghost use Rattle.strip_model.specs.Instance.{actor_data};
+ghost use Rattle.strip_instance.specs.Fault.{fault_data};
 ghost use Rattle.strip_instance.specs.Shown.{rate_fault, rate_of, rate_word};
 
 use crate::fault::InstanceFault;
@@ -8,14 +9,16 @@ use strip_model::Actor;
 
 /// What a row of rates is about.
 #[derive(Clone, Copy)]
-pub(crate) enum RateKind {
+pub enum RateKind {
+    /// A day of work.
     Work,
+    /// A day of waiting.
     Wait,
 }
 
 impl RateKind {
     /// The word that the row begins with.
-    pub(crate) fn word(self) -> &'static [u8]
+    pub fn word(self) -> &'static [u8]
         ensures { result.now ≡ rate_word self }
     {
         match self {
@@ -26,7 +29,7 @@ impl RateKind {
 
     /// The fault of a column that is no rate.
     pub(crate) fn fault(self, col: u64) -> InstanceFault
-        ensures { result ≡ rate_fault self col }
+        ensures { fault_data result ≡ rate_fault self col }
     {
         match self {
             RateKind::Work => InstanceFault::BadRate { col },
@@ -35,7 +38,7 @@ impl RateKind {
     }
 
     /// The actor's rate for a day, in units of money.
-    pub(crate) fn of(self, actor: &Actor) -> u64
+    pub fn of(self, actor: &Actor) -> u64
         ensures { result ≡ rate_of self (actor_data actor.now) }
     {
         match self {

@@ -1,9 +1,13 @@
 //! Laws of the definitions. Each function does nothing: its contract is the law.
-ghost use Rattle.std.specs.Prelude.{◌≡◌, ◌≢◌, ℕ, List, [], slice_index_or, Ok, Err};
+ghost use Rattle.std.specs.Prelude.{◌≡◌, ◌≢◌, ◌↔◌, ℕ, List, [], slice_index_or, None, Some, Ok, Err};
 ghost use Rattle.strip_mask.specs.Set.{has};
+ghost use Rattle.strip_pay.specs.declared.pair.Pair.{Pair};
+ghost use Rattle.strip_pay.specs.Pairs.{FitPairs, Leads};
+ghost use Rattle.strip_cycle.specs.Ways.{IsShortestWay};
 ghost use Rattle.strip_model.specs.Data.{InstanceData, IsInstance};
 ghost use Rattle.strip_text.specs.Field.{Field};
-ghost use Rattle.strip_instance.specs.declared.fault.InstanceFault.TheVariants.{Memory};
+ghost use Rattle.strip_instance.specs.Befores.{shortest_way};
+ghost use Rattle.strip_instance.specs.Fault.{Memory};
 ghost use Rattle.strip_instance.specs.Field.{is_work_mark};
 ghost use Rattle.strip_instance.specs.Text.{HasReadableNames, cast_of_marks, says};
 
@@ -18,11 +22,6 @@ pub fn what_is_said_has_readable_names()
     ensures { (text : List ℕ) (inst : InstanceData) → says text ≡ Ok inst → HasReadableNames inst }
 {}
 
-/// An instance that a text says has no pairs: no row of a text asks for an order of two scenes.
-pub fn what_is_said_has_no_pairs()
-    ensures { (text : List ℕ) (inst : InstanceData) → says text ≡ Ok inst → inst.pairs ≡ [] }
-{}
-
 /// No text says that memory ran out: that fault is of the machine alone.
 pub fn want_of_memory_is_never_said()
     ensures { (text : List ℕ) → says text ≢ Err Memory }
@@ -31,4 +30,14 @@ pub fn want_of_memory_is_never_said()
 /// An actor is in a scene's cast where the mark at his place says that he works.
 pub fn casts_are_by_marks()
     ensures { (marks : List Field) (actor : ℕ) → has (cast_of_marks marks) actor ≡ is_work_mark (slice_index_or marks actor []) }
+{}
+
+/// Of pairs that can be kept together `shortest_way` finds the shortest way from a scene to another,
+/// and finds none exactly where no way leads there. So a row makes a cycle exactly where the pairs of
+/// earlier rows lead from its second scene to its first.
+pub fn the_shortest_way_is_found()
+    ensures found { (n : ℕ) (pairs : List Pair) (from to : ℕ) (way : List ℕ) → FitPairs n pairs → from ≢ to
+        → shortest_way n pairs from to ≡ Some way → IsShortestWay pairs from to way }
+    ensures none { (n : ℕ) (pairs : List Pair) (from to : ℕ) → FitPairs n pairs → from ≢ to
+        → (shortest_way n pairs from to ≡ None) ↔ (¬ Leads pairs from to) }
 {}

@@ -1,6 +1,7 @@
-//! Instance texts: CSV files of scenes and rates, read and written.
+//! Instance texts: CSV files of scenes, rates and pairs, read into an instance or their first fault.
 #![tactic(auto)]
 
+mod befores;
 mod fault;
 mod field;
 mod header;
@@ -12,8 +13,7 @@ mod reading;
 mod row;
 mod scenes;
 mod told;
-mod writing;
 
 pub use fault::InstanceFault;
+pub use kind::RateKind;
 pub use reading::read_instance;
-pub use writing::write_instance;

@@ -1,9 +1,14 @@
 // Names that were read before.
-ghost use Rattle.std.specs.Prelude.{◌≡◌, ◌<◌, map, take, length};
+ghost use Rattle.std.specs.Prelude.{◌≡◌, ◌<◌, ◌≤◌, map, take, length};
+ghost use Rattle.std.specs.List.{position};
+ghost use Rattle.std.specs.Str.{bytes_eq};
+ghost use Rattle.std.specs.String.{string_bytes};
 ghost use Rattle.strip_model.specs.Instance.{scene_data};
 ghost use Rattle.strip_text.specs.Rows.{field_of};
 ghost use Rattle.strip_instance.specs.Parts.{actor_fields};
+ghost use Rattle.strip_instance.specs.Befores.{number_of_scene};
 ghost use Rattle.strip_instance.specs.Faults.{contains};
+ghost use Rattle.strip_instance.specs.Shown.{names_of};
 
 use strip_model::Scene;
 use strip_text::Row;
@@ -18,6 +23,24 @@ pub(crate) fn has_scene(scenes: &[Scene], name: &[u8]) -> bool
         }
     }
     false
+}
+
+/// The number of the scene with this name.
+pub(crate) fn scene_number(scenes: &[Scene], name: &[u8]) -> Option<u16>
+    requires { length scenes.now ≤ 200 }
+    ensures { result ≡ number_of_scene (names_of scenes.now) name.now }
+{
+    let place = place_of(scenes, name)?;
+    Some(place as u16)
+}
+
+/// The place of the scene with this name.
+fn place_of(scenes: &[Scene], name: &[u8]) -> Option<usize>
+    ensures { result ≡ position (λ scene. bytes_eq (string_bytes scene.name) name.now) scenes.now }
+{
+    scenes
+        .iter()
+        .position(|scene| scene.name.as_bytes() == name)
 }
 
 /// Whether the name of the actor with this number is that of an actor before him.

@@ -1,25 +1,32 @@
 // An instance text, read.
-ghost use Rattle.std.specs.Prelude.{◌≡◌, ◌≢◌, Ok, Err, IfOk, IfErr};
+ghost use Rattle.std.specs.Prelude.{◌≡◌, ◌≢◌, ◌≤◌, length, map, Ok, Err, IfOk, IfErr};
+ghost use Rattle.strip_model.specs.Instance.{scene_data};
 ghost use Rattle.strip_instance.specs.declared.fault.InstanceFault.TheVariants.{Memory as OutOfMemory};
-ghost use Rattle.strip_instance.specs.Parts.{parts_of};
+ghost use Rattle.strip_instance.specs.Fault.{fault_data};
+ghost use Rattle.strip_instance.specs.Befores.{pairs_of};
+ghost use Rattle.strip_instance.specs.Parts.{actor_fields, befores_part, parts_of, scenes_part};
 ghost use Rattle.strip_instance.specs.Checks.{Makes};
-ghost use Rattle.strip_instance.specs.Faults.{all_checks};
-ghost use Rattle.strip_instance.specs.Text.{instance_of, says};
+ghost use Rattle.strip_instance.specs.Faults.{all_checks, body_parts_checks, scene_names, scene_rows};
+ghost use Rattle.strip_instance.specs.Shown.{rows_from};
+ghost use Rattle.strip_instance.specs.Text.{instance_of, says, scene_of};
 
+use crate::befores::read_befores;
 use crate::fault::InstanceFault;
 use crate::header::read_names;
 use crate::rates::{actors_of, read_holds, read_rates};
 use crate::row::next_row;
-use crate::scenes::read_scenes;
+use crate::scenes::{Scenes, read_scenes};
 use std::alloc::Global;
-use strip_model::Instance;
+use strip_model::{Instance, Scene};
+use strip_pay::Pair;
 use strip_text::{Row, Rows};
 
-/// The instance that the text says, or its first fault. It takes time with the size of the text,
-/// and beside the instance memory for the header and one row more at a time.
+/// The instance that the text says, or its first fault. It takes time with the size of the text, for
+/// a row that says a pair a look at the scenes' names, and 200 turns where earlier pairs don't imply
+/// it; and beside the instance memory for the header and one row more at a time.
 pub fn read_instance(alloc: Global, text: &[u8]) -> Result<Instance, InstanceFault>
     ensures read { IfOk result (λ inst. says text.now ≡ Ok inst) }
-    ensures faults { IfErr result (λ fault. fault ≢ OutOfMemory → says text.now ≡ Err fault) }
+    ensures faults { IfErr result (λ fault. fault ≢ OutOfMemory → says text.now ≡ Err (fault_data fault)) }
 {
     let mut rows = Rows::new(alloc, text);
     read_rows(alloc, &mut rows)
@@ -40,9 +47,41 @@ fn read_rows(alloc: Global, rows: &mut Rows<'_>) -> Result<Instance, InstanceFau
     let rates = read_rates(alloc, &header, rows, &mut row)?;
     let holds = read_holds(alloc, &header, &rates, rows, &mut row)?;
     let actors = actors_of(alloc, &names, &rates, &holds.rates)?;
-    let scenes = read_scenes(alloc, &header, rows, &mut row, holds.there)?;
+    let Filmed { scenes, pairs } = read_filmed(alloc, &header, rows, &mut row, holds.there)?;
     match Instance::of(scenes, actors) {
-        Some(inst) => Ok(inst),
+        Some(inst) => Ok(inst.with_pairs(pairs)),
         None => unreachable!("rows without a fault keep the limits"),
     }
+}
+
+/// What the rows of the body say: at least one scene, and which are shot before which.
+#[derive(Drop)]
+struct Filmed {
+    scenes: Vec<Scene>,
+    pairs: Vec<Pair>,
+}
+
+/// The scenes of the body and their pairs: `row`, where it is there, has its first row, and the others
+/// are left.
+fn read_filmed(
+    alloc: Global,
+    header: &Row,
+    rows: &mut Rows<'_>,
+    row: &mut Row,
+    there: bool,
+) -> Result<Filmed, InstanceFault>
+    requires { length (actor_fields header.now) ≤ 64 }
+    ensures makes { Makes (body_parts_checks header.now rows.old.number
+        (scenes_part (rows_from there row.old rows.old.left)) (befores_part (rows_from there row.old rows.old.left))) result }
+    ensures scenes { IfOk result (λ filmed. map scene_data filmed.scenes.items
+        ≡ map scene_of (scene_rows (scenes_part (rows_from there row.old rows.old.left)))) }
+    ensures pairs { IfOk result (λ filmed. filmed.pairs.items
+        ≡ pairs_of (scene_names (scenes_part (rows_from there row.old rows.old.left))) (befores_part (rows_from there row.old rows.old.left))) }
+{
+    let Scenes { scenes, there } = read_scenes(alloc, header, rows, row, there)?;
+    let pairs = read_befores(alloc, &scenes, rows, row, there)?;
+    if scenes.is_empty() {
+        return Err(InstanceFault::NoScene);
+    }
+    Ok(Filmed { scenes, pairs })
 }

@@ -1,10 +1,11 @@
 // The rows of a text, one at a time.
 ghost use Rattle.std.specs.Prelude.{◌≡◌, ◌+◌, length, true, IfOk, IfErr};
 ghost use Rattle.strip_instance.specs.declared.fault.InstanceFault.TheVariants.{Memory as OutOfMemory};
-ghost use Rattle.strip_instance.specs.Parts.{actor_fields};
+ghost use Rattle.strip_instance.specs.Parts.{actor_fields, is_before_row};
 ghost use Rattle.strip_instance.specs.Shown.{rows_from};
 
 use crate::fault::InstanceFault;
+use crate::field::is_word;
 use strip_text::{Row, Rows};
 
 /// Reads the next row in place of the one that `row` had, and tells whether there was one.
@@ -14,6 +15,13 @@ pub(crate) fn next_row(rows: &mut Rows<'_>, row: &mut Row) -> Result<bool, Insta
     ensures memory { IfErr result (λ fault. fault ≡ OutOfMemory) }
 {
     Ok(rows.read(row)?)
+}
+
+/// Whether the row begins with the word of rows that say which scene is shot before which.
+pub(crate) fn is_before_row(row: &Row) -> bool
+    ensures { result ≡ is_before_row row.now }
+{
+    is_word(b"before", row.field(0))
 }
 
 /// How many fields stand behind the first two.

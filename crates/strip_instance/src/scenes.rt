@@ -1,9 +1,9 @@
 // The scenes: their names, days and marks.
-ghost use Rattle.std.specs.Prelude.{◌≡◌, ◌<◌, ◌≤◌, ◌++◌, ◌∷◌, [], List, length, map, IfOk, OnOk};
+ghost use Rattle.std.specs.Prelude.{◌≡◌, ◌+◌, ◌<◌, ◌≤◌, ◌++◌, ◌∷◌, [], true, List, length, map, IfOk, OnOk};
 ghost use Rattle.strip_model.specs.Instance.{scene_data};
 ghost use Rattle.strip_text.specs.Rows.{Row as RowData, field_of};
 ghost use Rattle.strip_instance.specs.Checks.{Makes};
-ghost use Rattle.strip_instance.specs.Parts.{actor_fields};
+ghost use Rattle.strip_instance.specs.Parts.{actor_fields, befores_part, scenes_part};
 ghost use Rattle.strip_instance.specs.Field.{is_work_mark};
 ghost use Rattle.strip_instance.specs.Faults.{mark_check, mark_checks, row_checks, scene_checks, scene_rows, scenes_checks};
 ghost use Rattle.strip_instance.specs.Shown.{rows_from};
@@ -12,35 +12,46 @@ ghost use Rattle.strip_instance.specs.Text.{cast_of_marks, scene_of};
 use crate::fault::InstanceFault;
 use crate::field::{is_scene_name, mark_meaning, text_of};
 use crate::names::has_scene;
-use crate::row::{actor_count, next_row};
+use crate::row::{actor_count, is_before_row, next_row};
 use std::alloc::Global;
 use strip_mask::Mask;
 use strip_model::{MAX_DAYS, MAX_SCENES, Scene};
 use strip_text::{Row, Rows, number_of};
 
-/// The scenes of the body: `row`, where it is there, has its first row, and the others are left.
+/// The scenes, and what was found behind them.
+#[derive(Drop)]
+pub(crate) struct Scenes {
+    /// The scenes, in the order of their rows.
+    pub scenes: Vec<Scene>,
+    /// Whether there is a row behind those of the scenes; it was read then.
+    pub there: bool,
+}
+
+/// The scenes of the body: `row`, where it is there, has its first row, and the others are left. `row`
+/// then has the first row that doesn't say a scene but a pair, where there is one.
 pub(crate) fn read_scenes(
     alloc: Global,
     header: &Row,
     rows: &mut Rows<'_>,
     row: &mut Row,
     there: bool,
-) -> Result<Vec<Scene>, InstanceFault>
+) -> Result<Scenes, InstanceFault>
     requires { length (actor_fields header.now) ≤ 64 }
-    ensures makes { Makes (scenes_checks header.now rows.old.number (rows_from there row.old rows.old.left)) result }
-    ensures scenes { IfOk result (λ scenes. map scene_data scenes.items
-        ≡ map scene_of (scene_rows (rows_from there row.old rows.old.left))) }
+    ensures makes { Makes (scenes_checks header.now rows.old.number (scenes_part (rows_from there row.old rows.old.left))) result }
+    ensures scenes { IfOk result (λ found. map scene_data found.scenes.items
+        ≡ map scene_of (scene_rows (scenes_part (rows_from there row.old rows.old.left)))) }
+    ensures left { IfOk result (λ found. rows_from found.there row.new rows.new.left
+        ≡ befores_part (rows_from there row.old rows.old.left)) }
+    ensures counted { IfOk result (λ found. (found.there ≡ true)
+        → rows.new.number ≡ rows.old.number + length (scenes_part (rows_from there row.old rows.old.left))) }
 {
     let mut scenes = Vec::new(alloc);
     let mut there = there;
-    while there {
+    while there && !is_before_row(row) {
         take_row(alloc, header, &mut scenes, row, rows.number())?;
         there = next_row(rows, row)?;
     }
-    if scenes.is_empty() {
-        return Err(InstanceFault::NoScene);
-    }
-    Ok(scenes)
+    Ok(Scenes { scenes, there })
 }
 
 /// Puts the scene of the row with this number behind the others, unless the row is passed over.

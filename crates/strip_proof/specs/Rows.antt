@@ -1,11 +1,11 @@
 -- The rows of a plan's text.
-use Rattle.std.specs.Prelude.{ℕ, zero, suc, ◌/◌, ◌%◌, ◌^◌, List, [], ◌∷◌, ◌++◌, length, map, codes, slice_index_or}
+use Rattle.std.specs.Prelude.{ℕ, zero, suc, ◌/◌, ◌%◌, ◌^◌, List, [], ◌∷◌, ◌++◌, length, map, codes}
 use Rattle.std.specs.List.{flat_map}
 use Rattle.std.specs.Char.{digit_char}
 use Rattle.std.specs.Fmt.{decimal}
-use Rattle.strip_pay.specs.declared.kind.Kind.{Kind}
-use Rattle.strip_pay.specs.declared.kind.Kind.TheVariants.{Plain, Pairs, Groups}
-use Rattle.strip_model.specs.Data.{InstanceData}
+use Rattle.strip_kind.specs.declared.kind.Kind.{Kind}
+use Rattle.strip_kind.specs.declared.kind.Kind.TheVariants.{Plain, Pairs, Groups}
+use Rattle.strip_model.specs.Data.{InstanceData, scene_name}
 use Rattle.strip_film.specs.declared.shared.Line.{Line}
 use Rattle.strip_text.specs.Field.{Field}
 use Rattle.strip_text.specs.Rows.{Row, csv_row, csv_text}
@@ -21,10 +21,6 @@ abbrev pub kind_word : Kind → Field
 kind_word Plain = codes "plain"
 kind_word Pairs = codes "pairs"
 kind_word Groups = codes "groups"
-
--- the name of the scene with this number
-abbrev pub scene_name : InstanceData → ℕ → Field
-scene_name inst scene = slice_index_or (map (λ s. s.name) inst.scenes) scene []
 
 -- the last digits of a number, this many, in base 16 and lower case: the one with i others behind it is number / 16 ^ i mod 16
 unfoldable pub hex_digits : ℕ → ℕ → Field

@@ -1,5 +1,5 @@
 -- What a fault of a plan text tells, and the sentence that says it.
-use Rattle.std.specs.Prelude.{ℕ, List, ◌++◌, codes, Option, None, Some}
+use Rattle.std.specs.Prelude.{ℕ, List, [], ◌++◌, codes, Option, None, Some}
 use Rattle.std.specs.Fmt.{decimal}
 use Rattle.strip_text.specs.Told.{ToldData}
 use Rattle.strip_proof.specs.declared.fault.PlanFault.{PlanFault}
@@ -7,7 +7,7 @@ use Rattle.strip_proof.specs.declared.fault.PlanFault.TheVariants.{BadRow, Missi
 
 -- a name, and the row where it is told
 abbrev pub told_at : List ℕ → Option ℕ → Option ToldData
-told_at name row = Some (record { name = name; first = row; second = None })
+told_at name row = Some (record { name = name; first = row; second = None; names = [] })
 
 -- each fault's own name and its row; want of memory is no fault of a text
 abbrev pub told_of : PlanFault → Option ToldData

@@ -1,15 +1,16 @@
 // The head rows of a plan.
 ghost use Rattle.std.specs.Prelude.{◌≡◌, ◌<◌, ◌++◌, ◌∷◌, [], length, map, All, codes, IfOk, OnOk};
 ghost use Rattle.std.specs.Fmt.{decimal};
+ghost use Rattle.strip_model.specs.Data.{scene_name};
 ghost use Rattle.strip_text.specs.Rows.{csv_row, csv_text};
 ghost use Rattle.strip_proof.specs.Plan.{plan_data};
-ghost use Rattle.strip_proof.specs.Rows.{kind_word, status_word, scene_name, head_rows};
+ghost use Rattle.strip_proof.specs.Rows.{kind_word, status_word, head_rows};
 
 use crate::plan::{Plan, Status};
 use std::alloc::Global;
 use strip_io::Memory;
+use strip_kind::Kind;
 use strip_model::Instance;
-use strip_pay::Kind;
 use strip_text::Text;
 
 /// The eight head rows of a plan's text, where `printed` line rows follow: none is a plan without a
@@ -45,7 +46,8 @@ fn kind_word(kind: Kind) -> &'static [u8]
     }
 }
 
-fn status_word(status: Status) -> &'static [u8]
+/// The word of a plan's status.
+pub fn status_word(status: Status) -> &'static [u8]
     ensures { result.now ≡ status_word status }
 {
     match status {

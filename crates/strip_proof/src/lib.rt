@@ -17,7 +17,7 @@ mod sending;
 mod told;
 
 pub use fault::PlanFault;
-pub use head::head_text;
+pub use head::{head_text, status_word};
 pub use line::{LineText, line_text};
 pub use plan::{Plan, Status};
 pub use reading::read_plan;

@@ -1,6 +1,6 @@
 // What a plan is.
 use strip_film::Line;
-use strip_pay::Kind;
+use strip_kind::Kind;
 
 /// Whether a plan's bound shows that its order is a cheapest one.
 #[derive(Clone, Copy, Debug, PartialEq, Eq)]

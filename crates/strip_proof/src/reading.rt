@@ -13,8 +13,8 @@ use crate::line_rows::{read_all_lines, read_counted_lines};
 use crate::plan::Plan;
 use crate::row::read_due;
 use std::alloc::Global;
+use strip_kind::Kind;
 use strip_model::Instance;
-use strip_pay::Kind;
 use strip_text::{Row, Rows};
 
 /// The plan that the text says of the instance, or its first fault. It takes time with the size of

@@ -9,7 +9,7 @@ use strip_text::Told;
 impl PlanFault {
     /// The fault's name, and the row that it tells, where it tells one; none for want of memory,
     /// which is no fault of a text.
-    pub fn told(&self) -> Option<Told>
+    pub fn told(&self) -> Option<Told<'static>>
         ensures { option_map told_data result ≡ told_of self.now }
     {
         let (name, first) = match *self {
@@ -23,6 +23,7 @@ impl PlanFault {
             name,
             first,
             second: None,
+            names: &[],
         })
     }
 }

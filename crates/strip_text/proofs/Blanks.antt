@@ -34,7 +34,7 @@ is_blank-digit : (n : ℕ) → is_blank (48 + n) ≡ false
 is_blank-digit n = or_from _ _ (ne_eqb (48 + n) 32 (λ e. omega arith)) (ne_eqb (48 + n) 9 (λ e. omega arith))
 
 -- a number has no blank
-HasNoBlank-decimal : (n : ℕ) → n < 2 ^ 64 → HasNoBlank (decimal n)
+pub HasNoBlank-decimal : (n : ℕ) → n < 2 ^ 64 → HasNoBlank (decimal n)
 HasNoBlank-decimal n lt = decimal_by_steps (λ _ digits. HasNoBlank digits)
     (λ n lt. All-cons (λ b. is_blank b ≡ false) (48 + n) [] (is_blank-digit n) (All-nil (λ b. is_blank b ≡ false)))
     (λ n digits _ none. All-push (λ b. is_blank b ≡ false) digits (48 + n % 10) none (is_blank-digit (n % 10)))

@@ -1,14 +1,14 @@
 // Word lists and the jobs that they name, worked by hand from the rules of the words.
 use std::alloc::{AllocError, Global};
 use std::test::Fail;
-use strip_pay::Kind;
+use strip_kind::Kind;
 use strip_words::{Job, WordsFault, job};
 
 const BAD: [&[&str]; 49] = [
     &[],
     &["solve"],
     &["Solve", "f"],
-    &["dood", "f", "p"],
+    &["budget", "f", "p"],
     &["f", "solve"],
     &["solve", "a", "b"],
     &["solve", ""],

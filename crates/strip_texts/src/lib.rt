@@ -4,6 +4,8 @@
 #[cfg(test)]
 mod jobs;
 #[cfg(test)]
+mod pairs;
+#[cfg(test)]
 mod rows;
 #[cfg(test)]
 mod streams;

@@ -89,6 +89,7 @@ fn tells_faults(rt: HostRuntime) -> Result<(), Fail> {
         name: "BadMark",
         first: Some(12),
         second: None,
+        names: &[],
     };
     let row = told_row(rt.alloc(), b"refused", told)?;
     assert!(&rt; row.as_slice() == "refused,BadMark,12,\n".as_bytes());
@@ -96,5 +97,15 @@ fn tells_faults(rt: HostRuntime) -> Result<(), Fail> {
     assert!(&rt;
         answer.status.code() == 6 && answer.text.as_slice() == "error,BadMark,12,\n".as_bytes()
     );
+    let alloc = rt.alloc();
+    let mut names = Vec::new(alloc);
+    names.push(String::from_str(alloc, "s,1")?)?;
+    names.push(String::from_str(alloc, "s2")?)?;
+    let told = Told {
+        names: &names,
+        ..told
+    };
+    let row = told_row(alloc, b"error", told)?;
+    assert!(&rt; row.as_slice() == "error,BadMark,12,,\"s,1\",s2\n".as_bytes());
     Ok(())
 }

@@ -208,8 +208,8 @@ const ROWS: [(&str, Fault); 77] = [
     ("rate,1,x,x\n", Fault::BadName { row: 3, col: 1 }),
     ("Rate,1,x,x\n", Fault::BadName { row: 3, col: 1 }),
     ("s1,1,x,x\nHOLD,1,x,x\n", Fault::BadName { row: 4, col: 1 }),
-    (" before ,1,x,x\n", Fault::BadName { row: 3, col: 1 }),
-    ("\"beFORE\",1,x,x\n", Fault::BadName { row: 3, col: 1 }),
+    (" before ,1,x,x\n", Fault::BadBefore { row: 3 }),
+    ("\"beFORE\",1,x,x\n", Fault::BadBefore { row: 3 }),
     ("s1,1,x,x\nrate,,7,8\n", Fault::BadName { row: 4, col: 1 }),
     ("s\t1,1,x,x\n", Fault::BadName { row: 3, col: 1 }),
     ("s1\u{b},1,x,x\n", Fault::BadName { row: 3, col: 1 }),
@@ -347,22 +347,36 @@ const MANY_ACTORS: [(u64, &str, Fault); 10] = [
     (64, "\nrate,,5\n", Fault::Width { row: 2 }),
 ];
 
+// Whether this is the text's first fault.
+fn is_fault(alloc: Global, text: &[u8], fault: &Fault) -> bool {
+    read_instance(alloc, text).err().as_ref() == Some(fault)
+}
+
+fn is_fault_behind(alloc: Global, rows: &str, fault: &Fault) -> Result<bool, AllocError> {
+    let text = format!(in alloc; "{HEAD}{rows}")?;
+    Ok(is_fault(alloc, text.as_bytes(), fault))
+}
+
 #[test]
 fn faults_of_the_first_two_rows(rt: HostRuntime) -> Result<(), Fail> {
     for (text, fault) in &HEADS {
-        let found = read_instance(rt.alloc(), text.as_bytes()).err();
-        assert_eq!(rt; found, Some(*fault), "in {text:?}");
+        assert!(&rt; is_fault(rt.alloc(), text.as_bytes(), fault), "in {text:?}");
+    }
+    Ok(())
+}
+
+#[test]
+fn faults_of_hold_rows(rt: HostRuntime) -> Result<(), Fail> {
+    for (rows, fault) in &HOLDS {
+        assert!(&rt; is_fault_behind(rt.alloc(), rows, fault)?, "in {rows:?}");
     }
     Ok(())
 }
 
 #[test]
 fn faults_of_the_later_rows(rt: HostRuntime) -> Result<(), Fail> {
-    let alloc = rt.alloc();
-    for (rows, fault) in HOLDS.iter().chain(&ROWS) {
-        let text = format!(in alloc; "{HEAD}{rows}")?;
-        let found = read_instance(alloc, text.as_bytes()).err();
-        assert_eq!(rt; found, Some(*fault), "in {rows:?}");
+    for (rows, fault) in &ROWS {
+        assert!(&rt; is_fault_behind(rt.alloc(), rows, fault)?, "in {rows:?}");
     }
     Ok(())
 }
@@ -370,8 +384,7 @@ fn faults_of_the_later_rows(rt: HostRuntime) -> Result<(), Fail> {
 #[test]
 fn faults_of_bytes_that_are_not_utf8(rt: HostRuntime) -> Result<(), Fail> {
     for (text, fault) in &BYTES {
-        let found = read_instance(rt.alloc(), text).err();
-        assert_eq!(rt; found, Some(*fault), "in {text:?}");
+        assert!(&rt; is_fault(rt.alloc(), text, fault), "in {text:?}");
     }
     Ok(())
 }
@@ -401,8 +414,10 @@ fn at_most_200_scenes(rt: HostRuntime) -> Result<(), Fail> {
     let alloc = rt.alloc();
     for (scenes, rest, fault) in &MANY_SCENES {
         let text = with_scenes(alloc, *scenes, rest)?;
-        let found = read_instance(alloc, text.as_bytes()).err();
-        assert_eq!(rt; found, Some(*fault), "with {scenes} scenes and {rest:?}");
+        assert!(&rt;
+            is_fault(alloc, text.as_bytes(), fault),
+            "with {scenes} scenes and {rest:?}"
+        );
     }
     // Rows that are passed over aren't scenes.
     for rest in ["", ",\n , \n\n,,,,\n\"\"\n"] {
@@ -418,15 +433,16 @@ fn at_most_64_actors(rt: HostRuntime) -> Result<(), Fail> {
     let alloc = rt.alloc();
     for (actors, rest, fault) in &MANY_ACTORS {
         let text = with_actors(alloc, *actors, rest)?;
-        let found = read_instance(alloc, text.as_bytes()).err();
-        assert_eq!(rt; found, Some(*fault), "with {actors} actors and {rest:?}");
+        assert!(&rt;
+            is_fault(alloc, text.as_bytes(), fault),
+            "with {actors} actors and {rest:?}"
+        );
     }
     // The 65th actor's name isn't looked at.
     let text = with_actors(alloc, 64, ",")?;
     let mut text = Vec::from_slice(alloc, text.as_bytes())?;
     text.extend_from_slice(b"\xff\n")?;
-    let found = read_instance(alloc, &text).err();
-    assert_eq!(rt; found, Some(Fault::TooManyActors));
+    assert!(&rt; is_fault(alloc, &text, &Fault::TooManyActors));
     let rates = ",5".repeat(alloc, 64)?;
     let marks = ",x".repeat(alloc, 64)?;
     let rest = format!(in alloc; "\nrate,{rates}\ns1,1{marks}\n")?;

@@ -1,7 +1,8 @@
 // Texts of films and what they say, worked by hand from the rules of the format.
 use std::alloc::Global;
 use std::test::Fail;
-use strip_instance::{read_instance, write_instance};
+use strip_canonical::write_instance;
+use strip_instance::read_instance;
 use strip_model::{Actor, Instance, Pair, Scene};
 
 // A text and the film that it says: the scenes' names, days and casts (bit 0 is the first actor),
@@ -234,7 +235,7 @@ const ODD_NAMES: Film = Film {
 };
 
 // Texts, and the canonical texts of what they say.
-const CANONICAL: [(&str, &str); 10] = [
+const CANONICAL: [(&str, &str); 11] = [
     (
         "\u{feff}scene,days,a,b\r\nrate,,10,20\r\n s1 , 1 , x , .\r\ns2,1,X,x\r\n",
         "scene,days,a,b\nrate,,10,20\ns1,1,x,.\ns2,1,x,x\n",
@@ -275,6 +276,11 @@ const CANONICAL: [(&str, &str); 10] = [
     (
         "scene,days\nrate,\nhold,\ns1,1\n",
         "scene,days\nrate,\ns1,1\n",
+    ),
+    // pairs, each once
+    (
+        "scene,days\nrate,\ns1,1\n\"s,2\",1\n,\nBefore,\"s,2\",s1,,\nbefore,\"s,2\",s1\n",
+        "scene,days\nrate,\ns1,1\n\"s,2\",1\nbefore,\"s,2\",s1\n",
     ),
 ];
 
@@ -371,7 +377,7 @@ fn canonical_texts(rt: HostRuntime) -> Result<(), Fail> {
 }
 
 #[test]
-fn pairs_are_not_written(rt: HostRuntime) -> Result<(), Fail> {
+fn pairs_are_written(rt: HostRuntime) -> Result<(), Fail> {
     let alloc = rt.alloc();
     let inst = instance_of(alloc, &ODD_NAMES)?;
     let pairs = Vec::from_slice(alloc, &[Pair { first: 3, then: 0 }])?;
@@ -380,6 +386,7 @@ fn pairs_are_not_written(rt: HostRuntime) -> Result<(), Fail> {
     }
     let inst = inst.with_pairs(pairs);
     let text = write_instance(alloc, &inst)?;
-    assert_eq!(rt; text.as_slice(), ODD_NAMES.text.as_bytes());
+    let wanted = format!(in alloc; "{}before,日本 🎬,\"INT. HOUSE, DAY\"\n", ODD_NAMES.text)?;
+    assert_eq!(rt; text.as_slice(), wanted.as_bytes());
     Ok(())
 }

@@ -10,8 +10,7 @@ use Rattle.strip_text.specs.Checks.{check, checks_of_one, first_fault}
 use Rattle.strip_text.proofs.Making.{fails, makes-behind, passes}
 use Rattle.strip_text.proofs.Passed.{held}
 use Rattle.strip_model.specs.Data.{SceneData}
-use Rattle.strip_instance.specs.declared.fault.InstanceFault.{InstanceFault}
-use Rattle.strip_instance.specs.declared.fault.InstanceFault.TheVariants.{TooManyScenes, Width, NotUtf8, BadName, DuplicateScene, BadDays}
+use Rattle.strip_instance.specs.Fault.{FaultData, TooManyScenes, Width, NotUtf8, BadName, DuplicateScene, BadDays}
 use Rattle.strip_instance.specs.Checks.{Checks}
 use Rattle.strip_instance.specs.Field.{is_scene_name}
 use Rattle.strip_instance.specs.Faults.{contains, mark_checks, scene_checks}
@@ -53,7 +52,7 @@ module _ (header row : Row) (number : ℕ) (scenes : List SceneData) (known : Bo
   wide_later = check (length row == length header) (Width number) ∷ text_later
 
   -- the fault of what follows
-  behind : (fault : InstanceFault) → Tells fault later → Tells fault (scene_checks header earlier number row)
+  behind : (fault : FaultData) → Tells fault later → Tells fault (scene_checks header earlier number row)
   behind fault tells =
       makes-behind (nat_lt (length earlier) 200) TooManyScenes wide_later fault few_before
       (makes-behind (length row == length header) (Width number) text_later fault (eq-eqb (length row) (length header) wide)
@@ -69,7 +68,7 @@ module _ (header row : Row) (number : ℕ) (scenes : List SceneData) (known : Bo
       behind (BadDays number) (inr (passes own (DuplicateScene number) (check dated (BadDays number) ∷ mark_checks number row) (Some (BadDays number)) (sym own-is ∙ ap not new)
       (fails dated (BadDays number) (mark_checks number row) none)))
 
-  pub marks-fault : (fault : InstanceFault) → known ≡ false → dated ≡ true → Tells fault (mark_checks number row) → Tells fault (scene_checks header earlier number row)
+  pub marks-fault : (fault : FaultData) → known ≡ false → dated ≡ true → Tells fault (mark_checks number row) → Tells fault (scene_checks header earlier number row)
   marks-fault fault new some tells =
       behind fault (makes-behind own (DuplicateScene number) (check dated (BadDays number) ∷ mark_checks number row) fault (sym own-is ∙ ap not new)
       (makes-behind dated (BadDays number) (mark_checks number row) fault some tells))

@@ -1,12 +1,15 @@
 -- The rows of scenes, row by row.
-use Rattle.std.proofs.Common.{◌≡◌, ◌<◌, ◌+◌, ℕ, Bool, true, false, not, cond, List, [], ◌∷◌, ◌++◌, length, get_or, take, refl, ap, ◌∙◌, arith, ltb}
+use Rattle.std.proofs.Common.{◌≡◌, ◌<◌, ◌+◌, ℕ, Bool, true, false, not, cond, List, [], ◌∷◌, ◌++◌, length, get_or, map, take, drop, refl, ap, ◌∙◌, arith, ltb, suc}
+use Rattle.std.specs.List.{position_or_len}
 use Rattle.std.proofs.lemmas.Bool.Decides.{nat_tests}
-use Rattle.std.proofs.lemmas.List.{take_more, append-nil}
+use Rattle.std.proofs.lemmas.List.{take_more, append-nil, map-append}
 use Rattle.std.proofs.lemmas.List.Elements.{filter-append}
 use Rattle.strip_text.specs.Checks.{first_fault}
 use Rattle.strip_text.specs.Rows.{Row, is_empty_row}
-use Rattle.strip_instance.specs.Parts.{row_of}
+use Rattle.strip_model.specs.Data.{SceneData}
+use Rattle.strip_instance.specs.Parts.{befores_part, is_before_row, row_of, scenes_part}
 use Rattle.strip_instance.specs.Faults.{scene_rows, scene_checks, body_checks}
+use Rattle.strip_instance.specs.Text.{scene_of}
 
 -- one row more, which is passed over or a scene's
 one_row : (row : Row) (passed : Bool) → is_empty_row row ≡ passed → scene_rows (row ∷ []) ≡ cond passed [] (row ∷ [])
@@ -44,3 +47,29 @@ some_scene scenes some = grind (arith, nat_tests)
 
 pub no_scene : (scenes : ℕ) → scenes ≡ 0 → ltb 0 scenes ≡ false
 no_scene scenes none = rw none refl
+
+-- the scenes that rows say
+abbrev pub scenes_of : List Row → List SceneData
+scenes_of rows = map scene_of (scene_rows rows)
+
+-- the scenes of one row more
+pub scenes_of-push : (rows : List Row) (row : Row) → scenes_of (rows ++ row ∷ []) ≡ scenes_of rows ++ scenes_of (row ∷ [])
+scenes_of-push rows row = ap (map scene_of) (filter-append (λ r. not (is_empty_row r)) rows (row ∷ [])) ∙ map-append scene_of (scene_rows rows) (scene_rows (row ∷ []))
+
+-- a row of a scene is the first of those of the scenes, which end before one of the others
+pub scenes_part-next : (row : Row) (rows : List Row) → is_before_row row ≡ false → scenes_part (row ∷ rows) ≡ row ∷ scenes_part rows
+scenes_part-next row rows other =
+    ap (λ (b : Bool). take (cond (not b) (1 + position_or_len is_before_row rows) 0) (row ∷ rows)) other
+    ∙ ap (λ n. take n (row ∷ rows)) one
+  where
+    one : 1 + position_or_len is_before_row rows ≡ suc (position_or_len is_before_row rows)
+    one = omega arith
+
+pub scenes_part-end : (row : Row) (rows : List Row) → is_before_row row ≡ true → scenes_part (row ∷ rows) ≡ []
+scenes_part-end row rows is = ap (λ (b : Bool). take (cond (not b) (1 + position_or_len is_before_row rows) 0) (row ∷ rows)) is
+
+pub befores_part-next : (row : Row) (rows : List Row) → is_before_row row ≡ false → befores_part (row ∷ rows) ≡ befores_part rows
+befores_part-next row rows other = ap (λ (part : List Row). drop (length part) (row ∷ rows)) (scenes_part-next row rows other)
+
+pub befores_part-end : (row : Row) (rows : List Row) → is_before_row row ≡ true → befores_part (row ∷ rows) ≡ row ∷ rows
+befores_part-end row rows is = ap (λ (part : List Row). drop (length part) (row ∷ rows)) (scenes_part-end row rows is)

@@ -1,7 +1,8 @@
 -- The checks of a text from those of its parts.
-use Rattle.std.proofs.Common.{◌≡◌, ◌⊎◌, ℕ, Bool, true, false, List, [], ◌∷◌, ◌++◌, length, drop, Option, Some, None, map, refl, ap, sym, ◌∙◌, inl, inr, arith}
+use Rattle.std.proofs.Common.{◌≡◌, ◌⊎◌, ℕ, Bool, true, false, List, ◌∷◌, ◌++◌, length, drop, Option, Some, None, map, refl, ap, sym, ◌∙◌, inl, inr, arith}
 use Rattle.std.proofs.lemmas.Bool.{eqb-true}
 use Rattle.std.proofs.lemmas.List.{length-drop, length-map}
+use Rattle.strip_pay.specs.declared.pair.Pair.{Pair}
 use Rattle.strip_text.specs.Field.{Field}
 use Rattle.strip_text.specs.Number.{number_of}
 use Rattle.strip_text.specs.Rows.{Row}
@@ -10,20 +11,20 @@ use Rattle.strip_text.proofs.Held.{Hold}
 use Rattle.strip_text.proofs.Passed.{held as its_check, others}
 use Rattle.strip_text.proofs.Making.{makes-front, makes-past, first_fault-append}
 use Rattle.strip_model.specs.Data.{SceneData, ActorData}
-use Rattle.strip_instance.specs.declared.fault.InstanceFault.{InstanceFault}
-use Rattle.strip_instance.specs.declared.fault.InstanceFault.TheVariants.{Memory, BadRate, BadHold}
+use Rattle.strip_instance.specs.Fault.{FaultData, Memory, BadRate, BadHold}
+use Rattle.strip_instance.specs.Befores.{pairs_of}
 use Rattle.strip_instance.specs.Checks.{Checks}
-use Rattle.strip_instance.specs.Parts.{parts_of, row_of, hold_of, body_of, first_of, actor_fields}
-use Rattle.strip_instance.specs.Faults.{header_checks, pay_row_checks, rate_row_checks, hold_row_checks, scene_rows, scenes_checks, all_checks}
+use Rattle.strip_instance.specs.Parts.{parts_of, row_of, hold_of, body_of, first_of, scenes_part, befores_part, actor_fields}
+use Rattle.strip_instance.specs.Faults.{header_checks, pay_row_checks, rate_row_checks, hold_row_checks, scene_names, scene_rows, body_parts_checks, all_checks}
 use Rattle.strip_instance.specs.Shown.{rows_from}
 use Rattle.strip_instance.specs.Text.{actors_of, holds_of, instance_of, rates_of, scene_of}
 
 -- the fault that some checks give, or want of memory
-abbrev pub Tells : InstanceFault → Checks → Type 0
+abbrev pub Tells : FaultData → Checks → Type 0
 Tells fault checks = (fault ≡ Memory) ⊎ (first_fault checks ≡ Some fault)
 
 -- checks that are the same tell the same
-pub tells-same : (fault : InstanceFault) (these those : Checks) → these ≡ those → Tells fault those → Tells fault these
+pub tells-same : (fault : FaultData) (these those : Checks) → these ≡ those → Tells fault those → Tells fault these
 tells-same fault these those same (inl memory) = inl memory
 tells-same fault these those same (inr found) = inr (ap first_fault same ∙ found)
 
@@ -35,15 +36,22 @@ module _ (rows rest behind : List Row) (header : Row) (some : rows ≡ header �
   abbrev held : Checks
   held = hold_row_checks header (hold_of behind)
 
+  abbrev scenes : List Row
+  scenes = scenes_part (body_of behind)
+
+  abbrev befores : List Row
+  befores = befores_part (body_of behind)
+
   abbrev filmed : Checks
-  filmed = scenes_checks header (first_of behind) (body_of behind)
+  filmed = body_parts_checks header (first_of behind) scenes befores
 
   all-same : all_checks rows ≡ header_checks header ++ (rated ++ held) ++ filmed
   all-same =
       ap all_checks some
-      ∙ ap (λ (list : List Row). header_checks header ++ (rated ++ hold_row_checks header (hold_of list)) ++ scenes_checks header (first_of list) (body_of list)) (sym next)
+      ∙ ap (λ (list : List Row). header_checks header ++ (rated ++ hold_row_checks header (hold_of list))
+      ++ body_parts_checks header (first_of list) (scenes_part (body_of list)) (befores_part (body_of list))) (sym next)
 
-  tells-all : (fault : InstanceFault) → Tells fault (header_checks header ++ (rated ++ held) ++ filmed) → Tells fault (all_checks rows)
+  tells-all : (fault : FaultData) → Tells fault (header_checks header ++ (rated ++ held) ++ filmed) → Tells fault (all_checks rows)
   tells-all fault tells = tells-same fault _ _ all-same tells
 
   heads-hold : first_fault (header_checks header) ≡ None → first_fault rated ≡ None → first_fault held ≡ None
@@ -52,26 +60,26 @@ module _ (rows rest behind : List Row) (header : Row) (some : rows ≡ header �
       first_fault-append (header_checks header) (rated ++ held) named ∙ first_fault-append rated held rates ∙ holds
 
   -- a fault of the header
-  pub header-fault : (fault : InstanceFault) → Tells fault (header_checks header) → Tells fault (all_checks rows)
+  pub header-fault : (fault : FaultData) → Tells fault (header_checks header) → Tells fault (all_checks rows)
   header-fault fault tells =
       tells-all fault (makes-front (header_checks header ++ (rated ++ held)) filmed fault (makes-front (header_checks header) (rated ++ held) fault tells))
 
   -- a fault of the rates
-  pub rates-fault : (fault : InstanceFault) → first_fault (header_checks header) ≡ None → Tells fault rated → Tells fault (all_checks rows)
+  pub rates-fault : (fault : FaultData) → first_fault (header_checks header) ≡ None → Tells fault rated → Tells fault (all_checks rows)
   rates-fault fault named tells =
       tells-all fault (makes-front (header_checks header ++ (rated ++ held)) filmed fault
       (makes-past (header_checks header) (rated ++ held) fault named (makes-front rated held fault tells)))
 
   -- a fault of the hold rates
-  pub holds-fault : (fault : InstanceFault) → first_fault (header_checks header) ≡ None → first_fault rated ≡ None → Tells fault held → Tells fault (all_checks rows)
+  pub holds-fault : (fault : FaultData) → first_fault (header_checks header) ≡ None → first_fault rated ≡ None → Tells fault held → Tells fault (all_checks rows)
   holds-fault fault named rates tells =
       tells-all fault (makes-front (header_checks header ++ (rated ++ held)) filmed fault
       (makes-past (header_checks header) (rated ++ held) fault named (makes-past rated held fault rates tells)))
 
-  -- a fault of the scenes
-  pub scenes-fault : (fault : InstanceFault) → first_fault (header_checks header) ≡ None → first_fault rated ≡ None → first_fault held ≡ None
+  -- a fault of the scenes or of the rows behind them
+  pub filmed-fault : (fault : FaultData) → first_fault (header_checks header) ≡ None → first_fault rated ≡ None → first_fault held ≡ None
       → Tells fault filmed → Tells fault (all_checks rows)
-  scenes-fault fault named rates holds tells =
+  filmed-fault fault named rates holds tells =
       tells-all fault (makes-past (header_checks header ++ (rated ++ held)) filmed fault (heads-hold named rates holds) tells)
 
   -- no fault
@@ -82,25 +90,25 @@ module _ (rows rest behind : List Row) (header : Row) (some : rows ≡ header �
       ∙ first_fault-append (header_checks header ++ (rated ++ held)) filmed (heads-hold named rates holds) ∙ films
 
   -- the instance of the rows
-  pub instance-is : (names : List Field) (rates holds : List ℕ) (scenes : List SceneData) (actors : List ActorData)
+  pub instance-is : (names : List Field) (rates holds : List ℕ) (made : List SceneData) (actors : List ActorData) (pairs : List Pair)
       → names ≡ actor_fields header → rates ≡ rates_of (row_of rest 0) → holds ≡ holds_of rates (hold_of behind)
-      → scenes ≡ map scene_of (scene_rows (body_of behind)) → actors ≡ actors_of names rates holds
-      → record { scenes = scenes; actors = actors; pairs = [] } ≡ instance_of (parts_of rows)
-  instance-is names rates holds scenes actors named rated_so held_so filmed_so made =
+      → made ≡ map scene_of (scene_rows scenes) → actors ≡ actors_of names rates holds → pairs ≡ pairs_of (scene_names scenes) befores
+      → record { scenes = made; actors = actors; pairs = pairs } ≡ instance_of (parts_of rows)
+  instance-is names rates holds made actors pairs named rated_so held_so filmed_so acted paired_so =
       let hold = hold_of behind in
       let its : actors ≡ actors_of (actor_fields header) (rates_of (row_of rest 0)) (holds_of (rates_of (row_of rest 0)) hold)
-      = made ∙ ap (λ (ns : List Field). actors_of ns rates holds) named ∙ ap (actors_of (actor_fields header) rates) held_so
+      = acted ∙ ap (λ (ns : List Field). actors_of ns rates holds) named ∙ ap (actors_of (actor_fields header) rates) held_so
       ∙ ap (λ (list : List ℕ). actors_of (actor_fields header) list (holds_of list hold)) rated_so in
-      (λ i. record { scenes = filmed_so i; actors = its i; pairs = [] })
+      (λ i. record { scenes = filmed_so i; actors = its i; pairs = paired_so i })
       ∙ ap (λ (list : List Row). record {
-        scenes = map scene_of (scene_rows (body_of list));
+        scenes = map scene_of (scene_rows (scenes_part (body_of list)));
         actors = actors_of (actor_fields header) (rates_of (row_of rest 0)) (holds_of (rates_of (row_of rest 0)) (hold_of list));
-        pairs = [];
+        pairs = pairs_of (scene_names (scenes_part (body_of list))) (befores_part (body_of list));
       }) next
       ∙ ap (λ (all : List Row). instance_of (parts_of all)) (sym some)
 
 -- a row of rates without a fault has as many rates as there are actors
-pay-width : (fault : ℕ → InstanceFault) (header : Row) (number : ℕ) (row : Row) → Hold (pay_row_checks fault header number row)
+pay-width : (fault : ℕ → FaultData) (header : Row) (number : ℕ) (row : Row) → Hold (pay_row_checks fault header number row)
     → length (rates_of row) ≡ length (actor_fields header)
 pay-width fault header number row hold =
     omega (arith, length-map (drop 2 row) number_of, length-drop 2 row, length-drop 2 header, eqb-true (length row) (length header) (its_check _ _ _ hold))
@@ -117,7 +125,11 @@ holds-width header rates (Some row) wide none = pay-width BadHold header 3 row (
 
 -- the checks of a body are those of the rows from its first one on, which has its number where it is there
 pub body-same : (there : Bool) (header row : Row) (number first : ℕ) (left body : List Row) → rows_from there row left ≡ body
-    → ((there ≡ true) → number ≡ first) → scenes_checks header number (rows_from there row left) ≡ scenes_checks header first body
+    → ((there ≡ true) → number ≡ first)
+    → body_parts_checks header number (scenes_part (rows_from there row left)) (befores_part (rows_from there row left))
+    ≡ body_parts_checks header first (scenes_part body) (befores_part body)
 body-same true header row number first left body same counted =
-    ap (λ n. scenes_checks header n (row ∷ left)) (counted refl) ∙ ap (scenes_checks header first) same
-body-same false header row number first left body same counted = ap (scenes_checks header first) same
+    ap (λ n. body_parts_checks header n (scenes_part (row ∷ left)) (befores_part (row ∷ left))) (counted refl)
+    ∙ ap (λ (rows : List Row). body_parts_checks header first (scenes_part rows) (befores_part rows)) same
+body-same false header row number first left body same counted =
+    ap (λ (rows : List Row). body_parts_checks header first (scenes_part rows) (befores_part rows)) same

@@ -6,10 +6,9 @@ use Rattle.std.proofs.lemmas.List.{length-drop, length-map, length_push, get_or-
 use Rattle.std.proofs.lemmas.List.FromFn.{get_or-map-range_with_len, length-map-range_with_len}
 use Rattle.std.proofs.lemmas.List.Elements.{All-push}
 use Rattle.std.proofs.lemmas.List.Quantifiers.{all_pairs_push}
-use Rattle.strip_pay.specs.Pairs.{FitPairs, IsChain, Precedes}
+use Rattle.strip_pay.specs.Pairs.{FitPairs}
 use Rattle.strip_model.specs.Data.{ActorData, SceneData, IsActor, IsScene, IsInstance}
-use Rattle.strip_instance.specs.declared.fault.InstanceFault.{InstanceFault}
-use Rattle.strip_instance.specs.declared.fault.InstanceFault.TheVariants.{BadRate, BadHold}
+use Rattle.strip_instance.specs.Fault.{FaultData, BadRate, BadHold}
 use Rattle.strip_text.specs.Field.{Field}
 use Rattle.strip_text.specs.Number.{number_of}
 use Rattle.strip_text.specs.Checks.{below}
@@ -17,8 +16,10 @@ use Rattle.strip_text.specs.Rows.{Row, field_of, is_empty_row}
 use Rattle.strip_text.proofs.Held.{Hold}
 use Rattle.strip_text.proofs.Passed.{held, others, front, back, held-below, held-fewer}
 use Rattle.strip_instance.specs.Parts.{Parts, parts_of, row_of, actor_fields}
-use Rattle.strip_instance.specs.Faults.{actor_name_checks, header_checks, rate_check, pay_row_checks, rate_row_checks, hold_row_checks, pay_checks, scene_rows, scene_checks, body_checks, scenes_checks, all_checks}
+use Rattle.strip_instance.specs.Faults.{actor_name_checks, header_checks, rate_check, pay_row_checks, rate_row_checks, hold_row_checks, pay_checks, scene_rows, scene_checks, body_checks, scenes_checks, scene_names, befores_checks, some_scene_checks, body_parts_checks, all_checks}
+use Rattle.strip_instance.specs.Befores.{pairs_of}
 use Rattle.strip_instance.specs.Text.{actor_of, actors_of, holds_of, rates_of, scene_of, instance_of}
+use Rattle.strip_instance.proofs.pairs.Fit.{fit_taken}
 use Rattle.strip_instance.proofs.said.Limits.{name-limits, scene_name-limits, number-limits, cast-limits, not_found}
 use Rattle.strip_instance.proofs.read.SceneRows.{scene_rows-passed, scene_rows-more, body_checks-scene}
 
@@ -30,7 +31,7 @@ actors-few names hold = elim (cases_lt 64 (length names)) [
 ]
 
 -- a row of rates keeps the limits
-pay-limits : (fault : ℕ → InstanceFault) (header : Row) (number : ℕ) (row : Row) → Hold (pay_row_checks fault header number row)
+pay-limits : (fault : ℕ → FaultData) (header : Row) (number : ℕ) (row : Row) → Hold (pay_row_checks fault header number row)
     → (k : ℕ) → k < length (actor_fields header) → slice_index (rates_of row) k ≤ 1_000_000_000
 pay-limits fault header number row hold k within =
     let wide : length row ≡ length header = eqb-true (length row) (length header) (held _ _ _ hold) in
@@ -77,22 +78,6 @@ actors-differ names rates holds hold i j d before within =
     ∙ sym (ap (λ (actor : ActorData). actor.name) (actors-at names rates holds i d first)) ∙ equal
     ∙ ap (λ (actor : ActorData). actor.name) (actors-at names rates holds j d second))
 
--- without pairs no scene comes before another
-none_before : (first second : ℕ) → Precedes [] first second → ⊥
-none_before first second contained = omega (arith, contained.1)
-
-no_chain : (scene last : ℕ) (between : List ℕ) → IsChain [] (scene ∷ between ++ last ∷ []) → ⊥
-no_chain scene last [] chain = none_before scene last chain.0
-no_chain scene last (next ∷ later) chain = none_before scene next chain.0
-
--- so no pairs can be kept together
-no_pairs : (n : ℕ) → FitPairs n []
-no_pairs n = record {
-  known = λ k d within. absurd (omega arith);
-  once = λ i j d before within. absurd (omega arith);
-  no_cycle = λ cycle. no_chain cycle.scene cycle.scene cycle.between cycle.returns;
-}
-
 -- the scenes so far keep the limits
 pub record SceneLimits (actors : ℕ) (scenes : List SceneData) : Type 0 where
   pub each : All (IsScene actors) scenes
@@ -135,23 +120,31 @@ one_more header earlier number row hold limits =
     })
 
 -- all do
-scenes-limits : (parts : Parts) (k : ℕ) → k ≤ length parts.body → Hold (below k (body_checks parts.header parts.first parts.body))
-    → SceneLimits (length (actor_fields parts.header)) (map scene_of (scene_rows (take k parts.body)))
+scenes-limits : (parts : Parts) (k : ℕ) → k ≤ length parts.scenes → Hold (below k (body_checks parts.header parts.first parts.scenes))
+    → SceneLimits (length (actor_fields parts.header)) (map scene_of (scene_rows (take k parts.scenes)))
 scenes-limits parts zero within hold = no_scenes (length (actor_fields parts.header))
 scenes-limits parts (suc k) within hold =
-    let before = scenes-limits parts k (omega arith) (held-fewer k (body_checks parts.header parts.first parts.body) hold) in
-    let here = held-below (suc k) (body_checks parts.header parts.first parts.body) k (omega arith) hold in
-    let row = row_of parts.body k in
-    let short : k < length parts.body = omega arith in
+    let before = scenes-limits parts k (omega arith) (held-fewer k (body_checks parts.header parts.first parts.scenes) hold) in
+    let here = held-below (suc k) (body_checks parts.header parts.first parts.scenes) k (omega arith) hold in
+    let row = row_of parts.scenes k in
+    let short : k < length parts.scenes = omega arith in
     let Keeps : List Row → Type 0 = λ rows. SceneLimits (length (actor_fields parts.header)) (map scene_of rows) in
     elim (cases_Bool (is_empty_row row)) [
-      | inl passed ↦ subst Keeps (sym (ap (λ n. scene_rows (take n parts.body)) (sym (add-one k)) ∙ scene_rows-passed parts.body k row short refl passed)) before
-      | inr kept ↦ subst Keeps (sym (ap (λ n. scene_rows (take n parts.body)) (sym (add-one k)) ∙ scene_rows-more parts.body k row short refl kept))
-          (one_more parts.header (scene_rows (take k parts.body)) (parts.first + k) row (record { none = sym (body_checks-scene parts.header parts.first parts.body k row refl kept) ∙ here.none }) before)
+      | inl passed ↦ subst Keeps (sym (ap (λ n. scene_rows (take n parts.scenes)) (sym (add-one k)) ∙ scene_rows-passed parts.scenes k row short refl passed)) before
+      | inr kept ↦ subst Keeps (sym (ap (λ n. scene_rows (take n parts.scenes)) (sym (add-one k)) ∙ scene_rows-more parts.scenes k row short refl kept))
+          (one_more parts.header (scene_rows (take k parts.scenes)) (parts.first + k) row (record { none = sym (body_checks-scene parts.header parts.first parts.scenes k row refl kept) ∙ here.none }) before)
     ]
 
+-- so there are no more scenes than may be
+pub scenes_few : (header : Row) (first : ℕ) (scenes : List Row) → Hold (scenes_checks header first scenes) → length (scene_rows scenes) ≤ 200
+scenes_few header first scenes hold =
+    let parts : Parts = record { header = header; rates = []; hold = None; scenes = scenes; befores = []; first = first } in
+    let limits = scenes-limits parts (length scenes) (omega arith) hold in
+    let all : take (length scenes) scenes ≡ scenes = take_all (length scenes) scenes (omega arith) in
+    omega (arith, limits.few, length-map (scene_rows (take (length scenes) scenes)) scene_of, ap (λ (rows : List Row). length (scene_rows rows)) all)
+
 -- what parts without a fault say is an instance
-parts-limits : (parts : Parts) → Hold (header_checks parts.header ++ pay_checks parts ++ scenes_checks parts.header parts.first parts.body) → IsInstance (instance_of parts)
+parts-limits : (parts : Parts) → Hold (header_checks parts.header ++ pay_checks parts ++ body_parts_checks parts.header parts.first parts.scenes parts.befores) → IsInstance (instance_of parts)
 parts-limits parts hold =
     let names = actor_fields parts.header in
     let rates = rates_of parts.rates in
@@ -163,11 +156,14 @@ parts-limits parts hold =
     let held_rates = back (rate_row_checks parts.header parts.rates) _ paid in
     let count : length (actors_of names rates holds) ≡ length names = length-map-range_with_len (actor_of names rates holds) 0 (length names) in
     let bodies = back (header_checks parts.header ++ pay_checks parts) _ hold in
-    let scenes = scene_rows parts.body in
+    let filmed = scenes_checks parts.header parts.first parts.scenes in
+    let paired = befores_checks (scene_names parts.scenes) (parts.first + length parts.scenes) parts.befores in
+    let all = front (filmed ++ paired) (some_scene_checks parts.scenes) bodies in
+    let scenes = scene_rows parts.scenes in
     let limits : SceneLimits (length names) (map scene_of scenes)
-    = subst (λ (rows : List Row). SceneLimits (length names) (map scene_of (scene_rows rows))) (take_all (length parts.body) parts.body (omega arith))
-    (scenes-limits parts (length parts.body) (omega arith) (front (below (length parts.body) (body_checks parts.header parts.first parts.body)) _ bodies)) in
-    let some : 0 < length scenes = ltb-true 0 (length scenes) (held _ _ _ (back (below (length parts.body) (body_checks parts.header parts.first parts.body)) _ bodies)) in
+    = subst (λ (rows : List Row). SceneLimits (length names) (map scene_of (scene_rows rows))) (take_all (length parts.scenes) parts.scenes (omega arith))
+    (scenes-limits parts (length parts.scenes) (omega arith) (front filmed paired all)) in
+    let some : 0 < length scenes = ltb-true 0 (length scenes) (held _ _ _ (back (filmed ++ paired) (some_scene_checks parts.scenes) bodies)) in
     record {
       scene_count = (omega (arith, length-map scenes scene_of), limits.few);
       actor_count = omega (arith, count, actors-few names named);
@@ -176,7 +172,11 @@ parts-limits parts hold =
           (holds-limits parts.header parts.rates parts.hold rated held_rates);
       scene_names = limits.differ;
       actor_names = actors-differ names rates holds named;
-      pairs = no_pairs (length (map scene_of scenes));
+      pairs = subst (λ n. FitPairs n (pairs_of (scene_names parts.scenes) parts.befores))
+          (length-map scenes (λ (row : Row). field_of row 0) ∙ sym (length-map scenes scene_of))
+          (subst (λ (rows : List Row). FitPairs (length (scene_names parts.scenes)) (pairs_of (scene_names parts.scenes) rows))
+          (take_all (length parts.befores) parts.befores (omega arith))
+          (fit_taken (scene_names parts.scenes) (parts.first + length parts.scenes) parts.befores (length parts.befores) (omega arith) (back filmed paired all)));
     }
 
 -- what rows without a fault say is one

@@ -6,7 +6,7 @@ use Rattle.std.proofs.Math.Seq.{drop-cons}
 use Rattle.std.proofs.lemmas.Bool.{and_from, le-leb, lt-ltb}
 use Rattle.std.proofs.lemmas.List.{get_or-map, length-map}
 use Rattle.strip_film.specs.declared.shared.Line.{Line}
-use Rattle.strip_model.specs.Data.{InstanceData}
+use Rattle.strip_model.specs.Data.{InstanceData, scene_name}
 use Rattle.strip_text.specs.Number.{number_of}
 use Rattle.strip_text.specs.Rows.{Row}
 use Rattle.strip_text.specs.Checks.{below, check, checks_of_one}
@@ -17,7 +17,7 @@ use Rattle.strip_proof.specs.declared.fault.PlanFault.TheVariants.{BadRow, Missi
 use Rattle.strip_proof.specs.Plan.{PlanData}
 use Rattle.strip_proof.specs.Field.{is_scene}
 use Rattle.strip_proof.specs.Faults.{Checks, due, line_checks, line_due, lines_checks, plan_row_checks}
-use Rattle.strip_proof.specs.Rows.{head_rows, line_row, scene_name, status_word}
+use Rattle.strip_proof.specs.Rows.{head_rows, line_row, status_word}
 use Rattle.strip_proof.specs.Format.{plan_checks}
 use Rattle.strip_proof.specs.Text.{HasReadableScenes, IsReadableLine, IsReadablePlan}
 use Rattle.strip_proof.proofs.back.Fields.{is_amount-decimal, is_kind-word, is_set-field, is_status-word}

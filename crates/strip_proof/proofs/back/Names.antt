@@ -8,11 +8,10 @@ use Rattle.std.proofs.lemmas.List.Elements.{All-map, All-weaker}
 use Rattle.std.proofs.lemmas.List.Sums.{list_all-from_AllPass}
 use Rattle.std.proofs.lemmas.Simd.{map-map}
 use Rattle.std.proofs.lemmas.Slice.Eq.{bytes_eq-Decides}
-use Rattle.strip_model.specs.Data.{InstanceData, SceneData}
+use Rattle.strip_model.specs.Data.{InstanceData, SceneData, scene_name}
 use Rattle.strip_text.specs.Field.{Field, trimmed}
 use Rattle.strip_text.proofs.Blanks.{map-same}
 use Rattle.strip_proof.specs.Field.{is_scene, scene_of}
-use Rattle.strip_proof.specs.Rows.{scene_name}
 use Rattle.strip_proof.specs.Text.{HasReadableScenes}
 use Rattle.strip_proof.proofs.read.Scenes.{AreOthers, first_scene, there_is}
 

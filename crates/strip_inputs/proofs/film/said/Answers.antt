@@ -6,4 +6,3 @@ returns-in-Ok c =
     film_given c.args.text.now c.in-Ok.inst c.requires c.in-Ok.ensures.read
     (c.what_is_said_keeps_the_limits.ensures c.args.text.now c.in-Ok.inst c.in-Ok.ensures.read)
     (c.what_is_said_has_readable_names.ensures c.args.text.now c.in-Ok.inst c.in-Ok.ensures.read)
-    (c.what_is_said_has_no_pairs.ensures c.args.text.now c.in-Ok.inst c.in-Ok.ensures.read)

@@ -1,9 +1,10 @@
 use Rattle.std.proofs.Common.{length, arith, sym, ◌∙◌}
 use Rattle.strip_text.specs.Checks.{below}
-use Rattle.strip_text.proofs.Making.{makes-at, makes-behind, makes-handed_on, below-more}
+use Rattle.strip_text.proofs.Making.{makes-at, makes-behind, below-more}
 use Rattle.strip_instance.specs.Parts.{actor_fields}
 use Rattle.strip_instance.specs.Faults.{actor_name_checks, header_checks, is_header}
-use Rattle.strip_instance.specs.declared.fault.InstanceFault.TheVariants.{BadHeader}
+use Rattle.strip_instance.specs.Fault.{BadHeader, fault_data}
+use Rattle.strip_instance.proofs.read.HandedOn.{handed_on}
 use Rattle.strip_instance.proofs.read.EarlierNames.{names-pushed}
 use Rattle.strip_instance.proofs.header.read_names.Goals as goal
 
@@ -11,8 +12,9 @@ pub returns-in_err-read_name-clause-makes : goal.returns-in_err-read_name-clause
 returns-in_err-read_name-clause-makes c =
     let header = c.args.header.now in
     let names = actor_fields header in
-    let fault = c.in_err-read_name.field-0.0 in
-    makes-handed_on (header_checks header) _ fault c.from_residual.ensures.1
+    let found = c.in_err-read_name.field-0.0 in
+    let fault = fault_data found in
+    handed_on (header_checks header) _ found c.from_residual.ensures.1
     (makes-behind (is_header header) BadHeader (below (length names) (actor_name_checks names)) fault (sym c.is_header.ensures ∙ c.if-not-is_header.false)
     (makes-at c.loop-actor.actor (length names) (actor_name_checks names) fault (omega (arith, c.actor_count-actor-end.ensures, c.loop-actor-test.true)) c.loop-actor.invariant.pass c.in_err-read_name.ensures.makes))
 

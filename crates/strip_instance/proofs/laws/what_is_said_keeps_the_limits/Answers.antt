@@ -2,7 +2,7 @@ use Rattle.std.proofs.Common.{◌≡◌, List, Option, None, Some, Ok, refl, sub
 use Rattle.strip_text.specs.Rows.{Row, rows_of}
 use Rattle.strip_text.specs.Checks.{first_fault}
 use Rattle.strip_model.specs.Data.{InstanceData, IsInstance}
-use Rattle.strip_instance.specs.declared.fault.InstanceFault.{InstanceFault}
+use Rattle.strip_instance.specs.Fault.{FaultData}
 use Rattle.strip_instance.specs.Parts.{parts_of}
 use Rattle.strip_instance.specs.Faults.{all_checks}
 use Rattle.strip_instance.specs.Text.{instance_of, reading_of}
@@ -10,7 +10,7 @@ use Rattle.strip_instance.proofs.said.Within.{instance-limits}
 use Rattle.strip_instance.proofs.laws.what_is_said_keeps_the_limits.Goals as goal
 
 -- what is read as an instance is the rows' one, and these have no fault
-keeps_limits : (rows : List Row) (inst : InstanceData) (found : Option InstanceFault) → first_fault (all_checks rows) ≡ found
+keeps_limits : (rows : List Row) (inst : InstanceData) (found : Option FaultData) → first_fault (all_checks rows) ≡ found
     → reading_of rows found ≡ Ok inst → IsInstance inst
 keeps_limits rows inst None none same =
     let its : instance_of (parts_of rows) ≡ inst = cc in

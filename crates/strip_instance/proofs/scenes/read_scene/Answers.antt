@@ -2,11 +2,12 @@ use Rattle.std.proofs.Common.{◌≡◌, ◌<◌, ◌∙◌, true, length, map, 
 use Rattle.std.proofs.lemmas.List.{length-map}
 use Rattle.strip_text.specs.Number.{is_number}
 use Rattle.strip_text.specs.Rows.{field_of}
-use Rattle.strip_text.proofs.Making.{makes-handed_on}
 use Rattle.strip_model.specs.Data.{SceneData}
 use Rattle.strip_model.specs.Instance.{scene_data}
 use Rattle.strip_instance.specs.Field.{is_scene_name}
 use Rattle.strip_instance.specs.Faults.{contains, scene_checks}
+use Rattle.strip_instance.specs.Fault.{fault_data}
+use Rattle.strip_instance.proofs.read.HandedOn.{handed_on}
 use Rattle.strip_instance.proofs.read.SceneChecks.{is_text, name-fault, days-fault, marks-fault, no-fault}
 use Rattle.strip_instance.proofs.scenes.read_scene.Goals as goal
 
@@ -52,8 +53,9 @@ returns-in_err-cast-clause-makes c = λ earlier same.
     let known : c.has_scene.result ≡ contains (map (λ (scene : SceneData). scene.name) scenes) (field_of row 0)
     = c.has_scene.ensures ∙ ap (contains (map (λ (scene : SceneData). scene.name) scenes)) (c.as_bytes-2.ensures.value ∙ name) in
     let dated : is_number 1 99 (field_of row 1) ≡ true = ap (is_number 1 99) (sym c.field-2.ensures) ∙ c.in-Some.ensures.0 in
-    let fault = c.in_err-cast.field-0.0 in
-    makes-handed_on (scene_checks header earlier c.args.number row) _ fault c.from_residual-in_err-cast.ensures.1
+    let found = c.in_err-cast.field-0.0 in
+    let fault = fault_data found in
+    handed_on (scene_checks header earlier c.args.number row) _ found c.from_residual-in_err-cast.ensures.1
     (marks-fault header row c.args.number scenes c.has_scene.result few (sym c.len.ensures ∙ c.if-len.false ∙ c.len-2.ensures) text named known earlier same fault c.if-has_scene.false dated c.in_err-cast.ensures.makes)
 
 pub returns-clause-makes : goal.returns-clause-makes

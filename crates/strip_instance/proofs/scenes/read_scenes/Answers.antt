@@ -1,77 +1,48 @@
-use Rattle.std.proofs.Common.{◌≡◌, ◌<◌, ◌+◌, ℕ, false, length, map, arith, sym, inr, eqb, vec_len, ap, ◌∙◌}
-use Rattle.std.proofs.lemmas.Bool.{eqb-true}
-use Rattle.std.proofs.lemmas.Bool.Decides.{nat_tests}
-use Rattle.std.proofs.lemmas.List.{length-map}
-use Rattle.strip_text.proofs.Making.{makes-handed_on}
+use Rattle.std.proofs.Common.{◌+◌, ◌++◌, true, List, [], ◌∷◌, map, sym, ap, ◌∙◌, subst}
+use Rattle.strip_text.specs.Rows.{Row}
 use Rattle.strip_model.specs.Instance.{scene_data}
-use Rattle.strip_instance.specs.Faults.{scenes_checks}
+use Rattle.strip_instance.specs.Fault.{fault_data}
+use Rattle.strip_instance.specs.Parts.{befores_part, scenes_part}
+use Rattle.strip_instance.specs.Faults.{row_checks, scenes_checks}
 use Rattle.strip_instance.specs.Shown.{rows_from}
-use Rattle.strip_instance.proofs.read.Body.{all_made, at_end, at_hand, none_read, one_more_read, row-fault, with_scenes, without_scene}
+use Rattle.strip_instance.proofs.read.Body.{IsRead, at_hand, one_more_read, row-fault}
+use Rattle.strip_instance.proofs.read.HandedOn.{handed_on}
+use Rattle.strip_instance.proofs.read.SceneRows.{befores_part-next, scenes_of, scenes_of-push, scenes_part-next}
 use Rattle.strip_instance.proofs.scenes.read_scenes.Goals as goal
-
-pub loop-there-init : goal.loop-there-init
-loop-there-init c =
-    let body = rows_from c.args.there c.args.row.now c.args.rows.now.left in
-    none_read c.args.header.now c.args.rows.now.number body c.args.there (ap (map scene_data) c.new-scenes.ensures.items)
-
-pub loop-there-preserved : goal.loop-there-preserved
-loop-there-preserved c =
-    let header = c.args.header.now in
-    let first = c.args.rows.now.number in
-    let body = rows_from c.args.there c.args.row.now c.args.rows.now.left in
-    let l = c.loop-there in
-    let scenes = map scene_data l.scenes.items in
-    let here = at_hand header l.row first l.rows.number c.number.result body l.rows.left l.there scenes c.loop-there-test.true c.number.ensures l.invariant in
-    one_more_read header l.row first c.number.result body l.rows.left scenes c.in_ok-there.there c.next_row.new.row c.next_row.new.rows.number c.next_row.new.rows.left
-    (map scene_data c.take_row.new.scenes.items) here c.in_ok-take_row.ensures.makes c.in_ok-take_row.ensures.taken c.in_ok-there.ensures.found
-    (λ there. c.in_ok-there.ensures.counted there ∙ ap (λ n. n + 1) (sym c.number.ensures))
 
 pub returns-in_err-take_row-clause-makes : goal.returns-in_err-take_row-clause-makes
 returns-in_err-take_row-clause-makes c =
     let header = c.args.header.now in
     let first = c.args.rows.now.number in
-    let body = rows_from c.args.there c.args.row.now c.args.rows.now.left in
+    let part = scenes_part (rows_from c.args.there c.args.row.now c.args.rows.now.left) in
     let l = c.loop-there in
     let scenes = map scene_data l.scenes.items in
-    let fault = c.in_err-take_row.field-0.0 in
-    let here = at_hand header l.row first l.rows.number c.number.result body l.rows.left l.there scenes c.loop-there-test.true c.number.ensures l.invariant in
-    makes-handed_on (scenes_checks header first body) _ fault c.from_residual.ensures.1
-    (row-fault header l.row first c.number.result body l.rows.left scenes fault here c.in_err-take_row.ensures.makes)
+    let found = c.in_err-take_row.field-0.0 in
+    let here = at_hand (row_checks header) scenes_of first part scenes_part l.row l.rows.number c.number.result l.rows.left l.there scenes
+    c.loop-there-test.true c.number.ensures l.invariant.read in
+    let is = subst (λ (left : List Row). IsRead (row_checks header) scenes_of first part true c.number.result left scenes)
+    (scenes_part-next l.row l.rows.left (sym c.is_before_row.ensures ∙ c.if-not-is_before_row.true)) here in
+    handed_on (scenes_checks header first part) _ found c.from_residual.ensures.1
+    (row-fault (row_checks header) scenes_of first part l.row c.number.result (scenes_part l.rows.left) scenes (fault_data found) is c.in_err-take_row.ensures.makes)
 
-pub returns-then-is_empty-clause-makes : goal.returns-then-is_empty-clause-makes
-returns-then-is_empty-clause-makes c =
+pub loop-there-preserved : goal.loop-there-preserved
+loop-there-preserved c =
     let header = c.args.header.now in
     let first = c.args.rows.now.number in
-    let body = rows_from c.args.there c.args.row.now c.args.rows.now.left in
+    let part = scenes_part (rows_from c.args.there c.args.row.now c.args.rows.now.left) in
     let l = c.loop-there in
     let scenes = map scene_data l.scenes.items in
-    let none : length scenes ≡ 0
-    = omega (arith, length-map l.scenes.items scene_data, l.scenes.ok.0, eqb-true (vec_len l.scenes) 0 (sym c.if-is_empty.ensures)) in
-    inr (without_scene header first l.rows.number body scenes
-    (at_end header l.row first l.rows.number body l.rows.left l.there scenes c.loop-there-test.false l.invariant) none)
-
--- a length that is not 0
-some_items : (len n : ℕ) → eqb len 0 ≡ false → n ≡ len → 0 < n
-some_items len n test same = grind (arith, nat_tests)
-
-pub returns-clause-makes : goal.returns-clause-makes
-returns-clause-makes c =
-    let header = c.args.header.now in
-    let first = c.args.rows.now.number in
-    let body = rows_from c.args.there c.args.row.now c.args.rows.now.left in
-    let l = c.loop-there in
-    let scenes = map scene_data l.scenes.items in
-    let some : 0 < length scenes
-    = some_items (vec_len l.scenes) _ (sym c.if-is_empty.ensures) (omega (arith, length-map l.scenes.items scene_data, l.scenes.ok.0)) in
-    with_scenes header first l.rows.number body scenes
-    (at_end header l.row first l.rows.number body l.rows.left l.there scenes c.loop-there-test.false l.invariant) some
-
-pub returns-clause-scenes : goal.returns-clause-scenes
-returns-clause-scenes c =
-    let header = c.args.header.now in
-    let first = c.args.rows.now.number in
-    let body = rows_from c.args.there c.args.row.now c.args.rows.now.left in
-    let l = c.loop-there in
-    let scenes = map scene_data l.scenes.items in
-    all_made header first l.rows.number body scenes
-    (at_end header l.row first l.rows.number body l.rows.left l.there scenes c.loop-there-test.false l.invariant)
+    let other = sym c.is_before_row.ensures ∙ c.if-not-is_before_row.true in
+    let here = at_hand (row_checks header) scenes_of first part scenes_part l.row l.rows.number c.number.result l.rows.left l.there scenes
+    c.loop-there-test.true c.number.ensures l.invariant.read in
+    let is = subst (λ (left : List Row). IsRead (row_checks header) scenes_of first part true c.number.result left scenes) (scenes_part-next l.row l.rows.left other) here in
+    record {
+      read = one_more_read (row_checks header) scenes_of first part l.row c.number.result (scenes_part l.rows.left) scenes c.in_ok-there.there c.next_row.new.rows.number
+          (scenes_part (rows_from c.in_ok-there.there c.next_row.new.row c.next_row.new.rows.left)) (map scene_data c.take_row.new.scenes.items) is
+          c.in_ok-take_row.ensures.makes
+          (λ earlier made. c.in_ok-take_row.ensures.taken ∙ ap (λ list. list ++ scenes_of (l.row ∷ [])) made ∙ sym (scenes_of-push earlier l.row))
+          (ap scenes_part c.in_ok-there.ensures.found)
+          (λ there. c.in_ok-there.ensures.counted there ∙ ap (λ n. n + 1) (sym c.number.ensures));
+      behind = sym (ap befores_part c.in_ok-there.ensures.found) ∙ sym (befores_part-next l.row l.rows.left other)
+          ∙ sym (ap (λ b. befores_part (rows_from b l.row l.rows.left)) c.loop-there-test.true) ∙ l.invariant.behind;
+    }

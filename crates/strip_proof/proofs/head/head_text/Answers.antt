@@ -1,9 +1,10 @@
 use Rattle.std.proofs.Common.{◌≡◌, ◌∙◌, ◌∷◌, ◌++◌, [], ℕ, List, map, codes, ap}
 use Rattle.std.proofs.lemmas.Result.{IfOk-weaker}
+use Rattle.strip_model.specs.Data.{scene_name}
 use Rattle.strip_text.specs.Field.{Field}
 use Rattle.strip_text.specs.Rows.{csv_row, csv_text}
 use Rattle.strip_proof.specs.Plan.{plan_data}
-use Rattle.strip_proof.specs.Rows.{head_rows, scene_name}
+use Rattle.strip_proof.specs.Rows.{head_rows}
 use Rattle.strip_proof.proofs.Regrouped.{eight_rows}
 use Rattle.strip_proof.proofs.head.head_text.Goals as goal
 

@@ -1,5 +1,5 @@
 use Rattle.std.proofs.Common.{◌≡◌, ◌∷◌, take, map, codes}
-use Rattle.strip_proof.specs.Rows.{scene_name}
+use Rattle.strip_model.specs.Data.{scene_name}
 use Rattle.strip_proof.proofs.head.push_order.Given as goal
 
 abbrev pub invariant-loop-scene : goal.invariant-loop-scene
