@@ -5,7 +5,7 @@ use Rattle.std.specs.List.{range_with_len}
 use Rattle.std.proofs.lemmas.List.{append_assoc, get_or-map}
 use Rattle.strip_mask.specs.Set.{has}
 use Rattle.strip_mask.proofs.Sums.{sum_below-ext}
-use Rattle.strip_film.proofs.Walk.{paid_after-new}
+use Rattle.strip_pay.proofs.Walk.{paid_after-new}
 use Rattle.strip_pay.specs.Film.{FilmData}
 use Rattle.strip_pay.specs.Order.{IsOrder}
 use Rattle.strip_pay.specs.Pay.{day_pay, pay_of, span, works}

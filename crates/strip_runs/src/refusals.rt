@@ -169,29 +169,23 @@ fn a_file_is_at_most_a_mebibyte(rt: HostRuntime) -> Result<(), Fail> {
 #[test]
 fn an_error_row_has_four_fields(rt: HostRuntime) -> Result<(), Fail> {
     let rows = [
-        (InstanceFault::Empty.told(), "error,Empty,,\n"),
-        (InstanceFault::Width { row: 3 }.told(), "error,Width,3,\n"),
+        (InstanceFault::Empty, "error,Empty,,\n"),
+        (InstanceFault::Width { row: 3 }, "error,Width,3,\n"),
         (
-            InstanceFault::BadName { row: 1, col: 5 }.told(),
+            InstanceFault::BadName { row: 1, col: 5 },
             "error,BadName,1,5\n",
         ),
-        (
-            InstanceFault::BadRate { col: 3 }.told(),
-            "error,BadRate,,3\n",
-        ),
-        (
-            InstanceFault::BadHold { col: 4 }.told(),
-            "error,BadHold,,4\n",
-        ),
+        (InstanceFault::BadRate { col: 3 }, "error,BadRate,,3\n"),
+        (InstanceFault::BadHold { col: 4 }, "error,BadHold,,4\n"),
     ];
-    for (told, row) in rows {
-        assert!(&rt; is_told_as(rt.alloc(), told, row)?);
+    for (fault, row) in &rows {
+        assert!(&rt; is_told_as(rt.alloc(), fault.told(), row)?);
     }
     assert!(&rt; InstanceFault::Memory.told().is_none());
     Ok(())
 }
 
-fn is_told_as(alloc: Global, told: Option<Told>, row: &str) -> Result<bool, Memory> {
+fn is_told_as(alloc: Global, told: Option<Told<'_>>, row: &str) -> Result<bool, Memory> {
     match told {
         Some(told) => Ok(told_row(alloc, b"error", told)?.as_slice() == row.as_bytes()),
         None => Ok(false),

@@ -3,7 +3,7 @@ use crate::runs::{TRIANGLE, TRIANGLE_SOLVED, check, check_over};
 use std::test::Fail;
 use strip_io::MemFiles;
 
-const NO_JOB: [&[&str]; 20] = [
+const NO_JOB: [&[&str]; 24] = [
     &[],
     &[""],
     &["solve"],
@@ -21,9 +21,13 @@ const NO_JOB: [&[&str]; 20] = [
     &["solve", "f", "--table", "63"],
     &["solve", "f", "--bound", "pairs"],
     &["solve", "f", "--proof=yes"],
-    &["dood", "f", "p"],
+    &["budget", "f", "p"],
     &["gen", "1", "201", "3"],
     &["gen", "1", "0", "3"],
+    &["gen", "1", "3", "65"],
+    &["gen", "18446744073709551616", "1", "1"],
+    &["dood", "film.csv"],
+    &["sheet", "film.csv", "plan.csv", "--proof"],
 ];
 
 const SOLVES: [&[&str]; 11] = [

@@ -7,13 +7,13 @@ use Rattle.strip_mask.specs.Sums.{sum_below}
 use Rattle.strip_mask.proofs.Sums.{sum_below-slice}
 use Rattle.strip_pay.specs.Order.{IsOrder}
 use Rattle.strip_pay.proofs.Counts.{sum-order}
-use Rattle.strip_model.specs.Data.{InstanceData, SceneData}
+use Rattle.strip_model.specs.Data.{InstanceData, SceneData, scene_name}
 use Rattle.strip_model.specs.Film.{film_of}
 use Rattle.strip_text.specs.Field.{Field}
 use Rattle.strip_text.specs.Rows.{Row, csv_row, csv_text}
 use Rattle.strip_sheet.specs.declared.figures.Figures.{Figures}
 use Rattle.strip_sheet.specs.Days.{days_of, pay_at, scene_at}
-use Rattle.strip_sheet.specs.Sheet.{header_row, figures_at, row_of, scene_name, scene_row, sheet_text, total_row}
+use Rattle.strip_sheet.specs.Sheet.{header_row, figures_at, row_of, scene_row, sheet_text, total_row}
 
 -- the row of one place more
 row_next : (front : List ℕ) (row : ℕ → Row) (n : ℕ)

@@ -6,7 +6,8 @@ use Rattle.strip_pay.specs.Film.{FilmData}
 use Rattle.strip_pay.specs.Pay.{day_pay, pay_of, works}
 use Rattle.strip_sheet.specs.Days.{day_rate, pay_at, scene_at, works_among}
 use Rattle.strip_sheet.specs.Sheet.{total_pay}
-use Rattle.strip_sheet.proofs.Walk.{by_places, paid_after-new, paid_at}
+use Rattle.strip_pay.proofs.Walk.{paid_after-new}
+use Rattle.strip_sheet.proofs.Walk.{by_places, paid_at}
 
 -- who works is paid at his rate, and who is held at his hold rate
 by_tests : (now before behind : Bool) (days rate hold : ℕ)

@@ -1,11 +1,11 @@
 -- The cost sheet of an instance in an order: a row for each scene in shooting order, and a row of totals.
-use Rattle.std.specs.Prelude.{ℕ, ◌+◌, List, [], ◌∷◌, ◌++◌, length, map, take, sum, codes, slice_index, slice_index_or}
+use Rattle.std.specs.Prelude.{ℕ, ◌+◌, List, [], ◌∷◌, ◌++◌, length, map, take, sum, codes, slice_index}
 use Rattle.std.specs.Fmt.{decimal}
 use Rattle.std.specs.List.{range_with_len}
 use Rattle.strip_mask.specs.Sums.{sum_below}
 use Rattle.strip_pay.specs.Film.{FilmData}
 use Rattle.strip_pay.specs.Pay.{works}
-use Rattle.strip_model.specs.Data.{InstanceData}
+use Rattle.strip_model.specs.Data.{InstanceData, scene_name}
 use Rattle.strip_model.specs.Film.{film_of}
 use Rattle.strip_text.specs.Field.{Field}
 use Rattle.strip_text.specs.Rows.{Row, csv_text}
@@ -26,10 +26,6 @@ figures_at film order place = record {
 -- what all actors get for all scenes
 abbrev pub total_pay : FilmData → List ℕ → ℕ
 total_pay film order = sum_below (length order) (pay_at film order)
-
--- the name of the scene with this number
-abbrev pub scene_name : InstanceData → ℕ → Field
-scene_name inst scene = slice_index_or (map (λ s. s.name) inst.scenes) scene []
 
 abbrev pub header_row : Row
 header_row =

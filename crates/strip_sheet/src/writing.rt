@@ -1,8 +1,9 @@
 // The text of the sheet.
 ghost use Rattle.std.specs.Prelude.{◌≡◌, ◌++◌, ◌<◌, [], length, IfOk, OnOk};
+ghost use Rattle.strip_model.specs.Data.{scene_name};
 ghost use Rattle.strip_pay.specs.Order.{IsOrder};
 ghost use Rattle.strip_text.specs.Rows.{csv_row};
-ghost use Rattle.strip_sheet.specs.Sheet.{header_row, row_of, scene_name, sheet_text, total_row};
+ghost use Rattle.strip_sheet.specs.Sheet.{header_row, row_of, sheet_text, total_row};
 
 use crate::day::{days_of, figures_at};
 use crate::figures::Figures;

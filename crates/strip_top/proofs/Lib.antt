@@ -1,2 +1,4 @@
 pub mod Boards
 pub mod Printed
+pub mod Reported
+pub mod Tried

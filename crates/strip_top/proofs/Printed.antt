@@ -1,6 +1,6 @@
 -- The text of a plan that was found.
-use Rattle.std.proofs.Common.{◌≡◌, ◌∙◌, ◌↔◌, ◌<◌, ◌≤◌, ◌+◌, ℕ, Bool, true, false, List, Ok, Err, IfOk, Result, refl, sym, subst, ap, arith, if◌then◌else◌}
-use Rattle.strip_pay.specs.declared.kind.Kind.{Kind}
+use Rattle.std.proofs.Common.{◌≡◌, ◌∙◌, ◌↔◌, ◌<◌, ◌≤◌, ◌+◌, ℕ, Bool, true, false, List, Option, Ok, Err, IfOk, Result, refl, sym, subst, ap, arith, if◌then◌else◌}
+use Rattle.strip_kind.specs.declared.kind.Kind.{Kind}
 use Rattle.strip_pay.specs.Film.{FilmData}
 use Rattle.strip_film.specs.Film.{all_scenes}
 use Rattle.strip_film.specs.Path.{PathData}
@@ -22,9 +22,14 @@ use Rattle.strip_answer.specs.declared.status.Status.{Status}
 use Rattle.strip_answer.specs.declared.status.Status.TheVariants.{BadInstance}
 use Rattle.strip_answer.specs.Ending.{answer_text}
 use Rattle.strip_answer.specs.Rows.{error_row}
-use Rattle.strip_inputs.specs.Said.{IsSaidFilm, too_many_told}
+use Rattle.strip_text.specs.Told.{ToldData}
+use Rattle.strip_answer.specs.Run.{FilesData}
+use Rattle.strip_inputs.specs.declared.input.Input.{Input}
+use Rattle.strip_inputs.specs.declared.input.Input.TheVariants.{Said}
+use Rattle.strip_inputs.specs.Input.{HasInput}
+use Rattle.strip_inputs.specs.Said.{IsFilmGiven, IsSaidFilm, film_said, too_many_told}
 use Rattle.strip_top.specs.Plan.{IsPlan, exit_of, text_of}
-use Rattle.strip_top.specs.Solve.{IsSolveAnswer}
+use Rattle.strip_top.specs.Solve.{IsAnswerTo, IsSolveAnswer, IsSolveDue}
 
 -- the status of a plan that was found tells whether its bound is its cost
 status_tells : (kind : Kind) (film : FilmData) (most : ℕ) (start : PathData) (plan : PlanData) (status : PlanStatus) → Closes kind film most start plan status
@@ -59,7 +64,6 @@ pub plan_answer : {E : Type 0} (job : SolveData) (inst : InstanceData) (plan : P
 plan_answer job inst plan (Ok answer) said few solved readable back ends text = record {
   plan = λ _. record {
     is_instance = said.is_instance;
-    no_pairs = said.no_pairs;
     plan = plan;
     solved = solved;
     ends = ends;
@@ -82,3 +86,22 @@ many_answer job inst count (Ok answer) many is status text = record {
   too_many = λ _. (status, text ∙ ap (λ n. error_row (too_many_told n)) is);
 }
 many_answer job inst count (Err e) many is status text = tt
+
+-- what is due for a text that says an instance, by what was given of it
+pub solve_given : (job : SolveData) (name : List ℕ) (before after : FilesData) (input : Input InstanceData) (inst : InstanceData) (status : Status) (printed : List ℕ)
+    → name ≡ job.file → input ≡ Said inst → IsSolveAnswer job inst status printed
+    → HasInput name 1_048_576 before after (λ text. IsFilmGiven (film_said text) input) → IsSolveDue job before after status printed
+solve_given job name before after input inst status printed named is answer given = record {
+  text = has.text;
+  told = has.told;
+  came = has.came;
+  too_many = has.too_many;
+  holds = by (film_said has.text) (subst (IsFilmGiven (film_said has.text)) is has.holds);
+}
+  where
+    has : HasInput job.file 1_048_576 before after (λ text. IsFilmGiven (film_said text) input)
+    has = subst (λ (file : List ℕ). HasInput file 1_048_576 before after (λ text. IsFilmGiven (film_said text) input)) named given
+
+    by : (said : Result InstanceData (Option ToldData)) → IsFilmGiven said (Said inst) → IsAnswerTo job status printed said
+    by (Ok other) (same, film) = subst (λ i. IsSolveAnswer job i status printed) same answer
+    by (Err told) none = absurd none

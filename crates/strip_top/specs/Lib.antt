@@ -1,4 +1,6 @@
 pub mod Plan
 pub mod Solve
 pub mod Convert
+pub mod Report
+pub mod Made
 pub mod Due

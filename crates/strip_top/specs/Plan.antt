@@ -1,5 +1,5 @@
 -- The plan that is printed.
-use Rattle.std.specs.Prelude.{◌≡◌, ℕ, Bool, true, if◌then◌else◌, List, [], Ok}
+use Rattle.std.specs.Prelude.{◌≡◌, ℕ, Bool, true, if◌then◌else◌, List, Ok}
 use Rattle.strip_model.specs.Data.{InstanceData, IsInstance}
 use Rattle.strip_model.specs.Film.{film_of}
 use Rattle.strip_words.specs.Solve.{SolveData}
@@ -23,11 +23,9 @@ exit_of Optimal = Done
 exit_of CutShort = Bounded
 
 -- the text is that of a plan of the instance, which is what the job asks for, and the status tells whether it is optimal; the instance
--- keeps the limits, and has no pairs, so that every order keeps them; and where a proof is asked for, the text says this plan, which a
--- checker accepts
+-- keeps the limits; and where a proof is asked for, the text says this plan, which a checker accepts
 pub record IsPlan (job : SolveData) (inst : InstanceData) (status : Status) (printed : List ℕ) : Type 0 where
   pub is_instance : IsInstance inst
-  pub no_pairs : inst.pairs ≡ []
   pub plan : PlanData
   pub solved : IsSolved job.kind (film_of inst) job.nodes plan
   pub ends : status ≡ exit_of plan.status

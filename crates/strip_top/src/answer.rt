@@ -7,6 +7,8 @@ ghost use Rattle.strip_answer.specs.Run.{FilesStay, HasReadFault, files_data};
 ghost use Rattle.strip_top.specs.Due.{IsDueFor, IsFileOf, IsWithin, board_claims};
 
 use crate::convert::convert;
+use crate::making::{print_film, try_film};
+use crate::reports::{dood, sheet};
 use crate::solve::solve;
 use std::alloc::Global;
 use strip_answer::{Answer, Stop};
@@ -62,5 +64,9 @@ fn answer_job<F: Files>(alloc: Global, files: &mut F, job: &Job) -> Result<Answe
         Job::Solve(job) => solve(alloc, files, job),
         Job::Check(names) => audit(alloc, files, names),
         Job::Convert(names) => convert(alloc, files, names),
+        Job::Dood(names) => dood(alloc, files, names),
+        Job::Sheet(names) => sheet(alloc, files, names),
+        Job::Gen(film) => Ok(print_film(alloc, film)?),
+        Job::Trial(job) => Ok(try_film(alloc, job)?),
     }
 }

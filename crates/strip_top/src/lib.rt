@@ -3,7 +3,9 @@
 
 mod answer;
 mod convert;
+mod making;
 mod program;
+mod reports;
 mod solve;
 
 pub use program::report;

@@ -63,10 +63,7 @@ fn answer_plan(alloc: Global, inst: &Instance, plan: Plan, proof: bool) -> Resul
     ensures status { IfOk result (λ answer. answer.status ≡ exit_of plan.status) }
     ensures text { IfOk result (λ answer. answer_text answer ≡ text_of proof inst.now (plan_data plan)) }
 {
-    let status = match plan.status {
-        PlanStatus::Optimal => Status::Done,
-        PlanStatus::Bounded => Status::Bounded,
-    };
+    let status = status_of(plan.status);
     if proof {
         let text = head_text(alloc, inst, &plan, plan.lines.len() as u64)?;
         let lines = plan.lines;
@@ -83,5 +80,15 @@ fn answer_plan(alloc: Global, inst: &Instance, plan: Plan, proof: bool) -> Resul
             text,
             lines,
         })
+    }
+}
+
+/// The exit status of a plan.
+pub(crate) fn status_of(status: PlanStatus) -> Status
+    ensures { result ≡ exit_of status }
+{
+    match status {
+        PlanStatus::Optimal => Status::Done,
+        PlanStatus::Bounded => Status::Bounded,
     }
 }

@@ -7,4 +7,5 @@ pub mod Given
 pub mod Shows
 pub mod Solving
 pub mod Planning
+pub mod Made
 pub mod OneJob

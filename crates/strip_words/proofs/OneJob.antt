@@ -3,69 +3,179 @@ use Rattle.std.proofs.Common.{◌≡◌, ◌≢◌, List, [], ◌∷◌, ap, sym
 use Rattle.strip_words.specs.Words.{Word}
 use Rattle.strip_words.specs.Solve.{SolveData, NameSolve}
 use Rattle.strip_words.specs.Plans.{PlanFilesData, NamePlanFiles}
-use Rattle.strip_words.specs.Jobs.{JobData, Solve, Check, Convert, NameJob, NameNoJob}
+use Rattle.strip_words.specs.Gen.{GenData, NameGen, TrialData, NameTrial}
+use Rattle.strip_words.specs.Jobs.{JobData, Solve, Check, Convert, Dood, Sheet, Gen, Trial, NameJob, NameNoJob}
 use Rattle.strip_words.proofs.Solving.{differ, solve_once}
 use Rattle.strip_words.proofs.Planning.{files_once}
+use Rattle.strip_words.proofs.Made.{gen_once, trial_once}
 
 -- the word of the job's command
 abbrev pub word_of : JobData → Word
 word_of (Solve job) = codes "solve"
 word_of (Check files) = codes "check"
 word_of (Convert files) = codes "convert"
+word_of (Dood files) = codes "dood"
+word_of (Sheet files) = codes "sheet"
+word_of (Gen film) = codes "gen"
+word_of (Trial job) = codes "trial"
 
 -- words that name a job begin with its command's
 pub begins_so : (words : List Word) (job : JobData) → NameJob words job → (later : List Word) × (words ≡ word_of job ∷ later)
 begins_so words (Solve job) (items, rest, spelled, says) = (_, spelled.spelled)
 begins_so words (Check files) (items, rest, spelled, says) = (_, spelled.spelled)
 begins_so words (Convert files) (items, rest, spelled, says) = (_, spelled.spelled)
+begins_so words (Dood files) (items, rest, spelled, says) = (_, spelled.spelled)
+begins_so words (Sheet files) (items, rest, spelled, says) = (_, spelled.spelled)
+begins_so words (Gen film) (items, rest, spelled, says) = (_, spelled.spelled)
+begins_so words (Trial job) (items, rest, spelled, says) = (_, spelled.spelled)
+
+first_same : (a b : Word) (xs ys : List Word) → a ∷ xs ≡ b ∷ ys → a ≡ b
+first_same a b xs ys same = cc
 
 pub begins_with : (words : List Word) (job : JobData) (word : Word) (later : List Word) → words ≡ word ∷ later → NameJob words job → word_of job ≡ word
 begins_with words job word later is named =
-    let begins = (begins_so words job named).1 in
-    let both : word_of job ∷ (begins_so words job named).0 ≡ word ∷ later = sym begins ∙ is in
-    first_same (word_of job) word (begins_so words job named).0 later both
-  where
-    first_same : (a b : Word) (xs ys : List Word) → a ∷ xs ≡ b ∷ ys → a ≡ b
-    first_same a b xs ys same = cc
+    first_same (word_of job) word (begins_so words job named).0 later (sym (begins_so words job named).1 ∙ is)
 
--- jobs of commands with different words aren't named by the same words
-apart : {A : Type 0} (words : List Word) (a b : JobData) → NameJob words a → NameJob words b → word_of a ≢ word_of b → A
-apart words a b one two other =
-    absurd (other (sym (begins_with words b (word_of a) (begins_so words a one).0 (begins_so words a one).1 two)))
+-- ---- a job whose command has this word is one of this command
+
+is_solve : (job : JobData) → word_of job ≡ codes "solve" → (said : SolveData) × (job ≡ Solve said)
+is_solve (Solve job) same = (job, refl)
+is_solve (Check files) same = differ (codes "check") (codes "solve") refl same
+is_solve (Convert files) same = differ (codes "convert") (codes "solve") refl same
+is_solve (Dood files) same = differ (codes "dood") (codes "solve") refl same
+is_solve (Sheet files) same = differ (codes "sheet") (codes "solve") refl same
+is_solve (Gen film) same = differ (codes "gen") (codes "solve") refl same
+is_solve (Trial job) same = differ (codes "trial") (codes "solve") refl same
+
+is_check : (job : JobData) → word_of job ≡ codes "check" → (files : PlanFilesData) × (job ≡ Check files)
+is_check (Solve job) same = differ (codes "solve") (codes "check") refl same
+is_check (Check files) same = (files, refl)
+is_check (Convert files) same = differ (codes "convert") (codes "check") refl same
+is_check (Dood files) same = differ (codes "dood") (codes "check") refl same
+is_check (Sheet files) same = differ (codes "sheet") (codes "check") refl same
+is_check (Gen film) same = differ (codes "gen") (codes "check") refl same
+is_check (Trial job) same = differ (codes "trial") (codes "check") refl same
+
+is_convert : (job : JobData) → word_of job ≡ codes "convert" → (files : PlanFilesData) × (job ≡ Convert files)
+is_convert (Solve job) same = differ (codes "solve") (codes "convert") refl same
+is_convert (Check files) same = differ (codes "check") (codes "convert") refl same
+is_convert (Convert files) same = (files, refl)
+is_convert (Dood files) same = differ (codes "dood") (codes "convert") refl same
+is_convert (Sheet files) same = differ (codes "sheet") (codes "convert") refl same
+is_convert (Gen film) same = differ (codes "gen") (codes "convert") refl same
+is_convert (Trial job) same = differ (codes "trial") (codes "convert") refl same
+
+is_dood : (job : JobData) → word_of job ≡ codes "dood" → (files : PlanFilesData) × (job ≡ Dood files)
+is_dood (Solve job) same = differ (codes "solve") (codes "dood") refl same
+is_dood (Check files) same = differ (codes "check") (codes "dood") refl same
+is_dood (Convert files) same = differ (codes "convert") (codes "dood") refl same
+is_dood (Dood files) same = (files, refl)
+is_dood (Sheet files) same = differ (codes "sheet") (codes "dood") refl same
+is_dood (Gen film) same = differ (codes "gen") (codes "dood") refl same
+is_dood (Trial job) same = differ (codes "trial") (codes "dood") refl same
+
+is_sheet : (job : JobData) → word_of job ≡ codes "sheet" → (files : PlanFilesData) × (job ≡ Sheet files)
+is_sheet (Solve job) same = differ (codes "solve") (codes "sheet") refl same
+is_sheet (Check files) same = differ (codes "check") (codes "sheet") refl same
+is_sheet (Convert files) same = differ (codes "convert") (codes "sheet") refl same
+is_sheet (Dood files) same = differ (codes "dood") (codes "sheet") refl same
+is_sheet (Sheet files) same = (files, refl)
+is_sheet (Gen film) same = differ (codes "gen") (codes "sheet") refl same
+is_sheet (Trial job) same = differ (codes "trial") (codes "sheet") refl same
+
+is_gen : (job : JobData) → word_of job ≡ codes "gen" → (film : GenData) × (job ≡ Gen film)
+is_gen (Solve job) same = differ (codes "solve") (codes "gen") refl same
+is_gen (Check files) same = differ (codes "check") (codes "gen") refl same
+is_gen (Convert files) same = differ (codes "convert") (codes "gen") refl same
+is_gen (Dood files) same = differ (codes "dood") (codes "gen") refl same
+is_gen (Sheet files) same = differ (codes "sheet") (codes "gen") refl same
+is_gen (Gen film) same = (film, refl)
+is_gen (Trial job) same = differ (codes "trial") (codes "gen") refl same
+
+is_trial : (job : JobData) → word_of job ≡ codes "trial" → (said : TrialData) × (job ≡ Trial said)
+is_trial (Solve job) same = differ (codes "solve") (codes "trial") refl same
+is_trial (Check files) same = differ (codes "check") (codes "trial") refl same
+is_trial (Convert files) same = differ (codes "convert") (codes "trial") refl same
+is_trial (Dood files) same = differ (codes "dood") (codes "trial") refl same
+is_trial (Sheet files) same = differ (codes "sheet") (codes "trial") refl same
+is_trial (Gen film) same = differ (codes "gen") (codes "trial") refl same
+is_trial (Trial job) same = (job, refl)
+
+-- ---- words name one job
+
+-- two jobs that the same words name have commands of the same word
+same_word : (words : List Word) (a b : JobData) → NameJob words a → NameJob words b → word_of b ≡ word_of a
+same_word words a b one two = begins_with words b (word_of a) (begins_so words a one).0 (begins_so words a one).1 two
 
 pub one_job : (words : List Word) (a b : JobData) → NameJob words a → NameJob words b → a ≡ b
-one_job words (Solve a) (Solve b) one two = ap Solve (solve_once words a b one two)
-one_job words (Check a) (Check b) one two = ap Check (files_once (codes "check") words a b one two)
-one_job words (Convert a) (Convert b) one two = ap Convert (files_once (codes "convert") words a b one two)
-one_job words (Solve a) (Check b) one two = apart words (Solve a) (Check b) one two (differ (codes "solve") (codes "check") refl)
-one_job words (Solve a) (Convert b) one two = apart words (Solve a) (Convert b) one two (differ (codes "solve") (codes "convert") refl)
-one_job words (Check a) (Solve b) one two = apart words (Check a) (Solve b) one two (differ (codes "check") (codes "solve") refl)
-one_job words (Check a) (Convert b) one two = apart words (Check a) (Convert b) one two (differ (codes "check") (codes "convert") refl)
-one_job words (Convert a) (Solve b) one two = apart words (Convert a) (Solve b) one two (differ (codes "convert") (codes "solve") refl)
-one_job words (Convert a) (Check b) one two = apart words (Convert a) (Check b) one two (differ (codes "convert") (codes "check") refl)
+one_job words (Solve job) b one two =
+    let is = is_solve b (same_word words (Solve job) b one two) in
+    ap Solve (solve_once words job is.0 one (subst (NameJob words) is.1 two)) ∙ sym is.1
+one_job words (Check files) b one two =
+    let is = is_check b (same_word words (Check files) b one two) in
+    ap Check (files_once (codes "check") words files is.0 one (subst (NameJob words) is.1 two)) ∙ sym is.1
+one_job words (Convert files) b one two =
+    let is = is_convert b (same_word words (Convert files) b one two) in
+    ap Convert (files_once (codes "convert") words files is.0 one (subst (NameJob words) is.1 two)) ∙ sym is.1
+one_job words (Dood files) b one two =
+    let is = is_dood b (same_word words (Dood files) b one two) in
+    ap Dood (files_once (codes "dood") words files is.0 one (subst (NameJob words) is.1 two)) ∙ sym is.1
+one_job words (Sheet files) b one two =
+    let is = is_sheet b (same_word words (Sheet files) b one two) in
+    ap Sheet (files_once (codes "sheet") words files is.0 one (subst (NameJob words) is.1 two)) ∙ sym is.1
+one_job words (Gen film) b one two =
+    let is = is_gen b (same_word words (Gen film) b one two) in
+    ap Gen (gen_once words film is.0 one (subst (NameJob words) is.1 two)) ∙ sym is.1
+one_job words (Trial job) b one two =
+    let is = is_trial b (same_word words (Trial job) b one two) in
+    ap Trial (trial_once words job is.0 one (subst (NameJob words) is.1 two)) ∙ sym is.1
 
 module _ (words later : List Word) (word : Word) (begins : words ≡ word ∷ later) where
   -- words that begin with none of the commands' words name no job
-  pub no_command : word ≢ codes "solve" → word ≢ codes "check" → word ≢ codes "convert" → NameNoJob words
-  no_command solve check convert (Solve job) names = solve (sym (begins_with words (Solve job) word later begins names))
-  no_command solve check convert (Check files) names = check (sym (begins_with words (Check files) word later begins names))
-  no_command solve check convert (Convert files) names = convert (sym (begins_with words (Convert files) word later begins names))
+  pub no_command : word ≢ codes "solve" → word ≢ codes "check" → word ≢ codes "convert" → word ≢ codes "dood" → word ≢ codes "sheet" → word ≢ codes "gen" → word ≢ codes "trial" → NameNoJob words
+  no_command solve check convert dood sheet gen trial (Solve job) names = solve (sym (begins_with words (Solve job) word later begins names))
+  no_command solve check convert dood sheet gen trial (Check files) names = check (sym (begins_with words (Check files) word later begins names))
+  no_command solve check convert dood sheet gen trial (Convert files) names = convert (sym (begins_with words (Convert files) word later begins names))
+  no_command solve check convert dood sheet gen trial (Dood files) names = dood (sym (begins_with words (Dood files) word later begins names))
+  no_command solve check convert dood sheet gen trial (Sheet files) names = sheet (sym (begins_with words (Sheet files) word later begins names))
+  no_command solve check convert dood sheet gen trial (Gen film) names = gen (sym (begins_with words (Gen film) word later begins names))
+  no_command solve check convert dood sheet gen trial (Trial job) names = trial (sym (begins_with words (Trial job) word later begins names))
 
   -- and those that begin with a command's word name none where they name none of its jobs
   pub no_solve : word ≡ codes "solve" → ((job : SolveData) → ¬ NameSolve words job) → NameNoJob words
-  no_solve is none (Solve job) names = none job names
-  no_solve is none (Check files) names = differ (codes "check") (codes "solve") refl (begins_with words (Check files) word later begins names ∙ is)
-  no_solve is none (Convert files) names = differ (codes "convert") (codes "solve") refl (begins_with words (Convert files) word later begins names ∙ is)
+  no_solve is none job names =
+      let found = is_solve job (begins_with words job word later begins names ∙ is) in
+      none found.0 (subst (NameJob words) found.1 names)
 
   pub no_check : word ≡ codes "check" → ((files : PlanFilesData) → ¬ NamePlanFiles (codes "check") words files) → NameNoJob words
-  no_check is none (Check files) names = none files names
-  no_check is none (Solve job) names = differ (codes "solve") (codes "check") refl (begins_with words (Solve job) word later begins names ∙ is)
-  no_check is none (Convert files) names = differ (codes "convert") (codes "check") refl (begins_with words (Convert files) word later begins names ∙ is)
+  no_check is none job names =
+      let found = is_check job (begins_with words job word later begins names ∙ is) in
+      none found.0 (subst (NameJob words) found.1 names)
 
   pub no_convert : word ≡ codes "convert" → ((files : PlanFilesData) → ¬ NamePlanFiles (codes "convert") words files) → NameNoJob words
-  no_convert is none (Convert files) names = none files names
-  no_convert is none (Solve job) names = differ (codes "solve") (codes "convert") refl (begins_with words (Solve job) word later begins names ∙ is)
-  no_convert is none (Check files) names = differ (codes "check") (codes "convert") refl (begins_with words (Check files) word later begins names ∙ is)
+  no_convert is none job names =
+      let found = is_convert job (begins_with words job word later begins names ∙ is) in
+      none found.0 (subst (NameJob words) found.1 names)
+
+  pub no_dood : word ≡ codes "dood" → ((files : PlanFilesData) → ¬ NamePlanFiles (codes "dood") words files) → NameNoJob words
+  no_dood is none job names =
+      let found = is_dood job (begins_with words job word later begins names ∙ is) in
+      none found.0 (subst (NameJob words) found.1 names)
+
+  pub no_sheet : word ≡ codes "sheet" → ((files : PlanFilesData) → ¬ NamePlanFiles (codes "sheet") words files) → NameNoJob words
+  no_sheet is none job names =
+      let found = is_sheet job (begins_with words job word later begins names ∙ is) in
+      none found.0 (subst (NameJob words) found.1 names)
+
+  pub no_gen : word ≡ codes "gen" → ((film : GenData) → ¬ NameGen words film) → NameNoJob words
+  no_gen is none job names =
+      let found = is_gen job (begins_with words job word later begins names ∙ is) in
+      none found.0 (subst (NameJob words) found.1 names)
+
+  pub no_trial : word ≡ codes "trial" → ((job : TrialData) → ¬ NameTrial words job) → NameNoJob words
+  no_trial is none job names =
+      let found = is_trial job (begins_with words job word later begins names ∙ is) in
+      none found.0 (subst (NameJob words) found.1 names)
 
 pub no_words : (words : List Word) → words ≡ [] → NameNoJob words
 no_words words is job names = never (begins_so words job names).0 (word_of job) (sym is ∙ (begins_so words job names).1)

@@ -17,3 +17,8 @@ err_from (Err e) R Q is holds = holds e is
 pub err_from_none : {X E : Type 0} (o : Option X) (e : E) (r : Result X E) (P Q : Type 0) → r ≡ ok_or o e → IfNone o P → (P → Q) → IfErr r (λ _. Q)
 err_from_none {X} {E} None e r P Q is none holds = subst (λ (s : Result X E). IfErr s (λ _. Q)) (sym is) (holds none)
 err_from_none {X} {E} (Some x) e r P Q is none holds = subst (λ (s : Result X E). IfErr s (λ _. Q)) (sym is) tt
+
+-- what holds of an error follows from what was told of it
+pub err_as : {X E : Type 0} (r : Result X E) (P Q : E → Type 0) → IfErr r P → ((e : E) → P e → Q e) → IfErr r Q
+err_as (Ok x) P Q told follows = tt
+err_as (Err e) P Q told follows = follows e told

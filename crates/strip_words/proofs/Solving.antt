@@ -1,8 +1,8 @@
 -- The job to solve that words name, and that they name one.
 use Rattle.std.proofs.Common.{◌≡◌, false, true≢false, bytes_eq, List, Option, refl, sym, subst, ◌∙◌}
 use Rattle.std.proofs.lemmas.Slice.Eq.{bytes_eq-Decides}
-use Rattle.strip_pay.specs.declared.kind.Kind.{Kind}
-use Rattle.strip_pay.specs.declared.kind.Kind.TheVariants.{Plain, Pairs, Groups}
+use Rattle.strip_kind.specs.declared.kind.Kind.{Kind}
+use Rattle.strip_kind.specs.declared.kind.Kind.TheVariants.{Plain, Pairs, Groups}
 use Rattle.strip_words.specs.Words.{Word, IsSpelled}
 use Rattle.strip_words.specs.declared.item.Item.{Item as CodeItem}
 use Rattle.strip_words.specs.Shown.{items_data}
@@ -14,7 +14,7 @@ use Rattle.strip_words.proofs.Spelled.{said}
 pub differ : {A : Type 0} (a b : Word) → bytes_eq a b ≡ false → a ≡ b → A
 differ a b other same = absurd (true≢false (sym ((bytes_eq-Decides a b).1 same) ∙ other))
 
-kind_once : (a b : Kind) → bound_word a ≡ bound_word b → a ≡ b
+pub kind_once : (a b : Kind) → bound_word a ≡ bound_word b → a ≡ b
 kind_once Plain Plain same = refl
 kind_once Plain Pairs same = differ (bound_word Plain) (bound_word Pairs) refl same
 kind_once Plain Groups same = differ (bound_word Plain) (bound_word Groups) refl same

@@ -3,6 +3,7 @@ pub mod Options
 pub mod Reader
 pub mod Solve
 pub mod Plans
+pub mod Gen
 pub mod Jobs
 pub mod Fault
 pub mod Shown

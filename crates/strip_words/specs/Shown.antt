@@ -7,7 +7,8 @@ use Rattle.strip_words.specs.Words.{Word, Command as CommandData, Item as ItemDa
 use Rattle.strip_words.specs.Options.{NumberOption as NumberData, ChoiceOption as ChoiceData}
 use Rattle.strip_words.specs.Solve.{SolveData}
 use Rattle.strip_words.specs.Plans.{PlanFilesData}
-use Rattle.strip_words.specs.Jobs.{JobData, Solve as ToSolve, Check as ToCheck, Convert as ToConvert}
+use Rattle.strip_words.specs.Gen.{GenData, TrialData}
+use Rattle.strip_words.specs.Jobs.{JobData, Solve as ToSolve, Check as ToCheck, Convert as ToConvert, Dood as ToDood, Sheet as ToSheet, Gen as ToGen, Trial as ToTrial}
 use Rattle.strip_words.specs.declared.command.Command.{Command}
 use Rattle.strip_words.specs.declared.command.NumberOption.{NumberOption}
 use Rattle.strip_words.specs.declared.command.ChoiceOption.{ChoiceOption}
@@ -15,8 +16,10 @@ use Rattle.strip_words.specs.declared.command.CommandOption.{CommandOption}
 use Rattle.strip_words.specs.declared.command.CommandOption.TheVariants.{Number, Choice, Flag as FlagOption}
 use Rattle.strip_words.specs.declared.solve.SolveJob.{SolveJob}
 use Rattle.strip_words.specs.declared.plans.PlanFiles.{PlanFiles}
+use Rattle.strip_words.specs.declared.making.GenJob.{GenJob}
+use Rattle.strip_words.specs.declared.making.TrialJob.{TrialJob}
 use Rattle.strip_words.specs.declared.jobs.Job.{Job}
-use Rattle.strip_words.specs.declared.jobs.Job.TheVariants.{Solve, Check, Convert}
+use Rattle.strip_words.specs.declared.jobs.Job.TheVariants.{Solve, Check, Convert, Dood, Sheet, Gen, Trial}
 use Rattle.strip_words.specs.declared.item.Item.{Item}
 use Rattle.strip_words.specs.declared.item.Item.TheVariants.{Operand, Joined, Apart, Flag}
 
@@ -80,7 +83,18 @@ solve_data job = record {
 abbrev pub plan_files_data : PlanFiles → PlanFilesData
 plan_files_data files = record { film = string_bytes files.film; plan = string_bytes files.plan }
 
+-- a film that is made from a number, and a trial of one
+abbrev pub gen_data : GenJob → GenData
+gen_data job = record { number = job.number; scenes = job.scenes; actors = job.actors }
+
+abbrev pub trial_data : TrialJob → TrialData
+trial_data job = record { film = gen_data job.film; nodes = job.nodes; table = job.table; kind = job.kind }
+
 abbrev pub job_data : Job → JobData
 job_data (Solve job) = ToSolve (solve_data job)
 job_data (Check files) = ToCheck (plan_files_data files)
 job_data (Convert files) = ToConvert (plan_files_data files)
+job_data (Dood files) = ToDood (plan_files_data files)
+job_data (Sheet files) = ToSheet (plan_files_data files)
+job_data (Gen film) = ToGen (gen_data film)
+job_data (Trial job) = ToTrial (trial_data job)

@@ -1,5 +1,6 @@
 // Jobs.
 
+use crate::making::{GenJob, TrialJob};
 use crate::plans::PlanFiles;
 use crate::solve::SolveJob;
 
@@ -12,4 +13,12 @@ pub enum Job {
     Check(PlanFiles),
     /// A plan is to be written in the newest format.
     Convert(PlanFiles),
+    /// The Day Out of Days report of a plan's order is to be printed.
+    Dood(PlanFiles),
+    /// The cost sheet of a plan's order is to be printed.
+    Sheet(PlanFiles),
+    /// A film that is made from a number is to be printed.
+    Gen(GenJob),
+    /// A film that is made from a number is to be solved, and its plan checked.
+    Trial(TrialJob),
 }

@@ -6,6 +6,7 @@ mod fault;
 mod item;
 mod jobs;
 pub mod laws;
+mod making;
 mod naming;
 mod number;
 mod options;
@@ -15,6 +16,7 @@ mod solve;
 
 pub use fault::WordsFault;
 pub use jobs::Job;
+pub use making::{GenJob, TrialJob};
 pub use naming::job;
 pub use plans::{PlanFiles, plan_files};
 pub use solve::SolveJob;

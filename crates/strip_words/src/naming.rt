@@ -6,6 +6,7 @@ ghost use Rattle.strip_words.specs.Shown.{texts, job_data};
 
 use crate::WordsFault;
 use crate::jobs::Job;
+use crate::making::{gen_job, trial_job};
 use crate::plans::plan_files;
 use crate::solve::solve_job;
 use std::alloc::Global;
@@ -26,6 +27,14 @@ pub fn job(alloc: Global, words: &[String]) -> Result<Job, WordsFault>
         Ok(Job::Check(plan_files(alloc, "check", later)?))
     } else if word == "convert" {
         Ok(Job::Convert(plan_files(alloc, "convert", later)?))
+    } else if word == "dood" {
+        Ok(Job::Dood(plan_files(alloc, "dood", later)?))
+    } else if word == "sheet" {
+        Ok(Job::Sheet(plan_files(alloc, "sheet", later)?))
+    } else if word == "gen" {
+        Ok(Job::Gen(gen_job(alloc, later)?))
+    } else if word == "trial" {
+        Ok(Job::Trial(trial_job(alloc, later)?))
     } else {
         Err(WordsFault::BadWords)
     }

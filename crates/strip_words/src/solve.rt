@@ -9,7 +9,7 @@ use crate::command::{ChoiceOption, Command, CommandOption, NumberOption};
 use crate::options::has_flag;
 use crate::reader::read;
 use std::alloc::Global;
-use strip_pay::Kind;
+use strip_kind::Kind;
 
 const SOLVE: Command = Command {
     word: "solve",
@@ -30,21 +30,21 @@ const WORKERS: NumberOption = NumberOption {
     default: 1,
 };
 
-const NODES: NumberOption = NumberOption {
+pub(crate) const NODES: NumberOption = NumberOption {
     name: "--nodes",
     least: 1,
     most: 16_777_216,
     default: 1_000_000,
 };
 
-const TABLE: NumberOption = NumberOption {
+pub(crate) const TABLE: NumberOption = NumberOption {
     name: "--table",
     least: 64,
     most: 4_194_304,
     default: 65_536,
 };
 
-const BOUNDS: ChoiceOption = ChoiceOption {
+pub(crate) const BOUNDS: ChoiceOption = ChoiceOption {
     name: "--bounds",
     choices: &["plain", "pairs", "groups"],
     default: "pairs",
@@ -94,7 +94,7 @@ pub(crate) fn solve_job(alloc: Global, later: &[String]) -> Result<SolveJob, Wor
 }
 
 /// The static bound that this word stands for.
-fn kind_of(word: &str) -> Kind
+pub(crate) fn kind_of(word: &str) -> Kind
     requires { Contains bounds_option.choices word.now }
     ensures { bound_word result ≡ word.now }
 {

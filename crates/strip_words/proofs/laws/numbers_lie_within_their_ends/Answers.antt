@@ -1,7 +1,8 @@
 use Rattle.std.proofs.Common.{◌≤◌, ℕ, List, inl, inr, arith}
-use Rattle.strip_words.specs.Words.{Item}
+use Rattle.strip_words.specs.Words.{Word, Item, operands_of}
 use Rattle.strip_words.specs.Options.{NumberOption, IsChosen}
 use Rattle.strip_words.specs.Solve.{workers_option, nodes_option, table_option}
+use Rattle.strip_words.specs.Gen.{GenData, IsSized, NameFilm}
 use Rattle.strip_words.proofs.laws.numbers_lie_within_their_ends.Goals as goal
 
 -- a number that is left out is the default, which lies within the ends
@@ -12,9 +13,17 @@ within option items n low high chosen = elim chosen [
   | inr given ↦ given.2.within
 ]
 
+sized : (operands : List Word) (film : GenData) → NameFilm operands film → IsSized film
+sized operands film named = (named.scene_count.within.0, named.scene_count.within.1, named.actor_count.within.1)
+
 pub returns : goal.returns
 returns c = record {
   workers = λ words job named. within workers_option named.0 job.workers (omega arith) (omega arith) named.3.workers;
   nodes = λ words job named. within nodes_option named.0 job.nodes (omega arith) (omega arith) named.3.nodes;
   table = λ words job named. within table_option named.0 job.table (omega arith) (omega arith) named.3.table;
+  film = λ words film named. sized (operands_of named.0 named.1) film named.3;
+  trial = λ words job named.
+      let nodes = within nodes_option named.0 job.nodes (omega arith) (omega arith) named.3.nodes in
+      let table = within table_option named.0 job.table (omega arith) (omega arith) named.3.table in
+      (sized (operands_of named.0 named.1) job.film named.3.film, nodes.0, nodes.1, table.0, table.1);
 }

@@ -3,10 +3,11 @@ use Rattle.std.proofs.lemmas.Slice.Eq.{bytes_eq-Decides}
 use Rattle.strip_words.specs.Words.{Word}
 use Rattle.strip_words.specs.Solve.{NameSolve}
 use Rattle.strip_words.specs.Plans.{NamePlanFiles}
-use Rattle.strip_words.specs.Shown.{plan_files_data, solve_data, texts}
+use Rattle.strip_words.specs.Gen.{NameGen, NameTrial}
+use Rattle.strip_words.specs.Shown.{gen_data, plan_files_data, solve_data, texts, trial_data}
 use Rattle.strip_words.proofs.Results.{err_from}
 use Rattle.strip_words.proofs.Shows.{texts_begin}
-use Rattle.strip_words.proofs.OneJob.{no_check, no_convert, no_solve}
+use Rattle.strip_words.proofs.OneJob.{no_check, no_convert, no_dood, no_gen, no_sheet, no_solve, no_trial}
 use Rattle.strip_words.proofs.naming.job.Goals as goal
 
 pub returns-in_err-solve_job-clause-bad : goal.returns-in_err-solve_job-clause-bad
@@ -33,6 +34,38 @@ returns-in_err-plan_files-2-clause-bad c = err_from c.from_residual-in_err-plan_
     no_convert (texts c.args.words.now) later (codes "convert") begins refl (λ job names. c.in_err-plan_files-2.ensures.bad (sym given ∙ is) job
     (subst (λ ws. NamePlanFiles (codes "convert") ws job) begins names)))
 
+pub returns-in_err-plan_files-3-clause-bad : goal.returns-in_err-plan_files-3-clause-bad
+returns-in_err-plan_files-3-clause-bad c = err_from c.from_residual-in_err-plan_files-3.result _ _ c.from_residual-in_err-plan_files-3.ensures.1 (λ e given is.
+    let later = texts (take (length c.args.words.now - 1) (drop 1 c.args.words.now)) in
+    let begins = texts_begin c.args.words.now c.word-item.result (codes "dood") c.in-len1-up.len_at_least c.word-item.is
+    (sym c.as_str-word.ensures.value ∙ (bytes_eq-Decides c.as_str-word.result.now (codes "dood")).0 (sym c.eq-else-eq-3.ensures ∙ c.if-eq-4.true)) in
+    no_dood (texts c.args.words.now) later (codes "dood") begins refl (λ job names. c.in_err-plan_files-3.ensures.bad (sym given ∙ is) job
+    (subst (λ ws. NamePlanFiles (codes "dood") ws job) begins names)))
+
+pub returns-in_err-plan_files-4-clause-bad : goal.returns-in_err-plan_files-4-clause-bad
+returns-in_err-plan_files-4-clause-bad c = err_from c.from_residual-in_err-plan_files-4.result _ _ c.from_residual-in_err-plan_files-4.ensures.1 (λ e given is.
+    let later = texts (take (length c.args.words.now - 1) (drop 1 c.args.words.now)) in
+    let begins = texts_begin c.args.words.now c.word-item.result (codes "sheet") c.in-len1-up.len_at_least c.word-item.is
+    (sym c.as_str-word.ensures.value ∙ (bytes_eq-Decides c.as_str-word.result.now (codes "sheet")).0 (sym c.eq-else-eq-4.ensures ∙ c.if-eq-5.true)) in
+    no_sheet (texts c.args.words.now) later (codes "sheet") begins refl (λ job names. c.in_err-plan_files-4.ensures.bad (sym given ∙ is) job
+    (subst (λ ws. NamePlanFiles (codes "sheet") ws job) begins names)))
+
+pub returns-in_err-gen_job-clause-bad : goal.returns-in_err-gen_job-clause-bad
+returns-in_err-gen_job-clause-bad c = err_from c.from_residual-in_err-gen_job.result _ _ c.from_residual-in_err-gen_job.ensures.1 (λ e given is.
+    let later = texts (take (length c.args.words.now - 1) (drop 1 c.args.words.now)) in
+    let begins = texts_begin c.args.words.now c.word-item.result (codes "gen") c.in-len1-up.len_at_least c.word-item.is
+    (sym c.as_str-word.ensures.value ∙ (bytes_eq-Decides c.as_str-word.result.now (codes "gen")).0 (sym c.eq-else-eq-5.ensures ∙ c.if-eq-6.true)) in
+    no_gen (texts c.args.words.now) later (codes "gen") begins refl (λ job names. c.in_err-gen_job.ensures.bad (sym given ∙ is) job
+    (subst (λ ws. NameGen ws job) begins names)))
+
+pub returns-in_err-trial_job-clause-bad : goal.returns-in_err-trial_job-clause-bad
+returns-in_err-trial_job-clause-bad c = err_from c.from_residual-in_err-trial_job.result _ _ c.from_residual-in_err-trial_job.ensures.1 (λ e given is.
+    let later = texts (take (length c.args.words.now - 1) (drop 1 c.args.words.now)) in
+    let begins = texts_begin c.args.words.now c.word-item.result (codes "trial") c.in-len1-up.len_at_least c.word-item.is
+    (sym c.as_str-word.ensures.value ∙ (bytes_eq-Decides c.as_str-word.result.now (codes "trial")).0 (sym c.eq-else-eq-6.ensures ∙ c.if-eq-7.true)) in
+    no_trial (texts c.args.words.now) later (codes "trial") begins refl (λ job names. c.in_err-trial_job.ensures.bad (sym given ∙ is) job
+    (subst (λ ws. NameTrial ws job) begins names)))
+
 pub returns-in_ok-solve_job-clause-named : goal.returns-in_ok-solve_job-clause-named
 returns-in_ok-solve_job-clause-named c =
     let begins = texts_begin c.args.words.now c.word-item.result (codes "solve") c.in-len1-up.len_at_least c.word-item.is
@@ -50,3 +83,27 @@ returns-in_ok-plan_files-2-clause-named c =
     let begins = texts_begin c.args.words.now c.word-item.result (codes "convert") c.in-len1-up.len_at_least c.word-item.is
     (sym c.as_str-word.ensures.value ∙ (bytes_eq-Decides c.as_str-word.result.now (codes "convert")).0 (sym c.eq-else-eq-2.ensures ∙ c.if-eq-3.true)) in
     subst (λ ws. NamePlanFiles (codes "convert") ws (plan_files_data c.in_ok-plan_files-2.field-0)) (sym begins) c.in_ok-plan_files-2.ensures.named
+
+pub returns-in_ok-plan_files-3-clause-named : goal.returns-in_ok-plan_files-3-clause-named
+returns-in_ok-plan_files-3-clause-named c =
+    let begins = texts_begin c.args.words.now c.word-item.result (codes "dood") c.in-len1-up.len_at_least c.word-item.is
+    (sym c.as_str-word.ensures.value ∙ (bytes_eq-Decides c.as_str-word.result.now (codes "dood")).0 (sym c.eq-else-eq-3.ensures ∙ c.if-eq-4.true)) in
+    subst (λ ws. NamePlanFiles (codes "dood") ws (plan_files_data c.in_ok-plan_files-3.field-0)) (sym begins) c.in_ok-plan_files-3.ensures.named
+
+pub returns-in_ok-plan_files-4-clause-named : goal.returns-in_ok-plan_files-4-clause-named
+returns-in_ok-plan_files-4-clause-named c =
+    let begins = texts_begin c.args.words.now c.word-item.result (codes "sheet") c.in-len1-up.len_at_least c.word-item.is
+    (sym c.as_str-word.ensures.value ∙ (bytes_eq-Decides c.as_str-word.result.now (codes "sheet")).0 (sym c.eq-else-eq-4.ensures ∙ c.if-eq-5.true)) in
+    subst (λ ws. NamePlanFiles (codes "sheet") ws (plan_files_data c.in_ok-plan_files-4.field-0)) (sym begins) c.in_ok-plan_files-4.ensures.named
+
+pub returns-in_ok-gen_job-clause-named : goal.returns-in_ok-gen_job-clause-named
+returns-in_ok-gen_job-clause-named c =
+    let begins = texts_begin c.args.words.now c.word-item.result (codes "gen") c.in-len1-up.len_at_least c.word-item.is
+    (sym c.as_str-word.ensures.value ∙ (bytes_eq-Decides c.as_str-word.result.now (codes "gen")).0 (sym c.eq-else-eq-5.ensures ∙ c.if-eq-6.true)) in
+    subst (λ ws. NameGen ws (gen_data c.in_ok-gen_job.field-0)) (sym begins) c.in_ok-gen_job.ensures.named
+
+pub returns-in_ok-trial_job-clause-named : goal.returns-in_ok-trial_job-clause-named
+returns-in_ok-trial_job-clause-named c =
+    let begins = texts_begin c.args.words.now c.word-item.result (codes "trial") c.in-len1-up.len_at_least c.word-item.is
+    (sym c.as_str-word.ensures.value ∙ (bytes_eq-Decides c.as_str-word.result.now (codes "trial")).0 (sym c.eq-else-eq-6.ensures ∙ c.if-eq-7.true)) in
+    subst (λ ws. NameTrial ws (trial_data c.in_ok-trial_job.field-0)) (sym begins) c.in_ok-trial_job.ensures.named

@@ -1,0 +1,4 @@
+mod Drawn
+mod Casts
+mod Limits
+mod Readable

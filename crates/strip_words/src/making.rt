@@ -1,0 +1,97 @@
+// The words of the commands that make a film from a number.
+ghost use Rattle.std.specs.Prelude.{◌≡◌, ◌∷◌, IfOk, IfErr, codes, length};
+ghost use Rattle.strip_words.specs.declared.fault.WordsFault.TheVariants.{BadWords as NoJob};
+ghost use Rattle.strip_words.specs.Gen.{GenData, NameFilm, NameGen, NameTrial, TrialData};
+ghost use Rattle.strip_words.specs.Shown.{gen_data, strs, texts, trial_data};
+
+use crate::WordsFault;
+use crate::command::{Command, CommandOption};
+use crate::number::number_of;
+use crate::reader::read;
+use crate::solve::{BOUNDS, NODES, TABLE, kind_of};
+use std::alloc::Global;
+use strip_kind::Kind;
+
+const GEN: Command = Command {
+    word: "gen",
+    operands: 3,
+    options: &[],
+};
+
+const TRIAL: Command = Command {
+    word: "trial",
+    operands: 3,
+    options: &[
+        CommandOption::Number(NODES),
+        CommandOption::Number(TABLE),
+        CommandOption::Choice(BOUNDS),
+    ],
+};
+
+/// A film that is made from a number.
+#[derive(Clone, Copy)]
+pub struct GenJob {
+    pub number: u64,
+    /// How many scenes it has, 1 to 200.
+    pub scenes: u64,
+    /// How many actors it has, 0 to 64.
+    pub actors: u64,
+}
+
+/// A film that is made from a number, and how it is solved.
+#[derive(Clone, Copy)]
+pub struct TrialJob {
+    pub film: GenJob,
+    /// The greatest number of lines, 1 to 16,777,216.
+    pub nodes: u64,
+    /// How many entries the table has, 64 to 4,194,304.
+    pub table: u64,
+    /// The static bound.
+    pub kind: Kind,
+}
+
+/// The film that the words behind `gen` name.
+pub(crate) fn gen_job(alloc: Global, later: &[String]) -> Result<GenJob, WordsFault>
+    ensures named { IfOk result (λ film. NameGen (codes "gen" ∷ texts later.now) (gen_data film)) }
+    ensures bad { IfErr result (λ e. e ≡ NoJob → (film : GenData) → ¬ NameGen (codes "gen" ∷ texts later.now) film) }
+{
+    let reading = read(alloc, &GEN, later)?;
+    let operands = reading.operands(alloc)?;
+    film_named(operands.as_slice())
+}
+
+/// The trial that the words behind `trial` name.
+pub(crate) fn trial_job(alloc: Global, later: &[String]) -> Result<TrialJob, WordsFault>
+    ensures named { IfOk result (λ job. NameTrial (codes "trial" ∷ texts later.now) (trial_data job)) }
+    ensures bad { IfErr result (λ e. e ≡ NoJob → (job : TrialData) → ¬ NameTrial (codes "trial" ∷ texts later.now) job) }
+{
+    let reading = read(alloc, &TRIAL, later)?;
+    let items = reading.items.as_slice();
+    let nodes = NODES.chosen(items)?;
+    let table = TABLE.chosen(items)?;
+    let kind = kind_of(BOUNDS.picked(items)?);
+    let operands = reading.operands(alloc)?;
+    let film = film_named(operands.as_slice())?;
+    Ok(TrialJob {
+        film,
+        nodes,
+        table,
+        kind,
+    })
+}
+
+/// The film that three operands name.
+fn film_named(operands: &[&str]) -> Result<GenJob, WordsFault>
+    requires { length operands.now ≡ 3 }
+    ensures named { IfOk result (λ film. NameFilm (strs operands.now) (gen_data film)) }
+    ensures bad { IfErr result (λ e. (film : GenData) → ¬ NameFilm (strs operands.now) film) }
+{
+    let number = number_of(operands[0], 0, u64::MAX).ok_or(WordsFault::BadWords)?;
+    let scenes = number_of(operands[1], 1, 200).ok_or(WordsFault::BadWords)?;
+    let actors = number_of(operands[2], 0, 64).ok_or(WordsFault::BadWords)?;
+    Ok(GenJob {
+        number,
+        scenes,
+        actors,
+    })
+}
