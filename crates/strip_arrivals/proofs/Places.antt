@@ -1,0 +1,237 @@
+-- The actors of a group by place.
+use Rattle.std.proofs.Common.{◌≡◌, ◌≢◌, ℕ, zero, suc, ◌+◌, ◌^◌, ◌<◌, ◌≤◌, ◌⊎◌, Bool, true, false, replicate, set, sum, get_or-set_same, get_or-set_other, cond, bit_and}
+use Rattle.std.proofs.Common.{◌&&◌, List, ◌∷◌, ◌++◌, Contains, get_or, slice_index, length, refl, sym, ap, ◌∙◌, subst, inl, inr, arith, length-append, pow_pos}
+use Rattle.std.proofs.Math.Seq.{get_or-append_seam}
+use Rattle.std.proofs.lemmas.Bool.{cases_lt, cases_eq, false≢true}
+use Rattle.std.proofs.lemmas.Grind.{get_or_default_zero}
+use Rattle.std.proofs.lemmas.List.{get_or-replicate, get_or_past, length-replicate}
+use Rattle.std.proofs.lemmas.List.Sums.{get_or-le-sum_by}
+use Rattle.std.proofs.lemmas.List.Kept.{AllPairs-from_increasing}
+use Rattle.std.proofs.lemmas.Nat.{or_lt, pow_below, le_or_l, and_le_l, and_le_r}
+use Rattle.strip_mask.specs.Set.{IsSet, LiesBelow, full, has, meet, members, size, union, with, without}
+use Rattle.strip_mask.proofs.ByMembers.{empty_from, has-empty, has-meet, has-with_same, has-with_other, has-without_same}
+use Rattle.strip_mask.proofs.ByMembers.{has-without_other, has_from_with, has_from_without, same_has, with-without, without_absent}
+use Rattle.strip_mask.proofs.Below.{full-zero, full-more, has_full}
+use Rattle.strip_mask.proofs.Members.{Contains-members, members_in, members_rise}
+use Rattle.strip_mask.specs.Set.{sum_over}
+use Rattle.strip_mask.specs.Sums.{sum_below}
+use Rattle.strip_mask.proofs.Sums.{sum_below_mono, sum_below-slice}
+use Rattle.strip_mask.proofs.Totals.{sum_over_within}
+use Rattle.strip_mask.proofs.Sizes.{length-members}
+use Rattle.strip_group.specs.Places.{actor_at, picked, pick}
+
+-- ---- tests
+
+pub refuted : (b : Bool) → (b ≡ true → ⊥) → b ≡ false
+refuted true not_so = absurd (not_so refl)
+refuted false not_so = refl
+
+pub same_test : (a b : Bool) → (a ≡ true → b ≡ true) → (b ≡ true → a ≡ true) → a ≡ b
+same_test true b there back = sym (there refl)
+same_test false true there back = back refl
+same_test false false there back = refl
+
+pub by_bit : (b : Bool) → (b ≡ true) ⊎ (b ≡ false)
+by_bit true = inl refl
+by_bit false = inr refl
+
+-- ---- sets of a few numbers, as masks of as many bits
+
+pub with_small : (n set i : ℕ) → set < 2 ^ n → i < n → with set i < 2 ^ n
+unfolding with union
+with_small n set i small lt = or_lt n set (2 ^ i) small (pow_below i n lt)
+
+pub one_small : (n i : ℕ) → i < n → with 0 i < 2 ^ n
+one_small n i lt = with_small n 0 i (pow_above n) lt
+  where
+    pow_above : (n : ℕ) → 0 < 2 ^ n
+    pow_above n = pow_pos n
+
+with_more : (set i : ℕ) → set ≤ with set i
+unfolding with union
+with_more set i = le_or_l set (2 ^ i)
+
+pub without_less : (set i : ℕ) → has set i ≡ true → without set i < set
+without_less set i there =
+    let most : without set i ≤ set = subst (λ (n : ℕ). without set i ≤ n) (with-without set i there) (with_more (without set i) i) in
+    elim (cases_eq (without set i) set) [
+      | inl same ↦ absurd (false≢true (sym (has-without_same set i) ∙ ap (λ (s : ℕ). has s i) same ∙ there))
+      | inr other ↦ omega (arith, most, other)
+    ]
+
+pub without_most : (set i : ℕ) → without set i ≤ set
+without_most set i = elim (by_bit (has set i)) [
+  | inl there ↦ (let less : without set i < set = without_less set i there in omega (arith, less))
+  | inr missing ↦ (let same : without set i ≡ set = without_absent set i missing in omega (arith, same))
+]
+
+pub full_small : (n most : ℕ) → n ≤ most → full n < 2 ^ most
+full_small zero most le = subst (λ (s : ℕ). s < 2 ^ most) (sym full-zero) (pow_pos most)
+full_small (suc n) most le =
+    let more : suc n ≡ n + 1 = omega arith in
+    subst (λ (s : ℕ). s < 2 ^ most) (sym (ap full more ∙ full-more n)) (with_small most (full n) n (full_small n most (omega (arith, le))) (omega (arith, le)))
+
+pub lies_small : (n set : ℕ) → LiesBelow n set → set < 2 ^ n
+unfolding meet
+lies_small n set lies =
+    let same : set ≡ bit_and set (full n) = same_has set (meet set (full n)) (λ i. kept (has set i) (has (full n) i) (λ there. has_full n i (lies i there)) ∙ sym
+    (has-meet set (full n) i)) in
+    omega (arith, same, and_le_r set (full n), full_small n n (omega arith))
+  where
+    kept : (a b : Bool) → (a ≡ true → b ≡ true) → a ≡ (a && b)
+    kept true b within = sym (within refl)
+    kept false b within = refl
+
+-- ---- the actor at a place
+
+-- of a turn over the group
+pub turn_at : (group i : ℕ) (done rest left : List ℕ) → done ++ rest ≡ members group → rest ≡ i ∷ left → (actor_at group (length done) ≡ i) × (length done < size group)
+turn_at group i done rest left all here =
+    let whole : done ++ i ∷ left ≡ members group = ap (λ (xs : List ℕ). done ++ xs) (sym here) ∙ all in
+    let long : length done + length (i ∷ left) ≡ size group = sym (length-append done (i ∷ left)) ∙ ap length whole ∙ length-members group in
+    (ap (λ (xs : List ℕ). get_or xs (length done) 0) (sym whole) ∙ get_or-append_seam done i left 0, omega (arith, long))
+
+pub actor_there : (group place : ℕ) → place < size group → has group (actor_at group place) ≡ true
+actor_there group place lt = members_in group place 0 (let long : length (members group) ≡ size group = length-members group in omega (arith, long, lt))
+
+pub place_of : (group i : ℕ) → IsSet group → has group i ≡ true → (place : ℕ) × (place < size group) × (actor_at group place ≡ i)
+place_of group i small there =
+    let found : Contains (members group) i = Contains-members group i small there in (
+      found.0,
+      (let long : length (members group) ≡ size group = length-members group in omega (arith, long, found.1)),
+      sym (get_or_default_zero
+          (members group) found.0 i found.1) ∙ found.2,
+    )
+
+pub places_apart : (group i j : ℕ) → i < size group → j < size group → i ≢ j → actor_at group i ≢ actor_at group j
+places_apart group i j here there other same =
+    let long : length (members group) ≡ size group = length-members group in
+    elim (cases_lt i j) [
+      | inl less ↦ (let rise : actor_at group i < actor_at group j = AllPairs-from_increasing (members group) (members_rise group) i j 0 less (omega
+          (arith, long, there)) in omega (arith, rise, same))
+      | inr more ↦ (let rise : actor_at group j < actor_at group i = AllPairs-from_increasing (members group) (members_rise group) j i 0 (omega (arith, more, other)) (omega
+          (arith, long, here)) in omega (arith, rise, same))
+    ]
+
+-- ---- the actors at the places of a set
+
+picked_with : (group set n : ℕ) → has set n ≡ true → picked group set (suc n) ≡ with (picked group set n) (actor_at group n)
+picked_with group set n there = ap (λ (b : Bool). cond {A = ℕ} b (with (picked group set n) (actor_at group n)) (picked group set n)) there
+
+picked_past : (group set n : ℕ) → has set n ≡ false → picked group set (suc n) ≡ picked group set n
+picked_past group set n missing = ap (λ (b : Bool). cond {A = ℕ} b (with (picked group set n) (actor_at group n)) (picked group set n)) missing
+
+has_from_picked : (group set n i : ℕ) → has (picked group set n) i ≡ true → (place : ℕ) × (place < n) × (has set place ≡ true) × (actor_at group place ≡ i)
+has_from_picked group set zero i there = absurd (false≢true (sym (has-empty i) ∙ there))
+has_from_picked group set (suc n) i there =
+    let ih : has (picked group set n) i ≡ true → (place : ℕ) × (place < suc n) × (has set place ≡ true) × (actor_at group place ≡ i)
+    = λ before. (let found = has_from_picked group set n i before in (found.0, omega (arith, found.1), found.2, found.3)) in
+    elim (by_bit (has set n)) [
+      | inl in_set ↦ elim (has_from_with (picked group set n) (actor_at group n) i (ap (λ (s : ℕ). has s i) (sym (picked_with group set n in_set)) ∙ there)) [
+        | inl is ↦ (n, omega arith, in_set, is)
+        | inr before ↦ ih before
+      ]
+      | inr out ↦ ih (ap (λ (s : ℕ). has s i) (sym (picked_past group set n out)) ∙ there)
+    ]
+
+has_picked : (group set n place : ℕ) → place < n → has set place ≡ true → has (picked group set n) (actor_at group place) ≡ true
+has_picked group set zero place lt there = absurd (omega (arith, lt))
+has_picked group set (suc n) place lt there = elim (cases_eq place n) [
+  | inl is ↦ ap (λ (s : ℕ). has s (actor_at group place)) (picked_with group set n (ap (has set) (sym is) ∙ there))
+      ∙ ap (λ (k : ℕ). has (with (picked group set n) (actor_at group n)) (actor_at group k)) is ∙ has-with_same (picked group set n) (actor_at group n)
+  | inr other ↦ (let before : has (picked group set n) (actor_at group place) ≡ true = has_picked group set n place (omega (arith, lt, other)) there in
+      elim (by_bit (has set n)) [
+        | inl in_set ↦ ap (λ (s : ℕ). has s (actor_at group place)) (picked_with group set n in_set) ∙ has_with (picked group set n) (actor_at group n)
+            (actor_at group place) before
+        | inr out ↦ ap (λ (s : ℕ). has s (actor_at group place)) (picked_past group set n out) ∙ before
+      ])
+]
+  where
+    has_with : (a i j : ℕ) → has a j ≡ true → has (with a i) j ≡ true
+    has_with a i j there = elim (cases_eq i j) [
+      | inl same ↦ subst (λ (k : ℕ). has (with a i) k ≡ true) same (has-with_same a i)
+      | inr other ↦ has-with_other a i j other ∙ there
+    ]
+
+pub has_from_pick : (group set i : ℕ) → has (pick group set) i ≡ true → (place : ℕ) × (place < size group) × (has set place ≡ true) × (actor_at group place ≡ i)
+has_from_pick group set i there = has_from_picked group set (size group) i there
+
+pub has_pick : (group set place : ℕ) → place < size group → has set place ≡ true → has (pick group set) (actor_at group place) ≡ true
+has_pick group set place lt there = has_picked group set (size group) place lt there
+
+pub pick-empty : (group : ℕ) → pick group 0 ≡ 0
+pick-empty group = empty_from (pick group 0) (λ i. refuted (has (pick group 0) i) (λ there. (let found = has_from_pick group 0 i there in false≢true (sym (has-empty found.0)
+    ∙ found.2))))
+
+pub pick-full : (group : ℕ) → IsSet group → pick group (full (size group)) ≡ group
+pick-full group small = same_has (pick group (full (size group))) group (λ i. same_test (has (pick group (full (size group))) i) (has group i)
+    (λ there. (let found = has_from_pick group (full (size group)) i there in ap (has group) (sym found.3) ∙ actor_there group found.0 found.1))
+    (λ there. (let found = place_of group i small there in
+    subst (λ (k : ℕ). has (pick group (full (size group))) k ≡ true) found.2 (has_pick group (full (size group)) found.0 found.1 (has_full (size group) found.0 found.1)))))
+
+pub pick-one : (group place : ℕ) → place < size group → pick group (with 0 place) ≡ with 0 (actor_at group place)
+pick-one group place lt = same_has (pick group (with 0 place)) (with 0 (actor_at group place)) (λ i. same_test (has (pick group (with 0 place)) i) (has (with 0
+    (actor_at group place)) i)
+    (λ there. (let found = has_from_pick group (with 0 place) i there in elim (has_from_with 0 place found.0 found.2) [
+      | inl is ↦ subst (λ (k : ℕ). has (with 0 (actor_at group place)) k ≡ true) (ap (actor_at group) is ∙ found.3) (has-with_same 0 (actor_at group place))
+      | inr none ↦ absurd (false≢true (sym (has-empty found.0) ∙ none))
+    ]))
+    (λ there. elim (has_from_with 0 (actor_at group place) i there) [
+      | inl is ↦ subst (λ (k : ℕ). has (pick group (with 0 place)) k ≡ true) is (has_pick group (with 0 place) place lt (has-with_same 0 place))
+      | inr none ↦ absurd (false≢true (sym (has-empty i) ∙ none))
+    ]))
+
+pub pick-without : (group set place : ℕ) → place < size group → pick group (without set place) ≡ without (pick group set) (actor_at group place)
+pick-without group set place lt = same_has (pick group (without set place)) (without (pick group set) (actor_at group place)) (λ i. same_test (has (pick group
+    (without set place)) i) (has (without (pick group set) (actor_at group place)) i)
+    (λ there. (let found = has_from_pick group (without set place) i there in
+    let parts = has_from_without set place found.0 found.2 in
+    subst (λ (k : ℕ). has (without (pick group set) (actor_at group place)) k ≡ true) found.3
+    (has-without_other (pick group set) (actor_at group place) (actor_at group found.0) (places_apart group place found.0 lt found.1 parts.0)
+    ∙ has_pick group set found.0 found.1 parts.1)))
+    (λ there. (let parts = has_from_without (pick group set) (actor_at group place) i there in
+    let found = has_from_pick group set i parts.1 in
+    subst (λ (k : ℕ). has (pick group (without set place)) k ≡ true) found.3
+    (has_pick group (without set place) found.0 found.1 (has-without_other set place found.0 (λ same. parts.0 (ap (actor_at group) same ∙ found.3)) ∙ found.2)))))
+
+-- ---- numbers not yet written
+
+pub zeros : (n i : ℕ) → slice_index (replicate {A = ℕ} n 0) i ≡ 0
+zeros n i = elim (cases_lt i n) [
+  | inl lt ↦ get_or-replicate n i 0 0 lt
+  | inr past ↦ get_or_past (replicate {A = ℕ} n 0) i 0 (omega (arith, length-replicate {A = ℕ} n 0, past))
+]
+
+-- a list of which the places below one are what a function says, when this one is written
+pub written : (xs : List ℕ) (i x : ℕ) (f : ℕ → ℕ) → i < length xs → ((k : ℕ) → k < i → slice_index xs k ≡ f k) → x ≡ f i → (k : ℕ) → k < i + 1 → slice_index (set xs i x) k ≡ f k
+written xs i x f within before here k lt = elim (cases_eq k i) [
+  | inl is ↦ subst (λ (j : ℕ). slice_index (set xs i x) j ≡ f j) (sym is) (get_or-set_same xs i x 0 within ∙ here)
+  | inr other ↦ get_or-set_other xs i k x 0 other ∙ before k (omega (arith, lt, other))
+]
+
+pub written_small : (xs : List ℕ) (i x most : ℕ) → i < length xs → ((k : ℕ) → slice_index xs k ≤ most) → x ≤ most → (k : ℕ) → slice_index (set xs i x) k ≤ most
+written_small xs i x most within before small k = elim (cases_eq k i) [
+  | inl is ↦ subst (λ (j : ℕ). slice_index (set xs i x) j ≤ most) (sym is) (omega (arith, get_or-set_same xs i x 0 within, small))
+  | inr other ↦ omega (arith, get_or-set_other xs i k x 0 other, before k)
+]
+
+pub slice_le_sum : (xs : List ℕ) (i : ℕ) → slice_index xs i ≤ sum xs
+slice_le_sum xs i = elim (cases_lt i (length xs)) [
+  | inl lt ↦ get_or-le-sum_by (λ x. x) xs i 0 lt
+  | inr past ↦ omega (arith, get_or_past xs i 0 past)
+]
+
+pub meet_most : (a b : ℕ) → meet a b ≤ a
+unfolding meet
+meet_most a b = and_le_l a b
+
+-- the days of a set are within those of all scenes
+pub sum_over_le_all : (v : List ℕ) (a : ℕ) → length v ≤ 64 → sum_over v a ≤ sum v
+sum_over_le_all v a long =
+    let part : sum_below (length v) (λ i. cond (has a i) (slice_index v i) 0) ≤ sum_below (length v) (slice_index v)
+    = sum_below_mono (length v) (λ i. cond (has a i) (slice_index v i) 0) (slice_index v) (λ i _. within (has a i) (slice_index v i)) in
+    omega (arith, sum_over_within v a (length v) long (omega arith), part, sum_below-slice v)
+  where
+    within : (b : Bool) (x : ℕ) → cond {A = ℕ} b x 0 ≤ x
+    within true x = omega arith
+    within false x = omega arith

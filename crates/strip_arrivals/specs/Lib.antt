@@ -1,0 +1,4 @@
+pub mod Along
+pub mod Arrivals
+pub mod Company
+pub mod Gross
