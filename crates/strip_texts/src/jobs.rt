@@ -143,7 +143,7 @@ fn is_plain_job(job: &Job, file: &str) -> bool {
                 && job.kind == Kind::Pairs
                 && !job.proof
         }
-        Job::Check(_) | Job::Convert(_) => false,
+        _ => false,
     }
 }
 
@@ -169,7 +169,7 @@ fn is_job_of(job: &Job, row: &Row) -> bool {
                 && job.kind == row.kind
                 && job.proof == row.proof
         }
-        Job::Check(_) | Job::Convert(_) => false,
+        _ => false,
     }
 }
 
@@ -177,7 +177,8 @@ fn is_job_of(job: &Job, row: &Row) -> bool {
 #[test]
 fn the_files_of_a_plan(rt: HostRuntime) -> Result<(), Fail> {
     let alloc = rt.alloc();
-    for words in [["check", "f", "p"], ["convert", "f", "p"]] {
+    for command in ["check", "convert", "dood", "sheet"] {
+        let words = [command, "f", "p"];
         let words = words_of(alloc, &words)?;
         let job = job(alloc, &words)?;
         assert!(rt; is_of_plan(&job, "f", "p"));
@@ -187,9 +188,9 @@ fn the_files_of_a_plan(rt: HostRuntime) -> Result<(), Fail> {
 
 fn is_of_plan(job: &Job, film: &str, plan: &str) -> bool {
     match job {
-        Job::Solve(_) => false,
-        Job::Check(files) | Job::Convert(files) => {
+        Job::Check(files) | Job::Convert(files) | Job::Dood(files) | Job::Sheet(files) => {
             files.film.as_str() == film && files.plan.as_str() == plan
         }
+        _ => false,
     }
 }
