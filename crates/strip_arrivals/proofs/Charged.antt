@@ -1,25 +1,26 @@
 -- What the company's numbers say of an event, and who shares a scene with whom.
-use Rattle.std.proofs.Common.{◌≡◌, ◌≢◌, ℕ, ◌+◌, ◌*◌, ◌-◌, ◌^◌, ◌<◌, Bool, true, false, not, ◌&&◌, cond, List, [], eqb, filter, slice_index, slice_index_or, refl, sym, ap, ◌∙◌, subst, inl, inr, arith}
-use Rattle.std.proofs.lemmas.Bool.{and_parts, or_right, false≢true, false_from_ne_true}
+use Rattle.std.proofs.Common.{◌≡◌, ◌≢◌, ℕ, ◌+◌, ◌*◌, ◌-◌, ◌^◌, ◌<◌, ◌≤◌, Bool, true, false, not, ◌&&◌, cond, List, [], eqb, filter, slice_index, slice_index_or, refl, sym, ap, ◌∙◌, subst, inl, inr, arith, pow_pos}
+use Rattle.std.proofs.lemmas.Bool.{and_parts, or_right, false≢true, false_from_ne_true, ne_eqb}
 use Rattle.strip_mask.specs.Set.{IsSet, has, meet, members, minus, size, sum_over, with}
 use Rattle.strip_mask.specs.Sums.{sum_below}
 use Rattle.strip_mask.proofs.ByMembers.{empty_from, has-meet, has-minus, has-with, has-with_same, same_has, without-with}
 use Rattle.strip_mask.proofs.Below.{and_true}
 use Rattle.strip_mask.proofs.Members.{Contains-members, has_from_members}
 use Rattle.strip_mask.proofs.Sums.{sum_below-ext}
-use Rattle.strip_mask.proofs.Totals.{sum_over-minus}
+use Rattle.strip_mask.proofs.Totals.{sum_over-minus, sum_over_mono}
 use Rattle.strip_group.specs.Group.{GroupData}
 use Rattle.strip_group.specs.Places.{actor_at, pick}
 use Rattle.strip_arrivals.specs.Arrivals.{actors_of, is_open, is_without, leaves, mates}
-use Rattle.strip_arrivals.specs.Company.{AreWeights, IsCompany, IsStage, latest, listed, state_of}
+use Rattle.strip_arrivals.specs.Company.{IsCompany, IsIdle, IsStage, latest, listed, state_of, uses, weight}
 use Rattle.strip_arrivals.specs.Gross.{gross_charge, gross_price}
 use Rattle.strip_arrivals.specs.declared.company.Company.{Company}
 use Rattle.strip_arrivals.specs.declared.stage.Here.{Here}
 use Rattle.strip_arrivals.specs.declared.stage.Here.TheVariants.{Nobody, One, Two}
 use Rattle.strip_arrivals.specs.declared.stage.Stage.{Stage}
+use Rattle.strip_arrivals.specs.declared.stages.Classes.{Classes}
 use Rattle.strip_arrivals.proofs.Lists.{contains_filter, contains_from_filter}
-use Rattle.strip_arrivals.proofs.Casts.{cast_has, has_cast, nobody, without_one}
-use Rattle.strip_arrivals.proofs.Places.{by_bit, with_small, without_less}
+use Rattle.strip_arrivals.proofs.Casts.{cast_has, has_cast, is_none, nobody, without_one}
+use Rattle.strip_arrivals.proofs.Places.{by_bit, pick-empty, with_small, without_less}
 use Rattle.strip_arrivals.proofs.Charges.{AreBlocked, AreClosed, alike, at_price, charge_is, closed, closed_in, none_expected, one_more}
 
 -- the one who came last is here
@@ -52,21 +53,64 @@ module _ (film : GroupData) (set actors actor with_them plays both : ℕ) (small
       ∙ and_true (has (slice_index film.casts found.0) actor) (not (is_without film actors found.0) && has set found.0) found.2
       (and_true (not (is_without film actors found.0)) (has set found.0) parts.1 (has_from_members set found.0 parts.0))))
 
-module _ (film : GroupData) (company : Company) (known : IsCompany film company) (stage : Stage) (staged : IsStage company.newcomers.0 stage) (places : ℕ) (lt : places < 2 ^ size company.group.0) where
+module _ {sets : ℕ} (film : GroupData) (company : Company sets) (known : IsCompany film company) (stage : Stage) (staged : IsStage company.newcomers.0 stage) (places : ℕ) (lt : places < 2 ^ size company.group.0) where
   abbrev days_of : ℕ → ℕ → ℕ
   days_of kind sets = slice_index (slice_index_or company.days kind []) sets
 
+  abbrev ideal : ℕ → ℕ
+  ideal kind = weight film company stage (pick company.group.0 places) (slice_index company.kinds kind)
+
+  -- what is paid for the classes that are used is paid for all
+  pub all_classes : (classes : Classes) (weights : List ℕ) (test : ℕ → Bool) (days : ℕ → ℕ)
+      → ((kind : ℕ) → kind < 4 → uses classes kind ≡ true → slice_index weights kind ≡ ideal kind)
+      → ((kind : ℕ) → kind < 4 → uses classes kind ≡ false → slice_index weights kind ≡ 0)
+      → ((kind : ℕ) → kind < 4 → uses classes kind ≡ false → IsIdle company (actors_of (listed stage.here)) kind)
+      → ((kind : ℕ) → kind < 4 → days kind ≤ days_of kind places)
+      → sum_below 4 (λ kind. cond {A = ℕ} (test kind) (slice_index weights kind) 0 * days kind) ≡ sum_below 4 (λ kind. cond {A = ℕ} (test kind) (ideal kind) 0 * days kind)
+  all_classes classes weights test days each none idle fewer =
+      sum_below-ext 4 (λ kind. cond {A = ℕ} (test kind) (slice_index weights kind) 0 * days kind) (λ kind. cond {A = ℕ} (test kind) (ideal kind) 0 * days kind)
+      (λ kind below. elim (by_bit (uses classes kind)) [
+        | inl used ↦ ap (λ (n : ℕ). cond {A = ℕ} (test kind) n 0 * days kind) (each kind below used)
+        | inr unused ↦ elim (idle kind below unused) [
+          | inl absent ↦ ap (λ (n : ℕ). cond {A = ℕ} (test kind) n 0 * days kind) (none kind below unused
+              ∙ sym (ap (λ b. cond {A = ℕ} b (gross_price film company.set.0 company.group.0 (state_of stage (pick company.group.0 places)) (slice_index company.kinds kind)) 0)
+              (ne_eqb (minus (slice_index company.kinds kind) (actors_of (listed stage.here))) 0 absent)))
+          | inr no_days ↦ (let zero_days : days kind ≡ 0 = omega (arith, fewer kind below, no_more_days kind below, no_days) in
+              ap (λ (n : ℕ). cond {A = ℕ} (test kind) (slice_index weights kind) 0 * n) zero_days ∙ by_none (cond {A = ℕ} (test kind) (slice_index weights kind) 0)
+              ∙ sym (ap (λ (n : ℕ). cond {A = ℕ} (test kind) (ideal kind) 0 * n) zero_days ∙ by_none (cond {A = ℕ} (test kind) (ideal kind) 0)))
+        ]
+      ])
+    where
+      by_none : (n : ℕ) → n * 0 ≡ 0
+      by_none n = omega arith
+
+      -- no more than where nobody has left
+      no_more_days : (kind : ℕ) → kind < 4 → days_of kind places ≤ days_of kind 0
+      no_more_days kind below =
+          let nobody_left : 0 < 2 ^ size company.group.0 = pow_pos (size company.group.0) in
+          omega (
+            arith,
+            known.days kind places below lt,
+            known.days kind 0 below nobody_left,
+            sum_over_mono film.days (meet (slice_index company.left places) (known.scenes kind)) (meet (slice_index company.left 0) (known.scenes kind)) (λ scene inside.
+                let both = and_parts (has (slice_index company.left places) scene) (has (known.scenes kind) scene) (sym (has-meet (slice_index company.left places) (known.scenes kind) scene) ∙ inside) in
+                let there = and_parts (has company.set.0 scene) (is_without film (pick company.group.0 places) scene) (sym (known.left places scene lt) ∙ both.0) in
+                has-meet (slice_index company.left 0) (known.scenes kind) scene
+                ∙ and_true (has (slice_index company.left 0) scene) (has (known.scenes kind) scene)
+                (known.left 0 scene nobody_left ∙ and_true (has company.set.0 scene) (is_without film (pick company.group.0 0) scene) there.0
+                (ap (λ (s : ℕ). is_without film s scene) (pick-empty company.group.0) ∙ is_none film 0 scene (λ i works none. nobody i none))) both.1),
+          )
+
   -- the weights are the prices
-  weighed : (weights : List ℕ) → AreWeights film company stage places weights → (actor kind scene : ℕ) → kind < 4 → has (known.scenes kind) scene ≡ true
+  weighed : (actor kind scene : ℕ) → kind < 4 → has (known.scenes kind) scene ≡ true
       → (has company.set.0 scene && is_without film (pick company.group.0 places) scene) ≡ true → has (slice_index film.casts scene) actor ≡ true
       → ((scene : ℕ) → closed film company known stage staged places lt actor scene ≡ true → is_without film stage.coming.0 scene ≡ true)
-      → at_price film company known stage staged places lt actor scene ≡ slice_index weights kind
-  weighed weights are actor kind scene below of_class there works fine =
+      → at_price film company known stage staged places lt actor scene ≡ ideal kind
+  weighed actor kind scene below of_class there works fine =
       let parts = and_parts (has company.set.0 scene) (is_without film (pick company.group.0 places) scene) there in
       alike film company known stage staged places lt actor kind scene below of_class parts.0 parts.1 works
       (λ unpaid. fine scene (and_true (has company.set.0 scene) (is_open film (state_of stage (pick company.group.0 places)) scene && has (slice_index film.casts scene) actor) parts.0
       (and_true (is_open film (state_of stage (pick company.group.0 places)) scene) (has (slice_index film.casts scene) actor) unpaid works)))
-      ∙ sym (are.each kind below)
 
   module _ (place : ℕ) (within : place < size company.group.0) (missing : has places place ≡ false) where
     abbrev actor : ℕ
@@ -146,31 +190,31 @@ module _ (film : GroupData) (company : Company) (known : IsCompany film company)
         kept true false false = refl
         kept false b c = refl
 
-    pub leaving_charge : (blocked : ℕ) (weights : List ℕ) → AreBlocked film company known stage staged places lt blocked → AreWeights film company stage places weights
+    pub leaving_charge : (blocked : ℕ) → AreBlocked film company known stage staged places lt blocked
         → meet (minus (slice_index company.left places) (slice_index company.left more)) blocked ≡ 0
-        → sum_below 4 (λ kind. slice_index weights kind * (days_of kind places - days_of kind more))
+        → sum_below 4 (λ kind. ideal kind * (days_of kind places - days_of kind more))
         ≡ gross_charge film company.set.0 company.group.0 (state_of stage (pick company.group.0 places)) (leaves actor)
-    leaving_charge blocked weights are_blocked are none =
+    leaving_charge blocked are_blocked none =
         let chosen : ℕ = minus (slice_index company.left places) (slice_index company.left more) in
-        sum_below-ext 4 (λ kind. slice_index weights kind * (days_of kind places - days_of kind more)) (λ kind. slice_index weights kind * sum_over film.days (meet chosen (known.scenes kind)))
+        sum_below-ext 4 (λ kind. ideal kind * (days_of kind places - days_of kind more)) (λ kind. ideal kind * sum_over film.days (meet chosen (known.scenes kind)))
         (λ kind below. let closing : days_of kind places - days_of kind more ≡ sum_over film.days (meet chosen (known.scenes kind)) = omega (arith, split_days kind below) in
-        ap (λ (n : ℕ). slice_index weights kind * n) closing)
-        ∙ charge_is film company known stage staged places lt actor chosen (slice_index weights) (closed_in film company known stage staged places lt actor chosen leaving_closes)
+        ap (λ (n : ℕ). ideal kind * n) closing)
+        ∙ charge_is film company known stage staged places lt actor chosen ideal (closed_in film company known stage staged places lt actor chosen leaving_closes)
         (λ kind scene below inside.
         let both = and_parts (has chosen scene) (has (known.scenes kind) scene) (sym (has-meet chosen (known.scenes kind) scene) ∙ inside) in
         let parts = and_parts (has company.set.0 scene && is_without film (pick company.group.0 places) scene) (has (slice_index film.casts scene) actor) (sym (leaving_closes scene) ∙ both.0) in
-        weighed weights are actor kind scene below both.1 parts.0 parts.1 (none_expected film company known stage staged places lt actor chosen blocked leaving_closes are_blocked none))
+        weighed actor kind scene below both.1 parts.0 parts.1 (none_expected film company known stage staged places lt actor chosen blocked leaving_closes are_blocked none))
 
   module _ (actor plays : ℕ) (newcomer : has company.newcomers.0 actor ≡ true) (works : (scene : ℕ) → has plays scene ≡ has (slice_index film.casts scene) actor) where
     pub going_closes : AreClosed film company known stage staged places lt actor (meet (slice_index company.left places) plays)
     going_closes scene = has-meet (slice_index company.left places) plays scene ∙ (λ i. known.left places scene lt i && works scene i)
 
-    pub going_charge : (blocked : ℕ) (weights : List ℕ) → AreBlocked film company known stage staged places lt blocked → AreWeights film company stage places weights
+    pub going_charge : (blocked : ℕ) → AreBlocked film company known stage staged places lt blocked
         → meet (meet (slice_index company.left places) plays) blocked ≡ 0
-        → sum_below 4 (λ kind. cond {A = ℕ} (has (slice_index company.kinds kind) actor) (slice_index weights kind) 0 * days_of kind places)
+        → sum_below 4 (λ kind. cond {A = ℕ} (has (slice_index company.kinds kind) actor) (ideal kind) 0 * days_of kind places)
         ≡ gross_charge film company.set.0 company.group.0 (state_of stage (pick company.group.0 places)) (leaves actor)
-    going_charge blocked weights are_blocked are none =
-        let rate : ℕ → ℕ = λ kind. cond {A = ℕ} (has (slice_index company.kinds kind) actor) (slice_index weights kind) 0 in
+    going_charge blocked are_blocked none =
+        let rate : ℕ → ℕ = λ kind. cond {A = ℕ} (has (slice_index company.kinds kind) actor) (ideal kind) 0 in
         let before : ℕ = slice_index company.left places in
         sum_below-ext 4 (λ kind. rate kind * days_of kind places) (λ kind. rate kind * sum_over film.days (meet before (known.scenes kind)))
         (λ kind below. ap (λ (n : ℕ). rate kind * n) (known.days kind places below lt))
@@ -181,12 +225,12 @@ module _ (film : GroupData) (company : Company) (known : IsCompany film company)
         let there : (has company.set.0 scene && is_without film (pick company.group.0 places) scene) ≡ true = sym (known.left places scene lt) ∙ both.0 in
         let same : has (slice_index film.casts scene) actor ≡ has (slice_index company.kinds kind) actor = known.classes.told kind scene actor below both.1 newcomer in
         elim (by_bit (has (slice_index film.casts scene) actor)) [
-          | inl at_work ↦ weighed weights are actor kind scene below both.1 there at_work
+          | inl at_work ↦ weighed actor kind scene below both.1 there at_work
               (none_expected film company known stage staged places lt actor (meet before plays) blocked going_closes are_blocked none)
-              ∙ sym (ap (λ b. cond {A = ℕ} b (slice_index weights kind) 0) (sym same ∙ at_work))
+              ∙ sym (ap (λ b. cond {A = ℕ} b (ideal kind) 0) (sym same ∙ at_work))
           | inr off ↦ ap (λ b. cond {A = ℕ} b (gross_price film company.set.0 company.group.0 (state_of stage (pick company.group.0 places)) (slice_index film.casts scene)) 0)
               (nothing (has company.set.0 scene) (is_open film (state_of stage (pick company.group.0 places)) scene) (has (slice_index film.casts scene) actor) off)
-              ∙ sym (ap (λ b. cond {A = ℕ} b (slice_index weights kind) 0) (sym same ∙ off))
+              ∙ sym (ap (λ b. cond {A = ℕ} b (ideal kind) 0) (sym same ∙ off))
         ])
       where
         nothing : (a b c : Bool) → c ≡ false → (a && (b && c)) ≡ false

@@ -4,7 +4,7 @@ use Rattle.std.specs.List.{list_all}
 use Rattle.std.proofs.lemmas.Bool.{and_parts, cases_eq, eq-eqb, eqb-true, false≢true, false_from_ne_true}
 use Rattle.std.proofs.lemmas.List.Elements.{All-contains_itself, All-weaker, Contains-append_cases}
 use Rattle.std.proofs.lemmas.List.Sums.{list_all-from_AllPass}
-use Rattle.strip_mask.specs.Set.{has, meet, members, minus, size, sum_over, union, with}
+use Rattle.strip_mask.specs.Set.{IsSet, has, meet, members, minus, size, sum_over, union, with}
 use Rattle.strip_mask.specs.Sums.{sum_below}
 use Rattle.strip_mask.proofs.ByMembers.{IsSet-minus, below_width, empty_from, has-empty, has-meet, has-minus, has-union, has-with_same, has_from_minus, has_from_union, same_has, without-with}
 use Rattle.strip_mask.proofs.Below.{LiesBelow-full, and_true, has_full}
@@ -14,7 +14,7 @@ use Rattle.strip_mask.proofs.Sums.{sum_below-ext}
 use Rattle.strip_mask.proofs.Totals.{sum_over-minus}
 use Rattle.strip_group.specs.Group.{GroupData}
 use Rattle.strip_group.specs.Places.{actor_at, pick}
-use Rattle.strip_arrivals.specs.Arrivals.{Event, IsOver, StateData, actors_of, allowed, comes, events, events_left, goes, is_allowed, is_open, is_without, leaves, mates, open_scenes}
+use Rattle.strip_arrivals.specs.Arrivals.{Event, IsOver, StateData, actors_of, comes, events, events_left, goes, is_allowed, is_open, is_without, leaves, mates, open_scenes}
 use Rattle.strip_arrivals.specs.Company.{AreMates, IsAtEnd, IsCompany, IsStage, IsTried, IsUntried, NextOf, listed, next_event, state_of, weight}
 use Rattle.strip_arrivals.specs.Gross.{IsBest, gross_charge, gross_price}
 use Rattle.strip_arrivals.specs.declared.company.Company.{Company}
@@ -62,7 +62,7 @@ open_parts film left gone scene none = (
     last true = refl
     last false = refl
 
-module _ (film : GroupData) (company : Company) (known : IsCompany film company) (stage : Stage) (staged : IsStage company.newcomers.0 stage) (places : ℕ) (lt : places < 2 ^ size company.group.0) where
+module _ {sets : ℕ} (film : GroupData) (company : Company sets) (known : IsCompany film company) (stage : Stage) (staged : IsStage company.newcomers.0 stage) (places : ℕ) (lt : places < 2 ^ size company.group.0) where
   abbrev pub set : ℕ
   set = company.set.0
 
@@ -250,17 +250,6 @@ module _ (film : GroupData) (company : Company) (known : IsCompany film company)
       pick-split company.group.0 (with places place) place within (has-with_same places place)
       ∙ ap (λ (s : ℕ). with (pick company.group.0 s) (actor_at company.group.0 place)) (without-with places place missing)
 
-  -- who has left can't leave
-  pub cannot_leave : (place : ℕ) → place < size company.group.0 → has places place ≡ true
-      → Contains (allowed film company.set.0 company.group.0 (state_of stage (pick company.group.0 places))) (leaves (actor_at company.group.0 place)) → ⊥
-  cannot_leave place within has_left there =
-      let found = contains_from_filter (is_allowed film company.set.0 (state_of stage (pick company.group.0 places))) (events company.group.0 (state_of stage (pick company.group.0 places)))
-      (leaves (actor_at company.group.0 place)) there in
-      let stays = by_kind film company.set.0 company.group.0 known.small (state_of stage (pick company.group.0 places)) (leaves (actor_at company.group.0 place))
-      (λ e. is_leaving e ≡ true → has (minus company.group.0 (pick company.group.0 places)) (leaver e) ≡ true) found.0
-      (λ actor expected is. absurd (false≢true is)) (λ actor stays is. stays) (λ actor here is. absurd (false≢true is)) refl in
-      false≢true (sym (has_from_minus company.group.0 (pick company.group.0 places) (actor_at company.group.0 place) stays).1 ∙ has_pick company.group.0 places place within has_left)
-
   -- ---- what is tried
 
   pub next_more : (done : List ℕ) (actor : ℕ) (other : Event) → NextOf stage (done ++ actor ∷ []) other → NextOf stage done other ⊎ (next_event stage actor ≡ other)
@@ -272,31 +261,42 @@ module _ (film : GroupData) (company : Company) (known : IsCompany film company)
     ]
   ]
 
-  pub tried_more : (place : ℕ) (other : Event) → IsTried company stage (place + 1) other → IsTried company stage place other ⊎ (leaves (actor_at company.group.0 place) ≡ other)
-  tried_more place other tried = elim tried [
+  pub tried_more : (done : List ℕ) (place : ℕ) (other : Event) → IsTried company stage (done ++ place ∷ []) other → IsTried company stage done other ⊎ (leaves (actor_at company.group.0 place) ≡ other)
+  tried_more done place other tried = elim tried [
     | inl next ↦ inl (inl next)
-    | inr by ↦ elim (cases_eq by.0 place) [
-      | inl is ↦ inr (ap (λ (p : ℕ). leaves (actor_at company.group.0 p)) (sym is) ∙ by.2)
-      | inr different ↦ inl (inr (by.0, omega (arith, by.1, different), by.2))
+    | inr by ↦ elim (Contains-append_cases done (place ∷ []) by.0 by.1) [
+      | inl before ↦ inl (inr (by.0, before, by.2))
+      | inr last ↦ elim (contains_cases place [] by.0 last) [
+        | inl same ↦ inr (ap (λ (p : ℕ). leaves (actor_at company.group.0 p)) same ∙ by.2)
+        | inr none ↦ absurd (contains_none by.0 none)
+      ]
     ]
   ]
 
-  pub none_left : (other : Event) → IsTried company stage 0 other → NextOf stage (members (minus company.newcomers.0 stage.gone.0)) other
+  pub none_left : (other : Event) → IsTried company stage [] other → NextOf stage (members (minus company.newcomers.0 stage.gone.0)) other
   none_left other tried = elim tried [
     | inl next ↦ next
-    | inr by ↦ absurd (omega (arith, by.1))
+    | inr by ↦ absurd (contains_none by.0 by.1)
   ]
 
   -- all that can happen is tried
-  pub whole : (event : Event) → Contains (events company.group.0 (state_of stage (pick company.group.0 places))) event → IsTried company stage (size company.group.0) event
-  whole event there = by_kind film company.set.0 company.group.0 known.small (state_of stage (pick company.group.0 places)) event (IsTried company stage (size company.group.0)) there
+  pub whole : (event : Event) → Contains (events company.group.0 (state_of stage (pick company.group.0 places))) event → IsTried company stage (members (minus company.all places)) event
+  whole event there = by_kind film company.set.0 company.group.0 known.small (state_of stage (pick company.group.0 places)) event (IsTried company stage (members (minus company.all places))) there
       (λ actor expected. inl (
         actor,
         next_one actor (staged.whole actor ∙ ap (λ b. b || (has (actors_of (listed stage.here)) actor || has stage.gone.0 actor)) expected) (staged.not_both actor expected).1,
         ap (λ b. cond b (comes actor) (goes actor)) expected,
       ))
       (λ actor stays. let parts = has_from_minus company.group.0 (pick company.group.0 places) actor stays in
-      let found = place_of company.group.0 actor known.small parts.0 in inr (found.0, found.1, ap leaves found.2))
+      let found = place_of company.group.0 actor known.small parts.0 in
+      let missing : has places found.0 ≡ false = false_from_ne_true (has places found.0) (λ has_left.
+      false≢true (sym parts.1 ∙ ap (has (pick company.group.0 places)) (sym found.2) ∙ has_pick company.group.0 places found.0 found.1 has_left)) in
+      inr (
+        found.0,
+        Contains-members (minus company.all places) found.0 (IsSet-minus company.all places small_all) (has-minus company.all places found.0
+            ∙ (λ i. (ap (λ (s : ℕ). has s found.0) known.all ∙ has_full (size company.group.0) found.0 found.1) i && not (missing i))),
+        ap leaves found.2,
+      ))
       (λ actor here. let there : has (actors_of (listed stage.here)) actor ≡ true = has_listed (listed stage.here) actor here in
       inl (
         actor,
@@ -304,6 +304,9 @@ module _ (film : GroupData) (company : Company) (known : IsCompany film company)
         ap (λ b. cond b (comes actor) (goes actor)) (false_from_ne_true (has stage.coming.0 actor) (λ expected. false≢true (sym (staged.not_both actor expected).0 ∙ there))),
       ))
     where
+      small_all : IsSet company.all
+      small_all = omega (arith, known.all_within, known.most)
+
       next_one : (actor : ℕ) → has company.newcomers.0 actor ≡ true → has stage.gone.0 actor ≡ false → Contains (members (minus company.newcomers.0 stage.gone.0)) actor
       next_one actor newcomer stays = Contains-members (minus company.newcomers.0 stage.gone.0) actor (IsSet-minus company.newcomers.0 stage.gone.0 known.small_newcomers)
           (has-minus company.newcomers.0 stage.gone.0 actor ∙ (λ i. newcomer i && not (stays i)))

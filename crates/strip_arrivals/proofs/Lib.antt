@@ -4,11 +4,11 @@ mod Casts
 mod Price
 mod Open
 mod Prefix
-mod Along
+pub mod Along
 mod Runs
 mod Orders
 mod Alone
-mod Adds
+pub mod Adds
 mod Each
 mod Small
 mod Gross
@@ -19,3 +19,5 @@ mod Charges
 mod Charged
 mod Sets
 mod Rows
+mod Turns
+mod Terms

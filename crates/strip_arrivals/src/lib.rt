@@ -3,8 +3,6 @@
 #![tactic(auto)]
 
 mod company;
-#[cfg(test)]
-mod films;
 pub mod laws;
 mod stage;
 mod stages;

@@ -1,8 +1,8 @@
 // Where the newcomers are.
 ghost use Rattle.std.specs.Prelude.{◌≡◌, ℕ, ◌+◌, ◌≤◌, ◌<◌, ◌++◌, ◌==◌, not, true, false, ◌∷◌, [], filter, length};
 ghost use Rattle.strip_mask.specs.Set.{IsSet, LiesBelow, has, size};
-ghost use Rattle.strip_arrivals.specs.Arrivals.{actors_of, after, at_first};
-ghost use Rattle.strip_arrivals.specs.Company.{IsStage, latest, left_to_newcomers, listed, next_event, state_of};
+ghost use Rattle.strip_arrivals.specs.Arrivals.{actors_of, after};
+ghost use Rattle.strip_arrivals.specs.Company.{IsStage, IsStageAfter, latest, listed, next_event, state_of};
 
 use strip_mask::Mask;
 
@@ -99,7 +99,7 @@ impl Stage {
     /// All are still to come.
     pub(crate) fn first(newcomers: Mask) -> Stage
         requires few { size newcomers.0 ≤ 2 }
-        ensures first { state_of result 0 ≡ at_first newcomers.0 }
+        ensures first { IsStageAfter newcomers.0 [] result }
         ensures stage { IsStage newcomers.0 result }
     {
         Stage {
@@ -117,7 +117,6 @@ impl Stage {
         requires here { has self.gone.0 actor ≡ false }
         ensures next { (left : ℕ) → state_of result left ≡ after (state_of self left) (next_event self actor) }
         ensures stage { IsStage newcomers.0 result }
-        ensures fewer { left_to_newcomers result < left_to_newcomers self }
     {
         if self.coming.has(actor) {
             Stage {

@@ -8,9 +8,8 @@ ghost use Rattle.strip_arrivals.specs.Arrivals.{actors_of, arrivals_value, at_fi
 ghost use Rattle.strip_arrivals.specs.Company.{AreLeft, ArePlays, AreRates, IsBegun, IsCompany, IsRow, IsStage, NextOf, left_to_newcomers, listed, next_event, state_of};
 ghost use Rattle.strip_arrivals.specs.Gross.{IsBest, IsGross, gross_price, least_paid, own_pay};
 
-use crate::company::{Company, KINDS, PLACES, SETS};
-use crate::stage::Stage;
-use crate::stages::fill;
+use crate::company::{ALL_SETS, Company, FEW_SETS, KINDS, PLACES};
+use crate::stages::first_row;
 use std::alloc::{AllocError, Global};
 use std::marker::Model;
 use strip_group::DaySums;
@@ -74,11 +73,28 @@ impl ArrivalsTable {
         ensures same { result ≡ arrivals_value self.now set.0 group.0 newcomers.0 }
         ensures small { result ≤ sum self.now.days * sum self.now.holds }
     {
+        if group.size() <= 7 {
+            self.value_by_sets::<FEW_SETS>(set, group, newcomers)
+        } else {
+            self.value_by_sets::<ALL_SETS>(set, group, newcomers)
+        }
+    }
+
+    /// The same, with room for so many sets of the group.
+    fn value_by_sets<const SETS: usize>(&self, set: Mask, group: Mask, newcomers: Mask) -> u64
+        requires few { size group.0 ≤ 10 }
+        requires few_newcomers { size newcomers.0 ≤ 2 }
+        requires known { LiesBelow (length self.now.holds) group.0 }
+        requires known_newcomers { LiesBelow (length self.now.holds) newcomers.0 }
+        requires apart { (actor : ℕ) → has newcomers.0 actor ≡ true → has group.0 actor ≡ false }
+        requires room { 2 ^ size group.0 ≤ SETS }
+        requires few_sets { SETS ≤ 1024 }
+        ensures same { result ≡ arrivals_value self.now set.0 group.0 newcomers.0 }
+        ensures small { result ≤ sum self.now.days * sum self.now.holds }
+    {
         self.keeps_limits();
-        let company = self.company(set, group, newcomers);
-        let mut row = [0; SETS];
-        fill(self, &company, Stage::first(newcomers), &mut row);
-        row[0] - self.own_pay(&company)
+        let company = self.company::<SETS>(set, group, newcomers);
+        first_row(self, &company)[0] - self.own_pay(&company)
     }
 
     /// Each table is of a film within the limits. It does nothing: a caller that needs one of them makes
@@ -127,7 +143,7 @@ impl ArrivalsTable {
     }
 
     /// What those of the group get for the days of the scenes in which they work.
-    fn own_pay(&self, company: &Company) -> u64
+    fn own_pay<const SETS: usize>(&self, company: &Company<SETS>) -> u64
         requires { IsCompany self.now company.now }
         ensures { result ≡ own_pay self.now company.now.set.0 company.now.group.0 (at_first company.now.newcomers.0) }
     {
@@ -139,12 +155,14 @@ impl ArrivalsTable {
     }
 
     /// The company of a group and its newcomers on a set of scenes.
-    fn company(&self, set: Mask, group: Mask, newcomers: Mask) -> Company
+    fn company<const SETS: usize>(&self, set: Mask, group: Mask, newcomers: Mask) -> Company<SETS>
         requires few { size group.0 ≤ 10 }
         requires few_newcomers { size newcomers.0 ≤ 2 }
         requires known { LiesBelow (length self.now.holds) group.0 }
         requires known_newcomers { LiesBelow (length self.now.holds) newcomers.0 }
         requires apart { (actor : ℕ) → has newcomers.0 actor ≡ true → has group.0 actor ≡ false }
+        requires room { 2 ^ size group.0 ≤ SETS }
+        requires few_sets { SETS ≤ 1024 }
         ensures set { result.set ≡ set }
         ensures group { result.group ≡ group }
         ensures newcomers { result.newcomers ≡ newcomers }
@@ -199,9 +217,14 @@ impl ArrivalsTable {
     }
 
     /// For each of so many sets of places the days of those of the scenes that it leaves open.
-    fn days_of(&self, left: &[u64; SETS], count: usize, scenes: Mask) -> [u16; SETS]
-        requires { count ≤ 1024 }
-        ensures long { length result ≡ 1024 }
+    fn days_of<const SETS: usize>(
+        &self,
+        left: &[u64; SETS],
+        count: usize,
+        scenes: Mask,
+    ) -> [u16; SETS]
+        requires { count ≤ SETS }
+        ensures long { length result ≡ SETS }
         ensures days { (places : ℕ) → places < count → slice_index result places ≡ sum_over self.now.days (meet (slice_index left.now places) scenes.0) }
     {
         let mut days = [0; SETS];
@@ -273,9 +296,11 @@ struct Places {
 
 /// For each of so many sets of places the scenes of the set in which no one of them works. One turn for
 /// each set of places.
-fn left_by(places: &Places, set: Mask, count: usize) -> [u64; SETS]
-    requires { count ≤ 1024 }
-    ensures long { length result ≡ 1024 }
+fn left_by<const SETS: usize>(places: &Places, set: Mask, count: usize) -> [u64; SETS]
+    requires some { 0 < count }
+    requires few { count ≤ 1024 }
+    requires room { count ≤ SETS }
+    ensures long { length result ≡ SETS }
     ensures none { slice_index result 0 ≡ set.0 }
     ensures more { (sets : ℕ) → sets < count → sets ≢ 0
         → (place : ℕ) × (has sets place ≡ true) × (slice_index result sets ≡ minus (slice_index result (without sets place)) (slice_index places.now.plays place)) }
@@ -297,10 +322,11 @@ fn left_by(places: &Places, set: Mask, count: usize) -> [u64; SETS]
 
 /// For each of so many sets of places what its actors get together for a day of waiting. One turn for
 /// each set of places.
-fn rates_by(places: &Places, count: usize) -> [u64; SETS]
+fn rates_by<const SETS: usize>(places: &Places, count: usize) -> [u64; SETS]
     requires count { count ≤ 1024 }
+    requires room { count ≤ SETS }
     requires low { (place : ℕ) → slice_index places.now.rates place ≤ 64_000_000_000 }
-    ensures long { length result ≡ 1024 }
+    ensures long { length result ≡ SETS }
     ensures none { slice_index result 0 ≡ 0 }
     ensures more { (sets : ℕ) → sets < count → sets ≢ 0
         → (place : ℕ) × (has sets place ≡ true) × (slice_index result sets ≡ slice_index result (without sets place) + slice_index places.now.rates place) }

@@ -6,8 +6,14 @@ pub mod Attained
 pub mod Tails
 pub mod Together
 pub mod Pieces
+pub mod Fall
+pub mod Places
+pub mod Arriving
+pub mod Steps
+pub mod Party
 pub mod Finish
 pub mod Small
+pub mod Asked
 pub mod Weights
 pub mod Turns
 pub mod Rows

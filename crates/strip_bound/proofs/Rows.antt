@@ -1,9 +1,11 @@
 -- Worked rows of the definitions, by computation.
-use Rattle.std.proofs.Common.{◌≡◌, [], ◌∷◌, refl}
+use Rattle.std.proofs.Common.{◌≡◌, [], ◌∷◌, slice_index, refl}
 use Rattle.strip_mask.specs.Set.{has, union, meet, minus, with, without, members, numbers_below, size, sum_over, full}
+use Rattle.strip_mask.specs.Sums.{sum_below}
 use Rattle.strip_pay.specs.Film.{FilmData}
-use Rattle.strip_kind.specs.declared.kind.Kind.TheVariants.{Plain, Pairs, Groups}
-use Rattle.strip_bound.specs.Bounds.{bound}
+use Rattle.strip_kind.specs.declared.kind.Kind.TheVariants.{Plain, Pairs, Groups, Arrivals}
+use Rattle.strip_bound.specs.Bounds.{bound, newcomers_by_hold}
+use Rattle.strip_bound.specs.Falling.{by_falling}
 
 -- both actors work in scene 0, and each in one of the scenes 1 and 2 alone
 abbrev two : FilmData
@@ -69,3 +71,38 @@ held_after_second = refl
 held_after_third : bound Groups held 3 ≡ 12
 unfolding has union meet minus with without full members numbers_below size sum_over
 held_after_third = refl
+
+-- nobody is still to come, so they cost what the group does
+arrivals_of_three : bound Arrivals three 14 ≡ 6
+unfolding has union meet minus with without full members numbers_below size sum_over sum_below
+arrivals_of_three = refl
+
+-- the first three are on location: each has a scene alone, and one with the fourth, who is still to come: he waits, or they wait longer
+abbrev coming : FilmData
+coming = record {
+  casts = 7 ∷ 9 ∷ 10 ∷ 12 ∷ 1 ∷ 2 ∷ 4 ∷ [];
+  days = 1 ∷ 1 ∷ 1 ∷ 1 ∷ 1 ∷ 1 ∷ 1 ∷ [];
+  rates = 1 ∷ 1 ∷ 1 ∷ 1 ∷ [];
+  holds = 1 ∷ 1 ∷ 1 ∷ 1 ∷ [];
+  pairs = [];
+}
+
+groups_of_coming : bound Groups coming 126 ≡ 15
+unfolding has union meet minus with without full members numbers_below size sum_over
+groups_of_coming = refl
+
+arrivals_of_coming : bound Arrivals coming 126 ≡ 16
+unfolding has union meet minus with without full members numbers_below size sum_over sum_below
+arrivals_of_coming = refl
+
+-- the second actor has two scenes to come and is a newcomer, the third has one and isn't
+abbrev later : FilmData
+later = record { casts = 1 ∷ 3 ∷ 2 ∷ 4 ∷ []; days = 1 ∷ 1 ∷ 1 ∷ 1 ∷ []; rates = 1 ∷ 1 ∷ 1 ∷ []; holds = 1 ∷ 1 ∷ 1 ∷ []; pairs = [] }
+
+newcomers_of_later : newcomers_by_hold later 14 ≡ 1 ∷ []
+unfolding has union meet minus with full members numbers_below
+newcomers_of_later = refl
+
+-- the greater value first, equals by number
+falling : by_falling (slice_index (2 ∷ 5 ∷ 2 ∷ 7 ∷ [])) (0 ∷ 1 ∷ 2 ∷ 3 ∷ []) ≡ 3 ∷ 1 ∷ 0 ∷ 2 ∷ []
+falling = refl

@@ -79,7 +79,7 @@ parts_add_up v part (g ∷ groups) set distinct apart within =
 
 -- ---- the steps
 
-by_step : (days work wait plain later steps : ℕ) → plain + later ≤ steps → (parts : ℕ) → days * parts ≤ days * wait
+pub by_step : (days work wait plain later steps : ℕ) → plain + later ≤ steps → (parts : ℕ) → days * parts ≤ days * wait
     → (days * work + plain) + (days * parts + later) ≤ days * (work + wait) + steps
 by_step days work wait plain later steps rest parts less =
     let split : days * (work + wait) ≡ days * work + days * wait = grind arith in

@@ -1,13 +1,16 @@
 -- The static bounds of a set: what shooting it costs at least.
-use Rattle.std.specs.Prelude.{ℕ, zero, suc, ◌+◌, ◌*◌, min, not, ◌&&◌, List, [], ◌∷◌, length, map, take, drop, filter, fold, sum_by, slice_index}
-use Rattle.strip_mask.specs.Set.{with, members}
+use Rattle.std.specs.Prelude.{ℕ, zero, suc, ◌+◌, ◌-◌, ◌*◌, ◌/◌, min, max, Bool, not, ◌&&◌, nat_lt, List, [], ◌∷◌, length, map, take, drop, filter, fold, sum_by, slice_index}
+use Rattle.strip_mask.specs.Set.{has, with, members, numbers_below, size}
+use Rattle.strip_mask.specs.Sums.{sum_below}
 use Rattle.strip_kind.specs.declared.kind.Kind.{Kind}
-use Rattle.strip_kind.specs.declared.kind.Kind.TheVariants.{Plain, Pairs, Groups}
+use Rattle.strip_kind.specs.declared.kind.Kind.TheVariants.{Plain, Pairs, Groups, Arrivals}
 use Rattle.strip_pay.specs.Film.{FilmData}
 use Rattle.strip_pay.specs.Pay.{works}
 use Rattle.strip_film.specs.Bounds.{plain_bound}
 use Rattle.strip_film.specs.Shoot.{on_location}
 use Rattle.strip_group.specs.Group.{GroupData, group_extra}
+use Rattle.strip_arrivals.specs.Arrivals.{arrivals_value}
+use Rattle.strip_bound.specs.Falling.{by_falling}
 
 -- the days of the scenes of the set in which the first actor works and the second doesn't
 abbrev pub days_with_without : FilmData → ℕ → ℕ → ℕ → ℕ
@@ -50,8 +53,53 @@ groups_extra film set groups = sum_by (group_extra (group_data film) set) groups
 abbrev pub groups_of : FilmData → ℕ → List ℕ
 groups_of film set = map set_of (by_six (members (on_location film set)))
 
+-- ---- parties: groups by falling hold rate, each with newcomers who are still to come
+
+-- who is on location, by falling hold rate, equals by number
+abbrev pub located_by_hold : FilmData → ℕ → List ℕ
+located_by_hold film set = by_falling (slice_index film.holds) (members (on_location film set))
+
+-- a newcomer isn't on location and has two or more scenes in the set
+abbrev pub is_newcomer : FilmData → ℕ → ℕ → Bool
+is_newcomer film set actor = not (has (on_location film set) actor) && nat_lt 1 (length (filter (works film actor) (members set)))
+
+-- what an actor would be paid for waiting on all days of the set's scenes without him
+abbrev pub hold_without : FilmData → ℕ → ℕ → ℕ
+hold_without film set actor =
+    slice_index film.holds actor * sum_by (slice_index film.days) (filter (λ scene. not (works film actor scene)) (members set))
+
+-- the newcomers, by how much that is, equals by number
+abbrev pub newcomers_by_hold : FilmData → ℕ → List ℕ
+newcomers_by_hold film set = by_falling (hold_without film set) (filter (is_newcomer film set) (numbers_below (length film.rates)))
+
+-- the group of the party at a place, where each has so many
+abbrev pub group_at : FilmData → ℕ → ℕ → ℕ → ℕ
+group_at film set many place = set_of (take many (drop (place * many) (located_by_hold film set)))
+
+-- its newcomers, of whom each party has two: all, or the first alone, or none; past the last there are none
+abbrev pub newcomers_at : FilmData → ℕ → ℕ → ℕ → ℕ
+newcomers_at film set count place = set_of (take count (drop (place * 2) (newcomers_by_hold film set)))
+
+-- what the party is paid for waiting at least, with so many of its newcomers
+abbrev pub party_value : FilmData → ℕ → ℕ → ℕ → ℕ → ℕ
+party_value film set many count place = arrivals_value (group_data film) set (group_at film set many place) (newcomers_at film set count place)
+
+-- the greatest of its values with fewer newcomers than that; 0 where there is none
+abbrev pub greatest_below : FilmData → ℕ → ℕ → ℕ → ℕ → ℕ
+greatest_below film set many zero place = 0
+greatest_below film set many (suc count) place = max (greatest_below film set many count place) (party_value film set many count place)
+
+-- how many parties there are, the last with what remains
+abbrev pub number_of_parties : FilmData → ℕ → ℕ → ℕ
+number_of_parties film set many = (size (on_location film set) + (many - 1)) / many
+
+-- the sum over the parties of the greatest of their values with no newcomer, with one and with two
+abbrev pub parties_extra : FilmData → ℕ → ℕ → ℕ
+parties_extra film set many = sum_below (number_of_parties film set many) (greatest_below film set many 3)
+
 -- the static bound of each kind
 abbrev pub bound : Kind → FilmData → ℕ → ℕ
 bound Plain film set = plain_bound film set
 bound Pairs film set = plain_bound film set + pairs_extra film set (members (on_location film set))
 bound Groups film set = plain_bound film set + groups_extra film set (groups_of film set)
+bound Arrivals film set = plain_bound film set + max (parties_extra film set 7) (parties_extra film set 10)

@@ -1,4 +1,6 @@
+pub mod Falling
 pub mod Bounds
 pub mod Waiting
 pub mod Tables
+pub mod Parties
 pub mod Kept

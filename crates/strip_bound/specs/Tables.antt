@@ -1,10 +1,11 @@
 -- What the static bounds of a film go by.
 use Rattle.std.specs.Prelude.{◌≡◌, ℕ, ◌*◌, List, length, slice_index}
-use Rattle.strip_mask.specs.Set.{IsSet, has, sum_over}
+use Rattle.strip_mask.specs.Set.{IsSet, has, numbers_below, sum_over}
 use Rattle.strip_pay.specs.Film.{FilmData}
 use Rattle.strip_pay.specs.Pay.{works}
 use Rattle.strip_bound.specs.declared.tables.BoundTables.{BoundTables}
 use Rattle.strip_bound.specs.Bounds.{group_data}
+use Rattle.strip_bound.specs.Falling.{by_falling}
 
 -- a scene's days at the rates of its cast
 abbrev pub weight : FilmData → ℕ → ℕ
@@ -26,3 +27,5 @@ pub record AreTables (film : FilmData) (tables : BoundTables) : Type 0 where
   pub weights : AreWeights film tables.weights.items
   pub plays : ArePlays film tables.plays.items
   pub groups : tables.groups ≡ group_data film
+  pub arrivals : tables.arrivals ≡ group_data film
+  pub by_hold : tables.by_hold.items ≡ by_falling (slice_index film.holds) (numbers_below (length film.holds))

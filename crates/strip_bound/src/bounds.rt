@@ -1,12 +1,13 @@
 // The static bounds of a set.
-ghost use Rattle.std.specs.Prelude.{◌≡◌, ◌≢◌, ℕ, ◌<◌, ◌≤◌, true, ◌∷◌, drop, length, take};
+ghost use Rattle.std.specs.Prelude.{◌≡◌, ◌≢◌, ℕ, ◌<◌, ◌≤◌, ◌⊎◌, true, ◌∷◌, drop, length, take};
 ghost use Rattle.strip_mask.specs.Set.{has, members, size, without};
-ghost use Rattle.strip_kind.specs.declared.kind.Kind.TheVariants.{Groups, Pairs, Plain};
+ghost use Rattle.strip_kind.specs.declared.kind.Kind.TheVariants.{Arrivals, Groups, Pairs, Plain};
 ghost use Rattle.strip_film.specs.Film.{LiesIn};
 ghost use Rattle.strip_film.specs.Shoot.{on_location};
 ghost use Rattle.strip_bound.specs.Bounds.{bound, days_with_without, groups_extra, groups_of, pair_extra, pairs_extra, set_of};
 ghost use Rattle.strip_bound.specs.Tables.{AreTables};
 
+use crate::parties::extra_of_parties;
 use crate::tables::BoundTables;
 use strip_film::{Film, on};
 use strip_kind::Kind;
@@ -19,10 +20,27 @@ pub fn static_bound(film: &Film, tables: &BoundTables, kind: Kind, q: Mask) -> u
     requires lies { LiesIn film.now q.0 }
     ensures { result ≡ bound kind film.now q.0 }
 {
+    film.keeps_limits();
     match kind {
         Kind::Plain => plain(film, tables, q),
         Kind::Pairs => pairs(film, tables, q),
         Kind::Groups => groups(film, tables, q),
+        Kind::Arrivals => arrivals_reach(film, tables, q, u64::MAX),
+    }
+}
+
+/// A number that is at most the static bound of this kind, in whole units of money, and at least `need`
+/// or the bound. The bound of arrivals is a sum that is asked for part by part, until `need` is
+/// reached; the other kinds answer their bound. It takes no memory.
+pub fn static_reach(film: &Film, tables: &BoundTables, kind: Kind, q: Mask, need: u64) -> u64
+    requires tables { AreTables film.now tables.now }
+    requires lies { LiesIn film.now q.0 }
+    ensures most { result ≤ bound kind film.now q.0 }
+    ensures reaches { (need ≤ result) ⊎ (result ≡ bound kind film.now q.0) }
+{
+    match kind {
+        Kind::Plain | Kind::Pairs | Kind::Groups => static_bound(film, tables, kind, q),
+        Kind::Arrivals => arrivals_reach(film, tables, q, need),
     }
 }
 
@@ -57,6 +75,21 @@ pub fn groups(film: &Film, tables: &BoundTables, q: Mask) -> u64
 {
     film.keeps_limits();
     plain(film, tables, q) + extras_of_groups(film, tables, q)
+}
+
+/// The plain bound, and what parties cost beyond it where more is needed.
+fn arrivals_reach(film: &Film, tables: &BoundTables, q: Mask, need: u64) -> u64
+    requires tables { AreTables film.now tables.now }
+    requires lies { LiesIn film.now q.0 }
+    ensures most { result ≤ bound Arrivals film.now q.0 }
+    ensures reaches { (need ≤ result) ⊎ (result ≡ bound Arrivals film.now q.0) }
+{
+    film.keeps_limits();
+    let plain = plain(film, tables, q);
+    if plain >= need {
+        return plain;
+    }
+    plain + extra_of_parties(film, tables, q, need - plain)
 }
 
 /// The extras of the actors on location, two by two by rising number; a last single one adds nothing.

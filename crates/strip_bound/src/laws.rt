@@ -1,8 +1,10 @@
 //! Laws of the definitions. Each function does nothing: its contract is the law.
-ghost use Rattle.std.specs.Prelude.{◌≡◌, ℕ, ◌+◌, ◌≤◌, true, List};
+ghost use Rattle.std.specs.Prelude.{◌≡◌, ℕ, ◌↔◌, ◌⊎◌, ◌+◌, ◌<◌, ◌≤◌, true, Contains, List};
+ghost use Rattle.std.specs.List.{AllPairs};
+ghost use Rattle.std.specs.List.Sorted.{IsStrictlyIncreasing};
 ghost use Rattle.strip_mask.specs.Set.{IsSet, has};
 ghost use Rattle.strip_kind.specs.declared.kind.Kind.{Kind};
-ghost use Rattle.strip_kind.specs.declared.kind.Kind.TheVariants.{Groups, Pairs, Plain};
+ghost use Rattle.strip_kind.specs.declared.kind.Kind.TheVariants.{Arrivals, Groups, Pairs, Plain};
 ghost use Rattle.strip_pay.specs.Film.{FilmData};
 ghost use Rattle.strip_film.specs.Bounds.{plain_bound};
 ghost use Rattle.strip_film.specs.Film.{IsFilm, LiesIn};
@@ -10,6 +12,7 @@ ghost use Rattle.strip_film.specs.Finish.{IsAtMostFinish, steps_cost};
 ghost use Rattle.strip_film.specs.Shoot.{cast_of, on_location};
 ghost use Rattle.strip_group.specs.Group.{group_extra};
 ghost use Rattle.strip_bound.specs.Bounds.{bound, group_data, groups_extra};
+ghost use Rattle.strip_bound.specs.Falling.{by_falling};
 ghost use Rattle.strip_bound.specs.Waiting.{AreGroups, HasEach, wait_pay};
 
 /// The extra of a group, of any size and however chosen, is the least that it is paid for waiting
@@ -30,9 +33,25 @@ pub fn groups_bound_every_tail()
         → HasEach set scenes → plain_bound film set + groups_extra film set groups ≤ steps_cost film set scenes }
 {}
 
+/// A list by falling value: of two of it the former has the greater value, or the values are equal and
+/// it is the lower number, where the numbers came rising; and it has those that came and no other.
+pub fn lists_fall_by_value()
+    ensures fall { (value : ℕ → ℕ) (actors : List ℕ) → IsStrictlyIncreasing actors
+        → AllPairs (λ a b. (value b < value a) ⊎ ((value b ≡ value a) × (a < b))) (by_falling value actors) }
+    ensures members { (value : ℕ → ℕ) (actors : List ℕ) (actor : ℕ) → Contains (by_falling value actors) actor ↔ Contains actors actor }
+{}
+
+/// The bound of arrivals is at most the tail of every list of the set, whether it keeps the pairs or
+/// not.
+pub fn parties_bound_every_tail()
+    ensures { (film : FilmData) (set : ℕ) (scenes : List ℕ) → IsFilm film → LiesIn film set → HasEach set scenes
+        → bound Arrivals film set ≤ steps_cost film set scenes }
+{}
+
 /// A wider bound is no lower, and each is at most the cost of finishing.
 pub fn the_bounds_are_true()
     ensures plain { (film : FilmData) (set : ℕ) → bound Plain film set ≤ bound Pairs film set }
+    ensures arrivals { (film : FilmData) (set : ℕ) → bound Plain film set ≤ bound Arrivals film set }
     ensures pairs { (film : FilmData) (set : ℕ) → IsFilm film → LiesIn film set → bound Pairs film set ≤ bound Groups film set }
     ensures finish { (kind : Kind) (film : FilmData) (set : ℕ) → IsFilm film → LiesIn film set → IsAtMostFinish film set (bound kind film set) }
 {}

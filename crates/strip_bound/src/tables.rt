@@ -1,16 +1,19 @@
 // What the static bounds of a film go by.
 ghost use Rattle.std.specs.Prelude.{◌≡◌, ℕ, ◌<◌, ◌≤◌, IfOk, length, slice_index};
-ghost use Rattle.strip_mask.specs.Set.{has};
+ghost use Rattle.strip_mask.specs.Set.{has, numbers_below};
+ghost use Rattle.strip_bound.specs.Falling.{by_falling};
 ghost use Rattle.strip_bound.specs.Tables.{ArePlays, AreTables, AreWeights};
 
+use crate::falling::{Falling, by_falling};
 use std::alloc::{AllocError, Global};
+use strip_arrivals::ArrivalsTable;
 use strip_film::Film;
 use strip_group::GroupTable;
 use strip_io::Memory;
 use strip_mask::{Mask, sum_over};
 
 /// What the bounds of a film's sets go by, made once: a number for each scene and for each actor, and
-/// the table of the extras of groups.
+/// the tables of the extras of groups and of the values of parties.
 #[derive(Debug, Drop)]
 pub struct BoundTables {
     /// Each scene's days at the rates of its cast, in whole units of money.
@@ -18,6 +21,9 @@ pub struct BoundTables {
     /// For each actor the set of the scenes with him.
     pub(crate) plays: Vec<u64>,
     pub(crate) groups: GroupTable,
+    pub(crate) arrivals: ArrivalsTable,
+    /// The actors by falling hold rate, equals by number.
+    pub(crate) by_hold: Falling,
 }
 
 impl BoundTables {
@@ -30,6 +36,8 @@ impl BoundTables {
             weights: weights_of(alloc, film)?,
             plays: plays_of(alloc, film)?,
             groups: GroupTable::of(alloc, film.casts(), film.days(), film.holds())?,
+            arrivals: ArrivalsTable::of(alloc, film.casts(), film.days(), film.holds())?,
+            by_hold: by_hold(film),
         })
     }
 }
@@ -58,6 +66,14 @@ fn plays_of(alloc: Global, film: &Film) -> Result<Vec<u64>, AllocError>
         plays.push(scenes_with(casts, actor as u32).0)?;
     }
     Ok(plays)
+}
+
+/// The actors by falling hold rate, equals by number.
+fn by_hold(film: &Film) -> Falling
+    ensures { result.items ≡ by_falling (slice_index film.now.holds) (numbers_below (length film.now.holds)) }
+{
+    film.keeps_limits();
+    by_falling(film.holds())
 }
 
 /// The scenes whose cast has the actor.

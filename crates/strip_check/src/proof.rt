@@ -14,7 +14,7 @@ use crate::justify::{is_justified, justified, known};
 use crate::verdict::Reason;
 use std::alloc::Global;
 use strip_best::Best;
-use strip_bound::{BoundTables, Kept, static_bound};
+use strip_bound::{BoundTables, Kept, static_reach};
 use strip_film::{Film, Line};
 use strip_io::Memory;
 use strip_mask::Mask;
@@ -37,8 +37,8 @@ pub(crate) fn against_proof(
     }
     let tables = BoundTables::of(alloc, film)?;
     let kind = plan.kind;
-    let kept = Kept::new(film, kind, |q, _need| {
-        static_bound(film, &tables, kind, Mask(q))
+    let kept = Kept::new(film, kind, |q, need| {
+        static_reach(film, &tables, kind, Mask(q), need)
     });
     against_bounds(alloc, &kept, reduced.apart, plan)
 }

@@ -8,7 +8,7 @@ use strip_top::report;
 
 const FILMS: [&str; 4] = [TRIANGLE, RING, STAR, OFFICE];
 
-const KINDS: [&str; 3] = ["plain", "pairs", "groups"];
+const KINDS: [&str; 4] = ["plain", "pairs", "groups", "arrivals"];
 
 /// Whether the plan that is printed for the film, by these bounds and with at most so many lines, is
 /// accepted.

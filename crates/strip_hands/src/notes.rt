@@ -8,7 +8,7 @@ use crate::forgetful::Forgetful;
 use crate::walks::search;
 use std::alloc::Global;
 use std::test::Fail;
-use strip_bound::{BoundTables, Kept, static_bound};
+use strip_bound::{BoundTables, Kept, static_reach};
 use strip_film::{Film, Path};
 use strip_front::laws::tasks_are_starts;
 use strip_front::layers;
@@ -83,8 +83,8 @@ fn with_notes<F: Fn(u64, u64) -> u64>(
 /// same order.
 fn both(alloc: Global, film: &Film, kind: Kind) -> Result<[Outcome; 2], Fail> {
     let tables = BoundTables::of(alloc, film)?;
-    let kept = Kept::new(film, kind, |q, _need| {
-        static_bound(film, &tables, kind, Mask(q))
+    let kept = Kept::new(film, kind, |q, need| {
+        static_reach(film, &tables, kind, Mask(q), need)
     });
     let start = improve(film, &greedy(film));
     let noting = with_notes(alloc, &kept, &start)?;

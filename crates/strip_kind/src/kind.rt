@@ -9,4 +9,7 @@ pub enum Kind {
     Pairs,
     /// The same, and what groups of up to six actors on location cost beyond it.
     Groups,
+    /// The same as plain, and what larger groups on location cost beyond it together with actors who
+    /// are still to come.
+    Arrivals,
 }

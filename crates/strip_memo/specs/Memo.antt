@@ -1,5 +1,5 @@
 -- What a memo of static bounds holds.
-use Rattle.std.specs.Prelude.{◌≡◌, ◌≤◌, Bool, true, All}
+use Rattle.std.specs.Prelude.{◌≡◌, ℕ, ◌<◌, ◌≤◌, Bool, true, false, All, length, slice_index_or}
 use Rattle.strip_kind.specs.declared.kind.Kind.{Kind}
 use Rattle.strip_pay.specs.Film.{FilmData}
 use Rattle.strip_bound.specs.Bounds.{bound}
@@ -11,6 +11,8 @@ pub record IsEntry (kind : Kind) (film : FilmData) (is_whole : Bool) (entry : En
   pub most : entry.value ≤ bound kind film entry.set
   pub whole : is_whole ≡ true → entry.value ≡ bound kind film entry.set
 
--- each entry is true of its set
-abbrev pub IsMemo : Kind → FilmData → Memo → Type 0
-IsMemo kind film memo = All (IsEntry kind film memo.is_whole) memo.entries.items
+-- each entry is true of its set, and its value is the bound itself at each place that is marked
+pub record IsMemo (kind : Kind) (film : FilmData) (memo : Memo) : Type 0 where
+  pub entries : All (IsEntry kind film memo.is_whole) memo.entries.items
+  pub marked : (place : ℕ) (entry : Entry) → place < length memo.entries.items → slice_index_or memo.marks.items place false ≡ true
+      → IsEntry kind film true (slice_index_or memo.entries.items place entry)

@@ -1,5 +1,5 @@
 // A memo of static bounds.
-ghost use Rattle.std.specs.Prelude.{◌-◌, ◌^◌, ◌<◌, ◌≤◌, vec_len};
+ghost use Rattle.std.specs.Prelude.{◌≡◌, ◌-◌, ◌^◌, ◌<◌, ◌≤◌, false, vec_len};
 
 use std::alloc::Global;
 use strip_bound::Kept;
@@ -23,31 +23,38 @@ pub struct Memo {
     pub(crate) entries: Vec<Entry>,
     /// Whether each value is the whole bound.
     pub(crate) is_whole: bool,
+    /// Where not each is, for each place whether its value is.
+    pub(crate) marks: Vec<bool>,
     shift: u32,
     pub ghost room: { (shift < 64) × (2 ^ (64 - shift) ≤ vec_len entries) },
+    pub ghost marked: { is_whole ≡ false → vec_len marks ≡ vec_len entries },
 }
 
 impl Memo {
-    ghost use Rattle.std.specs.Prelude.{◌≡◌, ℕ, ◌≤◌, ◌⊎◌, ◌<◌, true, IfOk, vec_len};
+    ghost use Rattle.std.specs.Prelude.{◌≡◌, ℕ, ◌≤◌, ◌⊎◌, ◌<◌, ◌||◌, true, false, slice_index_or, IfOk, vec_len};
     ghost use Rattle.strip_mask.specs.Set.{has};
     ghost use Rattle.strip_film.specs.Film.{LiesIn};
     ghost use Rattle.strip_bound.specs.Bounds.{bound};
     ghost use Rattle.strip_bound.specs.Kept.{Keeps};
     ghost use Rattle.strip_memo.specs.Memo.{IsMemo};
 
-    /// A memo that remembers the empty set alone: 2^18 entries of 16 bytes, 2^19 for groups.
+    /// A memo that remembers the empty set alone: 2^18 entries of 16 bytes, 2^19 for groups, and for
+    /// arrivals 2^20 of 17 bytes.
     pub fn new<F: Fn(u64, u64) -> u64>(alloc: Global, kept: &Kept<F>) -> Result<Memo, Memory>
         requires { Keeps (F.pre kept.now.f) (F.post kept.now.f) kept.now.kind kept.now.film.now }
         ensures { IfOk result (IsMemo kept.now.kind kept.now.film.now) }
     {
         let bits = bits_of(kept.kind());
+        let is_whole = is_answered_whole(kept.kind());
+        let marks = if is_whole { 0 } else { 1 << bits };
         let empty = Entry {
             set: 0,
             value: kept.at(Mask(0)),
         };
         Ok(Memo {
             entries: vec![in alloc; empty; 1 << bits]?,
-            is_whole: is_answered_whole(kept.kind()),
+            is_whole,
+            marks: vec![in alloc; true; marks]?,
             shift: 64 - bits,
         })
     }
@@ -64,16 +71,29 @@ impl Memo {
     {
         let place = self.place(q);
         let entry = self.entries[place];
-        if entry.set == q.0 && (self.is_whole || entry.value >= need) {
+        if entry.set == q.0 && (entry.value >= need || self.has_whole(place)) {
             return entry.value;
         }
-        let value = if self.is_whole {
-            kept.at(q)
-        } else {
-            kept.reach(q, need)
-        };
+        if self.is_whole {
+            let whole = kept.at(q);
+            self.entries[place] = Entry {
+                set: q.0,
+                value: whole,
+            };
+            return whole;
+        }
+        let value = kept.reach(q, need);
         self.entries[place] = Entry { set: q.0, value };
+        self.marks[place] = value < need;
         value
+    }
+
+    /// Whether the value at this place is the whole bound.
+    fn has_whole(&self, place: usize) -> bool
+        requires { place < vec_len self.now.entries }
+        ensures { result ≡ (self.now.is_whole || slice_index_or self.now.marks.items place false) }
+    {
+        self.is_whole || self.marks[place]
     }
 
     /// Those of the scenes without each of which the set is one that stands here. The places are looked at in
@@ -102,11 +122,12 @@ impl Memo {
 /// How many bits of its hash tell a set's place.
 fn bits_of(kind: Kind) -> u32
     ensures some { 0 < result }
-    ensures few { result ≤ 19 }
+    ensures few { result ≤ 20 }
 {
     match kind {
         Kind::Plain | Kind::Pairs => 18,
         Kind::Groups => 19,
+        Kind::Arrivals => 20,
     }
 }
 
@@ -114,5 +135,6 @@ fn bits_of(kind: Kind) -> u32
 fn is_answered_whole(kind: Kind) -> bool {
     match kind {
         Kind::Plain | Kind::Pairs | Kind::Groups => true,
+        Kind::Arrivals => false,
     }
 }

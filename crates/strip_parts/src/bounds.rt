@@ -3,7 +3,7 @@ ghost use Rattle.strip_bound.specs.Tables.{AreTables};
 
 use std::alloc::Global;
 use std::test::Fail;
-use strip_bound::{BoundTables, Kept, plain, static_bound};
+use strip_bound::{BoundTables, Kept, plain, static_reach};
 use strip_film::Film;
 use strip_kind::Kind;
 use strip_mask::Mask;
@@ -15,10 +15,10 @@ struct Row {
     rates: &'static [u64],
     holds: &'static [u64],
     set: u64,
-    bounds: [u64; 3],
+    bounds: [u64; 4],
 }
 
-// The bounds are the plain one, that with pairs, and that with groups.
+// The bounds are the plain one, that with pairs, that with groups, and that with arrivals.
 static ROWS: [Row; 9] = [
     Row {
         casts: &[0b11, 0b01, 0b10],
@@ -26,7 +26,7 @@ static ROWS: [Row; 9] = [
         rates: &[1, 10],
         holds: &[1, 10],
         set: 0b110,
-        bounds: [11, 12, 12],
+        bounds: [11, 12, 12, 12],
     },
     Row {
         casts: &[0b011, 0b110, 0b101],
@@ -34,7 +34,7 @@ static ROWS: [Row; 9] = [
         rates: &[1, 2, 3],
         holds: &[1, 2, 3],
         set: 0b111,
-        bounds: [12, 12, 12],
+        bounds: [12, 12, 12, 12],
     },
     Row {
         casts: &[0b011, 0b110, 0b101],
@@ -42,7 +42,7 @@ static ROWS: [Row; 9] = [
         rates: &[1, 2, 3],
         holds: &[1, 2, 3],
         set: 0b110,
-        bounds: [9, 10, 10],
+        bounds: [9, 10, 10, 10],
     },
     Row {
         casts: &[0b111, 0b001, 0b010, 0b100],
@@ -50,7 +50,7 @@ static ROWS: [Row; 9] = [
         rates: &[1, 1, 1],
         holds: &[1, 1, 1],
         set: 0b1110,
-        bounds: [3, 4, 6],
+        bounds: [3, 4, 6, 6],
     },
     // Scenes of some days.
     Row {
@@ -59,27 +59,27 @@ static ROWS: [Row; 9] = [
         rates: &[1, 10],
         holds: &[4, 5],
         set: 0b110,
-        bounds: [32, 42, 42],
+        bounds: [32, 42, 42, 42],
     },
-    // Eight actors on location: four pairs, and groups of six and two.
+    // Eight actors on location: four pairs, and groups of six and two, or all eight.
     Row {
         casts: &[0xff, 0x01, 0x02, 0x04, 0x08, 0x10, 0x20, 0x40, 0x80],
         days: &[1; 9],
         rates: &[1; 8],
         holds: &[1; 8],
         set: 0b111111110,
-        bounds: [8, 12, 24],
+        bounds: [8, 12, 24, 36],
     },
-    // Seven: three pairs and a single one, a group of six and a single one.
+    // Seven: three pairs and a single one, a group of six and a single one, or all seven.
     Row {
         casts: &[0x7f, 0x01, 0x02, 0x04, 0x08, 0x10, 0x20, 0x40],
         days: &[1; 8],
         rates: &[1; 7],
         holds: &[1; 7],
         set: 0xfe,
-        bounds: [7, 10, 22],
+        bounds: [7, 10, 22, 28],
     },
-    // Twelve: two groups of six.
+    // Twelve: two groups of six, or groups of ten and two.
     Row {
         casts: &[
             0xfff, 0x01, 0x02, 0x04, 0x08, 0x10, 0x20, 0x40, 0x80, 0x100, 0x200, 0x400, 0x800,
@@ -88,9 +88,9 @@ static ROWS: [Row; 9] = [
         rates: &[1; 12],
         holds: &[1; 12],
         set: 0x1ffe,
-        bounds: [12, 18, 42],
+        bounds: [12, 18, 42, 58],
     },
-    // Thirteen: the last one is in a group of his own.
+    // Thirteen: the last one is in a group of his own, or one of the last three.
     Row {
         casts: &[
             0x1fff, 0x01, 0x02, 0x04, 0x08, 0x10, 0x20, 0x40, 0x80, 0x100, 0x200, 0x400, 0x800,
@@ -100,20 +100,32 @@ static ROWS: [Row; 9] = [
         rates: &[1; 13],
         holds: &[1; 13],
         set: 0x3ffe,
-        bounds: [13, 19, 43],
+        bounds: [13, 19, 43, 61],
     },
 ];
 
 // Every set of three scenes of two actors each, with hold rates of their own.
-static HELD: [(u64, [u64; 3]); 8] = [
-    (0b000, [0, 0, 0]),
-    (0b001, [3, 3, 3]),
-    (0b010, [5, 5, 5]),
-    (0b100, [4, 4, 4]),
-    (0b011, [8, 12, 12]),
-    (0b101, [7, 8, 8]),
-    (0b110, [9, 10, 10]),
-    (0b111, [12, 12, 12]),
+static HELD: [(u64, [u64; 4]); 8] = [
+    (0b000, [0, 0, 0, 0]),
+    (0b001, [3, 3, 3, 3]),
+    (0b010, [5, 5, 5, 5]),
+    (0b100, [4, 4, 4, 4]),
+    (0b011, [8, 12, 12, 12]),
+    (0b101, [7, 8, 8, 8]),
+    (0b110, [9, 10, 10, 10]),
+    (0b111, [12, 12, 12, 12]),
+];
+
+// The same where the hold rates are the rates.
+static PAID: [(u64, [u64; 4]); 8] = [
+    (0b000, [0, 0, 0, 0]),
+    (0b001, [3, 3, 3, 3]),
+    (0b010, [5, 5, 5, 5]),
+    (0b100, [4, 4, 4, 4]),
+    (0b011, [8, 9, 9, 9]),
+    (0b101, [7, 9, 9, 9]),
+    (0b110, [9, 10, 10, 10]),
+    (0b111, [12, 12, 12, 12]),
 ];
 
 #[test]
@@ -124,6 +136,24 @@ fn every_set_of_a_film_with_hold_rates_has_its_bounds(rt: HostRuntime) -> Result
             days: &[1, 1, 1],
             rates: &[1, 2, 3],
             holds: &[5, 1, 4],
+            set: *set,
+            bounds: *bounds,
+        };
+        assert!(rt; has_bounds(rt.alloc(), &row)?);
+    }
+    Ok(())
+}
+
+#[test]
+fn every_set_of_a_film_whose_hold_rates_are_the_rates_has_its_bounds(
+    rt: HostRuntime,
+) -> Result<(), Fail> {
+    for (set, bounds) in &PAID {
+        let row = Row {
+            casts: &[0b011, 0b110, 0b101],
+            days: &[1, 1, 1],
+            rates: &[1, 2, 3],
+            holds: &[1, 2, 3],
             set: *set,
             bounds: *bounds,
         };
@@ -144,12 +174,13 @@ fn has_bounds(alloc: Global, row: &Row) -> Result<bool, Fail> {
     let film = film_of(alloc, row)?;
     let tables = BoundTables::of(alloc, &film)?;
     let set = Mask(row.set);
-    let [plain, pairs, groups] = row.bounds;
+    let [plain, pairs, groups, arrivals] = row.bounds;
     Ok(
         kept_plain(&film, &tables, set) == Some(plain)
             && kept(&film, &tables, Kind::Plain, set) == Some(plain)
             && kept(&film, &tables, Kind::Pairs, set) == Some(pairs)
-            && kept(&film, &tables, Kind::Groups, set) == Some(groups),
+            && kept(&film, &tables, Kind::Groups, set) == Some(groups)
+            && kept(&film, &tables, Kind::Arrivals, set) == Some(arrivals),
     )
 }
 
@@ -181,6 +212,10 @@ fn kept(film: &Film, tables: &BoundTables, kind: Kind, set: Mask) -> Option<u64>
     if !set.lies_below(film.scenes() as u32) {
         return None;
     }
-    let kept = Kept::new(film, kind, |q, _| static_bound(film, tables, kind, Mask(q)));
+    let kept = Kept::new(
+        film,
+        kind,
+        |q, need| static_reach(film, tables, kind, Mask(q), need),
+    );
     Some(kept.at(set))
 }

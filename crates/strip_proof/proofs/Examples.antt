@@ -1,7 +1,7 @@
 -- Worked examples of what plan texts say, by computation.
 use Rattle.std.proofs.Common.{◌≡◌, [], ◌∷◌, Ok, Err, Some, codes, refl}
 use Rattle.strip_text.proofs.OnLiterals.{read_on_literals}
-use Rattle.strip_kind.specs.declared.kind.Kind.TheVariants.{Pairs, Groups}
+use Rattle.strip_kind.specs.declared.kind.Kind.TheVariants.{Pairs, Groups, Arrivals}
 use Rattle.strip_model.specs.Data.{InstanceData}
 use Rattle.strip_proof.specs.declared.plan.Status.TheVariants.{Optimal, Bounded}
 use Rattle.strip_proof.specs.declared.fault.PlanFault.TheVariants.{BadRow, Missing, UnknownScene, TooManyLines}
@@ -34,6 +34,12 @@ second_format :
     ≡ Ok (record { status = Optimal; kind = Groups; cost = 1; bound = 1; held = 2; order = 0 ∷ 0 ∷ []; lines = record { set = 3; bound = 9 } ∷ [] })
 unfolding read_on_literals
 second_format = refl
+
+kind_of_arrivals :
+    says two (codes "plan,2\nbounds,arrivals\nstatus,optimal\ncost,1\nbound,1\nlines,0\norder,s1\nproof,0\n")
+    ≡ Ok (record { status = Optimal; kind = Arrivals; cost = 1; bound = 1; held = 0; order = 0 ∷ []; lines = [] })
+unfolding read_on_literals
+kind_of_arrivals = refl
 
 -- a row that isn't there
 empty : says two (codes "") ≡ Err (Missing 1)

@@ -3,7 +3,7 @@ use Rattle.std.proofs.Common.{◌≡◌, [], ◌∷◌, codes, refl}
 use Rattle.csv.specs.Writing.{escaped}
 use Rattle.strip_text.proofs.OnLiterals.{written_on_literals}
 use Rattle.strip_text.specs.Rows.{csv_row}
-use Rattle.strip_kind.specs.declared.kind.Kind.TheVariants.{Plain, Pairs, Groups}
+use Rattle.strip_kind.specs.declared.kind.Kind.TheVariants.{Plain, Pairs, Groups, Arrivals}
 use Rattle.strip_model.specs.Data.{InstanceData}
 use Rattle.strip_proof.specs.declared.plan.Status.TheVariants.{Optimal, Bounded}
 use Rattle.strip_proof.specs.Plan.{PlanData}
@@ -43,6 +43,12 @@ ended_early = record { status = Bounded; kind = Groups; cost = 14; bound = 12; h
 bare : bare_text triangle ended_early ≡ codes "plan,2\nbounds,groups\nstatus,bounded\ncost,14\nbound,12\nlines,5\norder,s2,s3,s1\nproof,0\n"
 unfolding written_on_literals hex_digits
 bare = refl
+
+bare_of_arrivals :
+    bare_text triangle (record { status = Optimal; kind = Arrivals; cost = 13; bound = 13; held = 0; order = 0 ∷ 1 ∷ 2 ∷ []; lines = [] })
+    ≡ codes "plan,2\nbounds,arrivals\nstatus,optimal\ncost,13\nbound,13\nlines,0\norder,s1,s2,s3\nproof,0\n"
+unfolding written_on_literals hex_digits
+bare_of_arrivals = refl
 
 -- a name is quoted where it has to be
 abbrev one_scene : InstanceData

@@ -5,7 +5,7 @@ use Rattle.std.specs.Char.{is_ascii_hexdigit}
 use Rattle.std.specs.Str.{bytes_eq}
 use Rattle.std.specs.Str.Parse.{digits_value}
 use Rattle.strip_kind.specs.declared.kind.Kind.{Kind}
-use Rattle.strip_kind.specs.declared.kind.Kind.TheVariants.{Plain, Pairs, Groups}
+use Rattle.strip_kind.specs.declared.kind.Kind.TheVariants.{Plain, Pairs, Groups, Arrivals}
 use Rattle.strip_model.specs.Data.{InstanceData}
 use Rattle.strip_text.specs.Field.{Field}
 use Rattle.strip_text.specs.Number.{is_number}
@@ -22,11 +22,14 @@ status_of field = if bytes_eq field (status_word Optimal) then Optimal else Boun
 
 -- the word of a kind of bounds, and the kind
 abbrev pub is_kind : Field → Bool
-is_kind field = bytes_eq field (kind_word Plain) || bytes_eq field (kind_word Pairs) || bytes_eq field (kind_word Groups)
+is_kind field =
+    bytes_eq field (kind_word Plain) || bytes_eq field (kind_word Pairs) || bytes_eq field (kind_word Groups) || bytes_eq field (kind_word Arrivals)
 
 abbrev pub kind_of : Field → Kind
 kind_of field =
-    if bytes_eq field (kind_word Plain) then Plain else (if bytes_eq field (kind_word Pairs) then Pairs else Groups)
+    if bytes_eq field (kind_word Plain) then Plain else (
+    if bytes_eq field (kind_word Pairs) then Pairs else (if bytes_eq field (kind_word Groups) then Groups else Arrivals)
+    )
 
 -- a number below 2 ^ 63
 abbrev pub is_amount : Field → Bool

@@ -4,7 +4,7 @@ use Rattle.std.specs.List.{flat_map}
 use Rattle.std.specs.Char.{digit_char}
 use Rattle.std.specs.Fmt.{decimal}
 use Rattle.strip_kind.specs.declared.kind.Kind.{Kind}
-use Rattle.strip_kind.specs.declared.kind.Kind.TheVariants.{Plain, Pairs, Groups}
+use Rattle.strip_kind.specs.declared.kind.Kind.TheVariants.{Plain, Pairs, Groups, Arrivals}
 use Rattle.strip_model.specs.Data.{InstanceData, scene_name}
 use Rattle.strip_film.specs.declared.shared.Line.{Line}
 use Rattle.strip_text.specs.Field.{Field}
@@ -21,6 +21,7 @@ abbrev pub kind_word : Kind → Field
 kind_word Plain = codes "plain"
 kind_word Pairs = codes "pairs"
 kind_word Groups = codes "groups"
+kind_word Arrivals = codes "arrivals"
 
 -- the last digits of a number, this many, in base 16 and lower case: the one with i others behind it is number / 16 ^ i mod 16
 unfoldable pub hex_digits : ℕ → ℕ → Field

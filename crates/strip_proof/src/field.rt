@@ -40,6 +40,8 @@ pub(crate) fn kind_of(field: &[u8]) -> Option<Kind>
         Some(Kind::Pairs)
     } else if field == b"groups".as_slice() {
         Some(Kind::Groups)
+    } else if field == b"arrivals".as_slice() {
+        Some(Kind::Arrivals)
     } else {
         None
     }

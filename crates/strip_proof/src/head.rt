@@ -43,6 +43,7 @@ fn kind_word(kind: Kind) -> &'static [u8]
         Kind::Plain => b"plain",
         Kind::Pairs => b"pairs",
         Kind::Groups => b"groups",
+        Kind::Arrivals => b"arrivals",
     }
 }
 

@@ -13,7 +13,7 @@ struct Row {
     printed: &'static str,
 }
 
-static ROWS: [Row; 9] = [
+static ROWS: [Row; 10] = [
     Row {
         film: TRIANGLE,
         options: &[],
@@ -49,6 +49,13 @@ static ROWS: [Row; 9] = [
         options: &["--bounds", "groups"],
         status: 0,
         printed: "plan,2\nbounds,groups\nstatus,optimal\ncost,13\nbound,13\nlines,1\n\
+            order,s1,s2,s3\nproof,1\nline,0000000000000007,13\n",
+    },
+    Row {
+        film: TRIANGLE,
+        options: &["--bounds", "arrivals"],
+        status: 0,
+        printed: "plan,2\nbounds,arrivals\nstatus,optimal\ncost,13\nbound,13\nlines,1\n\
             order,s1,s2,s3\nproof,1\nline,0000000000000007,13\n",
     },
     Row {

@@ -150,7 +150,8 @@ fn agree_by_all_kinds(alloc: Global, text: &str, pairs: &[(u16, u16)]) -> Result
     Ok(
         agree(alloc, &known, Kind::Plain)?
             && agree(alloc, &known, Kind::Pairs)?
-            && agree(alloc, &known, Kind::Groups)?,
+            && agree(alloc, &known, Kind::Groups)?
+            && agree(alloc, &known, Kind::Arrivals)?,
     )
 }
 

@@ -55,7 +55,7 @@ fn sixty_four_classes_are_searched(rt: HostRuntime) -> Result<(), Fail> {
     let alloc = rt.alloc();
     let inst = of_two_actors(alloc)?;
     assert_eq!(rt; reduce(alloc, &inst)?.film.scenes(), 64);
-    for kind in [Kind::Plain, Kind::Pairs, Kind::Groups] {
+    for kind in [Kind::Plain, Kind::Pairs, Kind::Groups, Kind::Arrivals] {
         let plan = solve_alone(alloc, &inst, kind, 1_000, 65_536)?;
         assert!(&rt; has_ended(&plan), "by {kind:?}");
     }

@@ -4,7 +4,7 @@ ghost use Rattle.strip_film.specs.Path.{IsComplete};
 ghost use Rattle.strip_film.specs.Shown.{path_data};
 
 use std::alloc::Global;
-use strip_bound::{BoundTables, Kept, static_bound};
+use strip_bound::{BoundTables, Kept, static_reach};
 use strip_film::{Film, Path};
 use strip_io::Memory;
 use strip_kind::Kind;
@@ -25,8 +25,8 @@ pub(crate) fn searched(
     requires entries { (64 ≤ entries) × (entries ≤ 4194304) }
 {
     let tables = BoundTables::of(alloc, film)?;
-    let kept = Kept::new(film, kind, |q, _need| {
-        static_bound(film, &tables, kind, Mask(q))
+    let kept = Kept::new(film, kind, |q, need| {
+        static_reach(film, &tables, kind, Mask(q), need)
     });
     alone(alloc, &kept, start, nodes, entries)
 }

@@ -16,7 +16,7 @@ ghost use Rattle.strip_solve.specs.Searched.{IsProofOf, IsSearched};
 ghost use Rattle.strip_solve.specs.Solved.{IsSolved, IsStart};
 
 use std::alloc::Global;
-use strip_bound::{BoundTables, Kept, static_bound};
+use strip_bound::{BoundTables, Kept, static_reach};
 use strip_count::laws::paths_are_few;
 use strip_film::laws::{a_least_tail_exists, finishing_everything_is_the_optimum};
 use strip_film::{Film, Line, Path};
@@ -101,8 +101,8 @@ fn search(
     ensures { IfOk result (IsSearched kind film.now (path_data start.now) nodes) }
 {
     let tables = BoundTables::of(alloc, film)?;
-    let kept = Kept::new(film, kind, |q, _need| {
-        static_bound(film, &tables, kind, Mask(q))
+    let kept = Kept::new(film, kind, |q, need| {
+        static_reach(film, &tables, kind, Mask(q), need)
     });
     let ended = alone(alloc, &kept, start, nodes, entries)?;
     let trimmed = if ended.bound == ended.cost {

@@ -80,8 +80,10 @@ const PLAIN: Kind = Kind::Plain;
 
 const GROUPS: Kind = Kind::Groups;
 
+const ARRIVALS: Kind = Kind::Arrivals;
+
 #[rattlefmt::skip]
-const ROWS: [Row; 17] = [
+const ROWS: [Row; 18] = [
     Row { words: &["solve", "--workers", "64", "f"], workers: 64, nodes: 1_000_000, table: 65_536, kind: PAIRS, proof: false },
     Row { words: &["solve", "f", "--workers=1"], workers: 1, nodes: 1_000_000, table: 65_536, kind: PAIRS, proof: false },
     Row { words: &["solve", "--nodes=5", "f"], workers: 1, nodes: 5, table: 65_536, kind: PAIRS, proof: false },
@@ -96,6 +98,7 @@ const ROWS: [Row; 17] = [
     Row { words: &["solve", "f", "--bounds=pairs"], workers: 1, nodes: 1_000_000, table: 65_536, kind: PAIRS, proof: false },
     Row { words: &["solve", "f", "--bounds", "pairs"], workers: 1, nodes: 1_000_000, table: 65_536, kind: PAIRS, proof: false },
     Row { words: &["solve", "f", "--bounds=groups"], workers: 1, nodes: 1_000_000, table: 65_536, kind: GROUPS, proof: false },
+    Row { words: &["solve", "f", "--bounds=arrivals"], workers: 1, nodes: 1_000_000, table: 65_536, kind: ARRIVALS, proof: false },
     Row { words: &["solve", "f", "--proof"], workers: 1, nodes: 1_000_000, table: 65_536, kind: PAIRS, proof: true },
     Row { words: &["solve", "--proof", "--", "f"], workers: 1, nodes: 1_000_000, table: 65_536, kind: PAIRS, proof: true },
     Row { words: &["solve", "--workers=3", "--nodes", "4", "f", "--table=99", "--bounds", "plain", "--proof"], workers: 3, nodes: 4, table: 99, kind: PLAIN, proof: true },

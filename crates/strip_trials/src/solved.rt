@@ -34,7 +34,7 @@ fn made(alloc: Global, words: &[&str]) -> Result<String, Fail> {
 fn one_cost_by_all_bounds(rt: HostRuntime) -> Result<(), Fail> {
     let alloc = rt.alloc();
     let film = made(alloc, &["gen", "7", "9", "5"])?;
-    for kind in &["plain", "pairs", "groups"] {
+    for kind in &["plain", "pairs", "groups", "arrivals"] {
         for entries in &["64", "65536"] {
             let is = costs(alloc, film.as_str(), kind, entries, "2750")?;
             assert!(&rt; is);

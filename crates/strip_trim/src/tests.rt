@@ -6,7 +6,7 @@ ghost use Rattle.strip_trim.specs.Worked.{ring, triangle};
 use crate::trim;
 use std::alloc::Global;
 use std::test::Fail;
-use strip_bound::{BoundTables, Kept, static_bound};
+use strip_bound::{BoundTables, Kept, static_reach};
 use strip_film::{Film, Line};
 use strip_kind::Kind;
 use strip_mask::Mask;
@@ -40,7 +40,7 @@ fn trimmed(alloc: Global, film: &Film, kind: Kind, lines: &[Line]) -> Result<Vec
     let kept = Kept::new(
         film,
         kind,
-        |q, _| static_bound(film, &tables, kind, Mask(q)),
+        |q, need| static_reach(film, &tables, kind, Mask(q), need),
     );
     let lines = trim(alloc, &kept, lines)?;
     Ok(lines)

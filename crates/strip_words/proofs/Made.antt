@@ -1,5 +1,5 @@
 -- The film and the trial that words name, and that they name one.
-use Rattle.std.proofs.Common.{◌≡◌, ℕ, List, Option, [], ◌∷◌, refl, sym, subst, ◌∙◌, ap}
+use Rattle.std.proofs.Common.{◌≡◌, ℕ, List, Option, [], ◌∷◌, refl, sym, subst, ◌∙◌}
 use Rattle.strip_words.specs.Words.{Word, IsSpelled, operands_of}
 use Rattle.strip_words.specs.Options.{IsNumber}
 use Rattle.strip_words.specs.declared.item.Item.{Item as CodeItem}

@@ -1,5 +1,5 @@
 -- The files that the words of a command name.
-use Rattle.std.proofs.Common.{◌≡◌, List, Option, [], ◌∷◌, refl}
+use Rattle.std.proofs.Common.{◌≡◌, List, [], ◌∷◌, refl}
 use Rattle.strip_words.specs.Words.{Word, operands_of}
 use Rattle.strip_words.specs.Plans.{PlanFilesData, NamePlanFiles, plan_command}
 use Rattle.strip_words.proofs.Spelled.{said}

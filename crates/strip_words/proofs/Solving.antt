@@ -2,7 +2,7 @@
 use Rattle.std.proofs.Common.{◌≡◌, false, true≢false, bytes_eq, List, Option, refl, sym, subst, ◌∙◌}
 use Rattle.std.proofs.lemmas.Slice.Eq.{bytes_eq-Decides}
 use Rattle.strip_kind.specs.declared.kind.Kind.{Kind}
-use Rattle.strip_kind.specs.declared.kind.Kind.TheVariants.{Plain, Pairs, Groups}
+use Rattle.strip_kind.specs.declared.kind.Kind.TheVariants.{Plain, Pairs, Groups, Arrivals}
 use Rattle.strip_words.specs.Words.{Word, IsSpelled}
 use Rattle.strip_words.specs.declared.item.Item.{Item as CodeItem}
 use Rattle.strip_words.specs.Shown.{items_data}
@@ -18,12 +18,19 @@ pub kind_once : (a b : Kind) → bound_word a ≡ bound_word b → a ≡ b
 kind_once Plain Plain same = refl
 kind_once Plain Pairs same = differ (bound_word Plain) (bound_word Pairs) refl same
 kind_once Plain Groups same = differ (bound_word Plain) (bound_word Groups) refl same
+kind_once Plain Arrivals same = differ (bound_word Plain) (bound_word Arrivals) refl same
 kind_once Pairs Plain same = differ (bound_word Pairs) (bound_word Plain) refl same
 kind_once Pairs Pairs same = refl
 kind_once Pairs Groups same = differ (bound_word Pairs) (bound_word Groups) refl same
+kind_once Pairs Arrivals same = differ (bound_word Pairs) (bound_word Arrivals) refl same
 kind_once Groups Plain same = differ (bound_word Groups) (bound_word Plain) refl same
 kind_once Groups Pairs same = differ (bound_word Groups) (bound_word Pairs) refl same
 kind_once Groups Groups same = refl
+kind_once Groups Arrivals same = differ (bound_word Groups) (bound_word Arrivals) refl same
+kind_once Arrivals Plain same = differ (bound_word Arrivals) (bound_word Plain) refl same
+kind_once Arrivals Pairs same = differ (bound_word Arrivals) (bound_word Pairs) refl same
+kind_once Arrivals Groups same = differ (bound_word Arrivals) (bound_word Groups) refl same
+kind_once Arrivals Arrivals same = refl
 
 -- the items that were read say what the words name
 pub said_by_items : (words : List Word) (items slice : List CodeItem) (rest : Option (List Word)) (job : SolveData) → slice ≡ items

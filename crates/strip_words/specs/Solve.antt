@@ -3,7 +3,7 @@ use Rattle.std.specs.Prelude.{◌≡◌, ◌↔◌, ℕ, Bool, true, Option, Lis
 use Rattle.strip_words.specs.Words.{Word, Command, Item, Flag, IsSpelled, operands_of}
 use Rattle.strip_words.specs.Options.{NumberOption, ChoiceOption, IsChosen, IsPicked}
 use Rattle.strip_kind.specs.declared.kind.Kind.{Kind}
-use Rattle.strip_kind.specs.declared.kind.Kind.TheVariants.{Plain, Pairs, Groups}
+use Rattle.strip_kind.specs.declared.kind.Kind.TheVariants.{Plain, Pairs, Groups, Arrivals}
 
 abbrev pub workers_option : NumberOption
 workers_option = record { name = codes "--workers"; least = 1; most = 64; default = 1 }
@@ -15,7 +15,7 @@ abbrev pub table_option : NumberOption
 table_option = record { name = codes "--table"; least = 64; most = 4194304; default = 65536 }
 
 abbrev pub bounds_option : ChoiceOption
-bounds_option = record { name = codes "--bounds"; choices = codes "plain" ∷ codes "pairs" ∷ codes "groups" ∷ []; default = codes "pairs" }
+bounds_option = record { name = codes "--bounds"; choices = codes "plain" ∷ codes "pairs" ∷ codes "groups" ∷ codes "arrivals" ∷ []; default = codes "pairs" }
 
 abbrev pub proof_flag : Word
 proof_flag = codes "--proof"
@@ -33,6 +33,7 @@ abbrev pub bound_word : Kind → Word
 bound_word Plain = codes "plain"
 bound_word Pairs = codes "pairs"
 bound_word Groups = codes "groups"
+bound_word Arrivals = codes "arrivals"
 
 -- a job to solve a file: how many workers, the greatest number of lines, the table's entries, the static bound, and whether line rows are written
 pub record SolveData : Type 0 where

@@ -46,7 +46,7 @@ pub(crate) const TABLE: NumberOption = NumberOption {
 
 pub(crate) const BOUNDS: ChoiceOption = ChoiceOption {
     name: "--bounds",
-    choices: &["plain", "pairs", "groups"],
+    choices: &["plain", "pairs", "groups", "arrivals"],
     default: "pairs",
 };
 
@@ -102,7 +102,9 @@ pub(crate) fn kind_of(word: &str) -> Kind
         Kind::Plain
     } else if word == "pairs" {
         Kind::Pairs
-    } else {
+    } else if word == "groups" {
         Kind::Groups
+    } else {
+        Kind::Arrivals
     }
 }

@@ -7,7 +7,7 @@ use Rattle.std.proofs.lemmas.Bool.{and_from}
 use Rattle.std.proofs.lemmas.Bool.Decides.{nat_tests}
 use Rattle.std.proofs.lemmas.List.Elements.{All-cons, All-nil}
 use Rattle.strip_kind.specs.declared.kind.Kind.{Kind}
-use Rattle.strip_kind.specs.declared.kind.Kind.TheVariants.{Plain, Pairs, Groups}
+use Rattle.strip_kind.specs.declared.kind.Kind.TheVariants.{Plain, Pairs, Groups, Arrivals}
 use Rattle.strip_film.specs.declared.shared.Line.{Line}
 use Rattle.strip_text.specs.Field.{is_blank, trimmed}
 use Rattle.strip_text.specs.Number.{number_of}
@@ -36,16 +36,19 @@ pub is_kind-word : (kind : Kind) → is_kind (kind_word kind) ≡ true
 is_kind-word Plain = refl
 is_kind-word Pairs = refl
 is_kind-word Groups = refl
+is_kind-word Arrivals = refl
 
 pub kind_of-word : (kind : Kind) → kind_of (kind_word kind) ≡ kind
 kind_of-word Plain = refl
 kind_of-word Pairs = refl
 kind_of-word Groups = refl
+kind_of-word Arrivals = refl
 
 pub trimmed-kind : (kind : Kind) → trimmed (kind_word kind) ≡ kind_word kind
 trimmed-kind Plain = refl
 trimmed-kind Pairs = refl
 trimmed-kind Groups = refl
+trimmed-kind Arrivals = refl
 
 pub is_amount-decimal : (n : ℕ) → n < 2 ^ 63 → is_amount (decimal n) ≡ true
 is_amount-decimal n small = is_number-decimal 0 9_223_372_036_854_775_807 n (omega arith) (omega (arith, small)) (omega (arith, small))

@@ -3,7 +3,7 @@ use Rattle.strip_arrivals.proofs.stages.begin.Given as goal
 
 -- nothing is tried for those so far
 abbrev pub invariant-loop-places : goal.invariant-loop-places
-invariant-loop-places l = record {
-  long : length l.row ≡ 1024;
+invariant-loop-places g l = record {
+  long : length l.row ≡ g.row.SETS;
   so_far : (places : ℕ) → places < l.places → slice_index l.row places ≡ 2 ^ 64 - 1;
 }

@@ -9,10 +9,10 @@ part true n = omega arith
 part false n = omega arith
 
 pub loop-kind-init : goal.loop-kind-init
-loop-kind-init c = record { so_far = sym (sum_below-zero (λ kind. cond {A = ℕ} (has (slice_index c.args.company.now.kinds kind) c.args.actor) (slice_index c.args.weights.now kind) 0 * slice_index (slice_index_or c.args.company.now.days kind []) c.args.places)); small = omega arith }
+loop-kind-init g c = record { so_far = sym (sum_below-zero (λ kind. cond {A = ℕ} (has (slice_index c.args.company.now.kinds kind) c.args.actor) (slice_index c.args.weights.now kind) 0 * slice_index (slice_index_or c.args.company.now.days kind []) c.args.places)); small = omega arith }
 
 pub overflow_add-charge : goal.overflow_add-charge
-overflow_add-charge c =
+overflow_add-charge g c =
     let low : c.weight_with.result ≤ 192000000000
     = omega (arith, c.weight_with.ensures, c.requires.weights c.loop-kind.kind, part (has (slice_index c.args.company.now.kinds c.loop-kind.kind) c.args.actor) (slice_index c.args.weights.now c.loop-kind.kind)) in
     let most : c.weight_with.result * slice_index (slice_index_or c.args.company.now.days c.loop-kind.kind []) c.args.places ≤ 192000000000 * 19800
@@ -20,7 +20,7 @@ overflow_add-charge c =
     record { fits = omega (arith, most, c.loop-kind.invariant.small, c.loop-kind-test.true) }
 
 pub loop-kind-preserved : goal.loop-kind-preserved
-loop-kind-preserved c =
+loop-kind-preserved g c =
     let low : c.weight_with.result ≤ 192000000000
     = omega (arith, c.weight_with.ensures, c.requires.weights c.loop-kind.kind, part (has (slice_index c.args.company.now.kinds c.loop-kind.kind) c.args.actor) (slice_index c.args.weights.now c.loop-kind.kind)) in
     let most : c.weight_with.result * slice_index (slice_index_or c.args.company.now.days c.loop-kind.kind []) c.args.places ≤ 192000000000 * 19800

@@ -1,4 +1,4 @@
-use Rattle.std.proofs.Common.{◌≡◌, ◌≢◌, ℕ, ◌+◌, ◌^◌, ◌<◌, ◌≤◌, ◌++◌, ◌∷◌, [], true, false, cond, min, Contains, slice_index, refl, sym, ap, ◌∙◌, subst, arith}
+use Rattle.std.proofs.Common.{rules, ◌≡◌, ◌≢◌, ℕ, ◌+◌, ◌^◌, ◌<◌, ◌≤◌, ◌++◌, ◌∷◌, [], true, false, cond, min, Contains, slice_index, slice_index_or, refl, sym, ap, ◌∙◌, subst, arith}
 use Rattle.std.proofs.lemmas.Bool.{false≢true}
 use Rattle.strip_mask.specs.Set.{has, meet, size}
 use Rattle.strip_group.specs.Places.{pick}
@@ -11,12 +11,12 @@ use Rattle.strip_arrivals.proofs.Runs.{fewer_left, may}
 use Rattle.strip_arrivals.proofs.Casts.{listed_has}
 use Rattle.strip_arrivals.proofs.Gross.{comes_free, one_skipped, one_tried}
 use Rattle.strip_arrivals.proofs.Newcomers.{is_here}
-use Rattle.strip_arrivals.proofs.Charged.{going_charge, going_closes}
+use Rattle.strip_arrivals.proofs.Charged.{all_classes, going_charge, going_closes}
 use Rattle.strip_arrivals.proofs.Charges.{few_events, next_more, not_fine, is_fine}
 use Rattle.strip_arrivals.proofs.stages.least_with_next.Goals as goal
 
 pub returns-then-has : goal.returns-then-has
-returns-then-has c =
+returns-then-has g c =
     let lt : c.args.places < 2 ^ size c.args.company.now.group.0 = omega (arith, c.requires.places, c.requires.company.count) in
     let event : Event = next_event c.args.prices.now.stage c.args.actor in
     let expected : has c.args.prices.now.stage.coming.0 c.args.actor ≡ true = sym c.has.ensures ∙ c.if-has.true in
@@ -35,15 +35,35 @@ returns-then-has c =
     plain charge later none = omega (arith, none)
 
 pub bounds-company-places : goal.bounds-company-places
-bounds-company-places c =
-    omega (arith, c.requires.places, c.requires.company.most)
+bounds-company-places g c =
+    omega (arith, c.requires.places, c.requires.company.room)
 
-pub charge_of_going-requires-clause-places : goal.charge_of_going-requires-clause-places
-charge_of_going-requires-clause-places c =
-    omega (arith, c.requires.places, c.requires.company.most)
+pub charge_of_going-requires : goal.charge_of_going-requires
+charge_of_going-requires g c = (
+  omega (arith, c.requires.company.few_sets),
+  (
+    (search rules),
+    (
+      (omega (arith, c.requires.places, c.requires.company.room)),
+      (
+        (search rules),
+        (
+          (search rules),
+          (
+            (search rules),
+            (
+              (search rules),
+              (search rules),
+            ),
+          ),
+        ),
+      ),
+    ),
+  ),
+)
 
 pub overflow_add-charge_of_going : goal.overflow_add-charge_of_going
-overflow_add-charge_of_going c =
+overflow_add-charge_of_going g c =
     let lt : c.args.places < 2 ^ size c.args.company.now.group.0 = omega (arith, c.requires.places, c.requires.company.count) in
     let fewer = few_events c.args.table.now c.args.company.now c.requires.company c.args.prices.now.stage c.requires.prices.stage c.args.places lt in
     let not_coming : has c.args.prices.now.stage.coming.0 c.args.actor ≡ false = sym c.has.ensures ∙ c.if-has.false in
@@ -56,7 +76,7 @@ overflow_add-charge_of_going c =
     record { fits = omega (arith, c.charge_of_going.ensures.small, c.requires.later.small, less) }
 
 pub returns-then-is_empty : goal.returns-then-is_empty
-returns-then-is_empty c =
+returns-then-is_empty g c =
     let lt : c.args.places < 2 ^ size c.args.company.now.group.0 = omega (arith, c.requires.places, c.requires.company.count) in
     let event : Event = next_event c.args.prices.now.stage c.args.actor in
     let not_coming : has c.args.prices.now.stage.coming.0 c.args.actor ≡ false = sym c.has.ensures ∙ c.if-has.false in
@@ -71,7 +91,10 @@ returns-then-is_empty c =
     (is_fine c.args.table.now c.args.company.now c.requires.company c.args.prices.now.stage c.requires.prices.stage c.args.places lt c.args.actor (meet (slice_index c.args.company.now.left c.args.places) c.plays.result.0) c.args.prices.now.blocked.0 closes_them c.requires.prices.blocked none) in
     let charge : c.charge_of_going.result ≡ gross_charge c.args.table.now c.args.company.now.set.0 c.args.company.now.group.0 (state_of c.args.prices.now.stage (pick c.args.company.now.group.0 c.args.places)) event
     = c.charge_of_going.ensures.same
-    ∙ going_charge c.args.table.now c.args.company.now c.requires.company c.args.prices.now.stage c.requires.prices.stage c.args.places lt c.args.actor c.plays.result.0 c.requires.newcomer c.plays.ensures c.args.prices.now.blocked.0 c.weights_of-weights.result c.requires.prices.blocked c.weights_of-weights.ensures none
+    ∙ all_classes c.args.table.now c.args.company.now c.requires.company c.args.prices.now.stage c.requires.prices.stage c.args.places lt c.args.prices.now.classes c.weights_of-weights.result
+    (λ kind. has (slice_index c.args.company.now.kinds kind) c.args.actor) (λ kind. slice_index (slice_index_or c.args.company.now.days kind []) c.args.places)
+    c.weights_of-weights.ensures.each c.weights_of-weights.ensures.none c.requires.prices.idle (λ kind below. omega arith)
+    ∙ going_charge c.args.table.now c.args.company.now c.requires.company c.args.prices.now.stage c.requires.prices.stage c.args.places lt c.args.actor c.plays.result.0 c.requires.newcomer c.plays.ensures c.args.prices.now.blocked.0 c.requires.prices.blocked none
     ∙ ap (gross_charge c.args.table.now c.args.company.now.set.0 c.args.company.now.group.0 (state_of c.args.prices.now.stage (pick c.args.company.now.group.0 c.args.places))) (sym is) in
     λ done best.
     subst (IsLeastFor c.args.table.now c.args.company.now c.args.prices.now.stage c.args.places (NextOf c.args.prices.now.stage (done ++ c.args.actor ∷ [])))
@@ -81,7 +104,7 @@ returns-then-is_empty c =
     (fewer_left c.args.table.now c.args.company.now.set.0 c.args.company.now.group.0 c.requires.company.small (state_of c.args.prices.now.stage (pick c.args.company.now.group.0 c.args.places)) (goes c.args.actor) c.requires.prices.stage.small can).0))
 
 pub returns-else-is_empty : goal.returns-else-is_empty
-returns-else-is_empty c =
+returns-else-is_empty g c =
     let lt : c.args.places < 2 ^ size c.args.company.now.group.0 = omega (arith, c.requires.places, c.requires.company.count) in
     let event : Event = next_event c.args.prices.now.stage c.args.actor in
     let not_coming : has c.args.prices.now.stage.coming.0 c.args.actor ≡ false = sym c.has.ensures ∙ c.if-has.false in

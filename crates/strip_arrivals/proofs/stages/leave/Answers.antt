@@ -4,15 +4,15 @@ use Rattle.strip_arrivals.specs.Company.{IsGrossFor}
 use Rattle.strip_arrivals.proofs.stages.leave.Goals as goal
 
 pub bounds-row-places : goal.bounds-row-places
-bounds-row-places c =
-    omega (arith, c.loop-turn-test.true, c.requires.company.most)
+bounds-row-places g c =
+    omega (arith, c.loop-turn-test.true, c.requires.company.room)
 
 pub loop-turn-preserved : goal.loop-turn-preserved
-loop-turn-preserved c =
+loop-turn-preserved g c =
     let count : ℕ = c.args.company.now.count in
     let here : ℕ = count - 1 - c.loop-turn.turn in
     let at : here + c.loop-turn.turn + 1 ≡ count = omega (arith, c.loop-turn-test.true) in
-    let within : here < length c.loop-turn.row = omega (arith, c.loop-turn.invariant.long, c.loop-turn-test.true, c.requires.company.most) in
+    let within : here < length c.loop-turn.row = omega (arith, c.loop-turn.invariant.long, c.loop-turn-test.true, c.requires.company.room) in
     record {
       long = length-set c.loop-turn.row here c.least_from.result ∙ c.loop-turn.invariant.long;
       so_far = λ places reached lt. elim (cases_eq places here) [

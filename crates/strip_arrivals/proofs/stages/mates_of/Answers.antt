@@ -15,16 +15,16 @@ use Rattle.strip_arrivals.proofs.Charged.{none_shared, some_shared}
 use Rattle.strip_arrivals.proofs.stages.mates_of.Goals as goal
 
 pub plays-requires : goal.plays-requires
-plays-requires c =
+plays-requires g c =
     c.requires.company.known c.in-Some.actor (turn_member c.args.company.now.group.0 c.in-Some.actor c.loop-actor.yielded (rest_of c.loop-actor.actor-iterator) (rest_of c.next.new.self) c.loop-actor.invariant.turns c.in-Some.ensures.steps)
 
 pub mates_with-mates-requires : goal.mates_with-mates-requires
-mates_with-mates-requires c =
+mates_with-mates-requires g c =
     let turn = turn_at c.args.company.now.group.0 c.in-Some.actor c.loop-actor.yielded (rest_of c.loop-actor.actor-iterator) (rest_of c.next.new.self) c.loop-actor.invariant.turns c.in-Some.ensures.steps in
     omega (arith, turn.1, c.loop-actor.invariant.place, c.requires.company.few)
 
 pub loop-actor-preserved : goal.loop-actor-preserved
-loop-actor-preserved c =
+loop-actor-preserved g c =
     let turn = turn_at c.args.company.now.group.0 c.in-Some.actor c.loop-actor.yielded (rest_of c.loop-actor.actor-iterator) (rest_of c.next.new.self) c.loop-actor.invariant.turns c.in-Some.ensures.steps in
     let film : GroupData = c.args.table.now in
     let set : ℕ = c.args.company.now.set.0 in
@@ -63,7 +63,7 @@ loop-actor-preserved c =
     }
 
 pub returns : goal.returns
-returns c =
+returns g c =
     λ place lt. c.loop-actor.invariant.told place (omega (
       arith,
       lt,
@@ -73,7 +73,7 @@ returns c =
     ))
 
 pub loop-actor-init : goal.loop-actor-init
-loop-actor-init c = record {
+loop-actor-init g c = record {
   place = refl;
   told = λ place lt. absurd (omega (arith, lt));
   lies = λ i there. absurd (false≢true (sym (has-empty i) ∙ there));

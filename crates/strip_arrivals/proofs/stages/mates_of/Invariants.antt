@@ -7,7 +7,7 @@ use Rattle.strip_arrivals.proofs.stages.mates_of.Given as goal
 
 -- the places so far; these actors and those to come are the group
 abbrev pub invariant-loop-actor : goal.invariant-loop-actor
-invariant-loop-actor l = record {
+invariant-loop-actor g l = record {
   place : l.place ≡ length l.yielded;
   told : (place : ℕ) → place < l.place → has l.mates.0 place ≡ has (mates l.table l.company.set.0 l.fn.actors.0) (actor_at l.company.group.0 place);
   lies : LiesBelow l.place l.mates.0;

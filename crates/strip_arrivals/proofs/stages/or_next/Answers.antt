@@ -4,21 +4,21 @@ use Rattle.strip_arrivals.specs.Company.{IsLeastFor, NextOf}
 use Rattle.strip_arrivals.proofs.stages.or_next.Goals as goal
 
 pub bounds-row-places : goal.bounds-row-places
-bounds-row-places c =
-    omega (arith, c.loop-places-test.true, c.requires.company.most)
+bounds-row-places g c =
+    omega (arith, c.loop-places-test.true, c.requires.company.room)
 
 pub bounds-later-places : goal.bounds-later-places
-bounds-later-places c =
-    omega (arith, c.loop-places-test.true, c.requires.company.most)
+bounds-later-places g c =
+    omega (arith, c.loop-places-test.true, c.requires.company.room)
 
 pub bounds-row-places-in-loop-places : goal.bounds-row-places-in-loop-places
-bounds-row-places-in-loop-places c =
-    omega (arith, c.loop-places-test.true, c.requires.company.most)
+bounds-row-places-in-loop-places g c =
+    omega (arith, c.loop-places-test.true, c.requires.company.room)
 
 pub loop-places-preserved : goal.loop-places-preserved
-loop-places-preserved c =
+loop-places-preserved g c =
     let here : ℕ = c.loop-places.places in
-    let within : here < length c.loop-places.row = omega (arith, c.loop-places.invariant.long, c.loop-places-test.true, c.requires.company.most) in
+    let within : here < length c.loop-places.row = omega (arith, c.loop-places.invariant.long, c.loop-places-test.true, c.requires.company.room) in
     let was : slice_index c.loop-places.row here ≡ slice_index c.args.row.now here = c.loop-places.invariant.later here (omega arith) in
     record {
       long = length-set c.loop-places.row here c.least_with_next.result ∙ c.loop-places.invariant.long;
@@ -35,5 +35,5 @@ loop-places-preserved c =
     }
 
 pub returns : goal.returns
-returns c =
+returns g c =
     λ done begun places lt. c.loop-places.invariant.so_far places (omega (arith, lt, c.requires.company.count, c.loop-places-test.false)) done (begun places lt)

@@ -4,8 +4,8 @@ use Rattle.strip_arrivals.proofs.stages.or_next.Given as goal
 
 -- with those so far tried, and the others as they were
 abbrev pub invariant-loop-places : goal.invariant-loop-places
-invariant-loop-places l = record {
-  long : length l.row ≡ 1024;
+invariant-loop-places g l = record {
+  long : length l.row ≡ g.row.SETS;
   so_far : (places : ℕ) → places < l.places → (done : List ℕ)
       → IsLeastFor l.table l.company l.prices.stage places (NextOf l.prices.stage done) (slice_index l.fn.row places)
       → IsLeastFor l.table l.company l.prices.stage places (NextOf l.prices.stage (done ++ l.fn.actor ∷ [])) (slice_index l.row places);

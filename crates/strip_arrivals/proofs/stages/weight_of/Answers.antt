@@ -9,19 +9,19 @@ use Rattle.strip_arrivals.proofs.Charges.{rest_is}
 use Rattle.strip_arrivals.proofs.stages.weight_of.Goals as goal
 
 pub offset_bounds-company-company : goal.offset_bounds-company-company
-offset_bounds-company-company c =
-    omega (arith, c.requires.company.all_within, c.requires.company.most)
+offset_bounds-company-company g c =
+    omega (arith, c.requires.company.all_within, c.requires.company.room)
 
 pub bounds-company-company : goal.bounds-company-company
-bounds-company-company c =
-    omega (arith, c.requires.company.all_within, c.requires.company.most)
+bounds-company-company g c =
+    omega (arith, c.requires.company.all_within, c.requires.company.room)
 
 pub bounds-company-places : goal.bounds-company-places
-bounds-company-places c =
-    omega (arith, c.requires.places, c.requires.company.most)
+bounds-company-places g c =
+    omega (arith, c.requires.places, c.requires.company.room)
 
 pub overflow_sub-stay : goal.overflow_sub-stay
-overflow_sub-stay c =
+overflow_sub-stay g c =
     let lt : c.args.places < 2 ^ size c.args.company.now.group.0 = omega (arith, c.requires.places, c.requires.company.count) in
     let rest : slice_index c.args.company.now.rates c.args.company.now.all ≡ sum_over c.args.table.now.holds (minus c.args.company.now.group.0 (pick c.args.company.now.group.0 c.args.places))
     + slice_index c.args.company.now.rates c.args.places
@@ -29,7 +29,7 @@ overflow_sub-stay c =
     omega (arith, rest)
 
 pub overflow_add-result : goal.overflow_add-result
-overflow_add-result c =
+overflow_add-result g c =
     let lt : c.args.places < 2 ^ size c.args.company.now.group.0 = omega (arith, c.requires.places, c.requires.company.count) in
     let rest : slice_index c.args.company.now.rates c.args.company.now.all ≡ sum_over c.args.table.now.holds (minus c.args.company.now.group.0 (pick c.args.company.now.group.0 c.args.places))
     + slice_index c.args.company.now.rates c.args.places
@@ -38,7 +38,7 @@ overflow_add-result c =
     record { fits = omega (arith, rest, low, c.least_of.ensures.low) }
 
 pub returns-then-is_empty-clause-low : goal.returns-then-is_empty-clause-low
-returns-then-is_empty-clause-low c =
+returns-then-is_empty-clause-low g c =
     let lt : c.args.places < 2 ^ size c.args.company.now.group.0 = omega (arith, c.requires.places, c.requires.company.count) in
     let rest : slice_index c.args.company.now.rates c.args.company.now.all ≡ sum_over c.args.table.now.holds (minus c.args.company.now.group.0 (pick c.args.company.now.group.0 c.args.places))
     + slice_index c.args.company.now.rates c.args.places
@@ -47,15 +47,15 @@ returns-then-is_empty-clause-low c =
     omega (arith, rest, low, c.least_of.ensures.low)
 
 pub returns-then-is_empty-clause-same : goal.returns-then-is_empty-clause-same
-returns-then-is_empty-clause-same c =
+returns-then-is_empty-clause-same g c =
     let lt : c.args.places < 2 ^ size c.args.company.now.group.0 = omega (arith, c.requires.places, c.requires.company.count) in
     let rest : slice_index c.args.company.now.rates c.args.company.now.all ≡ sum_over c.args.table.now.holds (minus c.args.company.now.group.0 (pick c.args.company.now.group.0 c.args.places))
     + slice_index c.args.company.now.rates c.args.places
     = rest_is c.args.table.now c.args.company.now c.requires.company c.args.prices.now.stage c.requires.prices.stage c.args.places lt in
-    let none : minus c.args.newcomers.0 (actors_of (listed c.args.prices.now.stage.here)) ≡ 0
-    = ap (minus c.args.newcomers.0) (sym c.all.ensures) ∙ sym c.minus.ensures ∙ c.is_empty.ensures.0 c.if-is_empty.true in
+    let none : minus (slice_index c.args.company.now.kinds c.args.kind) (actors_of (listed c.args.prices.now.stage.here)) ≡ 0
+    = ap (minus (slice_index c.args.company.now.kinds c.args.kind)) (sym c.requires.prices.here) ∙ sym c.minus.ensures ∙ c.is_empty.ensures.0 c.if-is_empty.true in
     let price : slice_index c.args.company.now.rates c.args.company.now.all - slice_index c.args.company.now.rates c.args.places + c.least_of.result
-    ≡ gross_price c.args.table.now c.args.company.now.set.0 c.args.company.now.group.0 (state_of c.args.prices.now.stage (pick c.args.company.now.group.0 c.args.places)) c.args.newcomers.0
+    ≡ gross_price c.args.table.now c.args.company.now.set.0 c.args.company.now.group.0 (state_of c.args.prices.now.stage (pick c.args.company.now.group.0 c.args.places)) (slice_index c.args.company.now.kinds c.args.kind)
     = omega (arith, rest, c.least_of.ensures.same) in
-    price ∙ sym (ap (λ b. cond {A = ℕ} b (gross_price c.args.table.now c.args.company.now.set.0 c.args.company.now.group.0 (state_of c.args.prices.now.stage (pick c.args.company.now.group.0 c.args.places)) c.args.newcomers.0) 0)
-    (eq-eqb (minus c.args.newcomers.0 (actors_of (listed c.args.prices.now.stage.here))) 0 none))
+    price ∙ sym (ap (λ b. cond {A = ℕ} b (gross_price c.args.table.now c.args.company.now.set.0 c.args.company.now.group.0 (state_of c.args.prices.now.stage (pick c.args.company.now.group.0 c.args.places)) (slice_index c.args.company.now.kinds c.args.kind)) 0)
+    (eq-eqb (minus (slice_index c.args.company.now.kinds c.args.kind) (actors_of (listed c.args.prices.now.stage.here))) 0 none))

@@ -7,44 +7,44 @@ use Rattle.strip_arrivals.proofs.Places.{without_less}
 use Rattle.strip_arrivals.proofs.table.left_by.Goals as goal
 
 pub without-requires : goal.without-requires
-without-requires c =
-    let small : IsSet c.loop-number.number = omega (arith, c.loop-number-test.true, c.requires) in
+without-requires g c =
+    let small : IsSet c.loop-number.number = omega (arith, c.loop-number-test.true, c.requires.few, c.requires.room) in
     let there : has c.loop-number.number c.in-Some.place ≡ true = (first_is c.loop-number.number c.in-Some.place small (sym c.first.ensures ∙ c.in-Some.is)).0 in
     below_64 c.loop-number.number c.in-Some.place small there
 
 pub offset_bounds-left-without : goal.offset_bounds-left-without
-offset_bounds-left-without c =
-    let small : IsSet c.loop-number.number = omega (arith, c.loop-number-test.true, c.requires) in
+offset_bounds-left-without g c =
+    let small : IsSet c.loop-number.number = omega (arith, c.loop-number-test.true, c.requires.few, c.requires.room) in
     let there : has c.loop-number.number c.in-Some.place ≡ true = (first_is c.loop-number.number c.in-Some.place small (sym c.first.ensures ∙ c.in-Some.is)).0 in
     let less : without c.loop-number.number c.in-Some.place < c.loop-number.number = without_less c.loop-number.number c.in-Some.place there in
-    omega (arith, c.without.ensures, less, c.loop-number-test.true, c.requires)
+    omega (arith, c.without.ensures, less, c.loop-number-test.true, c.requires.few, c.requires.room)
 
 pub bounds-left-without : goal.bounds-left-without
-bounds-left-without c =
-    let small : IsSet c.loop-number.number = omega (arith, c.loop-number-test.true, c.requires) in
+bounds-left-without g c =
+    let small : IsSet c.loop-number.number = omega (arith, c.loop-number-test.true, c.requires.few, c.requires.room) in
     let there : has c.loop-number.number c.in-Some.place ≡ true = (first_is c.loop-number.number c.in-Some.place small (sym c.first.ensures ∙ c.in-Some.is)).0 in
     let less : without c.loop-number.number c.in-Some.place < c.loop-number.number = without_less c.loop-number.number c.in-Some.place there in
-    omega (arith, c.without.ensures, less, c.loop-number-test.true, c.requires)
+    omega (arith, c.without.ensures, less, c.loop-number-test.true, c.requires.few, c.requires.room)
 
 pub bounds-places-place : goal.bounds-places-place
-bounds-places-place c =
-    let small : IsSet c.loop-number.number = omega (arith, c.loop-number-test.true, c.requires) in
+bounds-places-place g c =
+    let small : IsSet c.loop-number.number = omega (arith, c.loop-number-test.true, c.requires.few, c.requires.room) in
     let there : has c.loop-number.number c.in-Some.place ≡ true = (first_is c.loop-number.number c.in-Some.place small (sym c.first.ensures ∙ c.in-Some.is)).0 in
-    let fits : c.loop-number.number < 2 ^ 10 = omega (arith, c.loop-number-test.true, c.requires) in
+    let fits : c.loop-number.number < 2 ^ 10 = omega (arith, c.loop-number-test.true, c.requires.few, c.requires.room) in
     below_width c.loop-number.number 10 c.in-Some.place fits there
 
 pub unreachable-requires : goal.unreachable-requires
-unreachable-requires c =
-    let small : IsSet c.loop-number.number = omega (arith, c.loop-number-test.true, c.requires) in
+unreachable-requires g c =
+    let small : IsSet c.loop-number.number = omega (arith, c.loop-number-test.true, c.requires.few, c.requires.room) in
     let none : c.loop-number.number ≡ 0 = first_none c.loop-number.number small (sym c.first.ensures ∙ c.in-None.is) in
     omega (arith, none, c.loop-number.auto.number)
 
 pub loop-number-preserved : goal.loop-number-preserved
-loop-number-preserved c =
-    let small : IsSet c.loop-number.number = omega (arith, c.loop-number-test.true, c.requires) in
+loop-number-preserved g c =
+    let small : IsSet c.loop-number.number = omega (arith, c.loop-number-test.true, c.requires.few, c.requires.room) in
     let there : has c.loop-number.number c.in-Some.place ≡ true = (first_is c.loop-number.number c.in-Some.place small (sym c.first.ensures ∙ c.in-Some.is)).0 in
     let less : without c.loop-number.number c.in-Some.place < c.loop-number.number = without_less c.loop-number.number c.in-Some.place there in
-    let within : c.loop-number.number < length c.loop-number.left = omega (arith, c.loop-number.invariant.long, c.loop-number-test.true, c.requires) in
+    let within : c.loop-number.number < length c.loop-number.left = omega (arith, c.loop-number.invariant.long, c.loop-number-test.true, c.requires.few, c.requires.room) in
     let value : ℕ = c.minus.result.0 in
     let kept : (sets : ℕ) → sets ≢ c.loop-number.number → slice_index (slice_set c.loop-number.left c.loop-number.number value) sets ≡ slice_index c.loop-number.left sets
     = λ sets other. get_or-set_other c.loop-number.left c.loop-number.number sets value 0 other in

@@ -1,5 +1,6 @@
-use Rattle.std.proofs.Common.{◌≡◌, ◌≢◌, ℕ, ◌+◌, ◌*◌, ◌^◌, ◌<◌, ◌≤◌, true, length, slice_index, refl, sym, ap, ◌∙◌, subst, inl, inr, arith, length-set, slice_set, get_or-set_other, get_or-set_same}
+use Rattle.std.proofs.Common.{◌≡◌, ◌≢◌, ℕ, ◌+◌, ◌*◌, ◌^◌, ◌<◌, ◌≤◌, true, length, slice_index, sym, ap, ◌∙◌, subst, inl, inr, arith, length-set, slice_set, get_or-set_other, get_or-set_same}
 use Rattle.std.proofs.lemmas.Bool.{cases_eq}
+use Rattle.std.proofs.lemmas.List.{length-replicate}
 use Rattle.strip_mask.specs.Set.{IsSet, has, without}
 use Rattle.strip_mask.proofs.ByMembers.{below_64, below_width}
 use Rattle.strip_mask.proofs.Sizes.{first_is, first_none}
@@ -7,52 +8,60 @@ use Rattle.strip_arrivals.proofs.Places.{without_less, zeros}
 use Rattle.strip_arrivals.proofs.table.rates_by.Goals as goal
 
 pub loop-number-init : goal.loop-number-init
-loop-number-init c = record {
-  long = refl;
-  none = refl;
-  small = λ sets. omega (arith, zeros 1024 sets);
+loop-number-init g c = record {
+  long = length-replicate g.row.SETS 0;
+  none = zeros g.row.SETS 0;
+  small = λ sets. omega (arith, zeros g.row.SETS sets);
   more = λ sets lt other. absurd (other (omega (arith, lt)));
 }
 
 pub without-requires : goal.without-requires
-without-requires c =
-    let small : IsSet c.loop-number.number = omega (arith, c.loop-number-test.true, c.requires.count) in
+without-requires g c =
+    let small : IsSet c.loop-number.number = omega (arith, c.loop-number-test.true, c.requires.count, c.requires.room) in
     let there : has c.loop-number.number c.in-Some.place ≡ true = (first_is c.loop-number.number c.in-Some.place small (sym c.first.ensures ∙ c.in-Some.is)).0 in
     below_64 c.loop-number.number c.in-Some.place small there
 
 pub offset_bounds-rates-without : goal.offset_bounds-rates-without
-offset_bounds-rates-without c =
-    let small : IsSet c.loop-number.number = omega (arith, c.loop-number-test.true, c.requires.count) in
+offset_bounds-rates-without g c =
+    let small : IsSet c.loop-number.number = omega (arith, c.loop-number-test.true, c.requires.count, c.requires.room) in
     let there : has c.loop-number.number c.in-Some.place ≡ true = (first_is c.loop-number.number c.in-Some.place small (sym c.first.ensures ∙ c.in-Some.is)).0 in
     let less : without c.loop-number.number c.in-Some.place < c.loop-number.number = without_less c.loop-number.number c.in-Some.place there in
-    omega (arith, c.without.ensures, less, c.loop-number-test.true, c.requires.count)
+    omega (arith, c.without.ensures, less, c.loop-number-test.true, c.requires.count, c.requires.room)
 
 pub bounds-rates-without : goal.bounds-rates-without
-bounds-rates-without c =
-    let small : IsSet c.loop-number.number = omega (arith, c.loop-number-test.true, c.requires.count) in
+bounds-rates-without g c =
+    let small : IsSet c.loop-number.number = omega (arith, c.loop-number-test.true, c.requires.count, c.requires.room) in
     let there : has c.loop-number.number c.in-Some.place ≡ true = (first_is c.loop-number.number c.in-Some.place small (sym c.first.ensures ∙ c.in-Some.is)).0 in
     let less : without c.loop-number.number c.in-Some.place < c.loop-number.number = without_less c.loop-number.number c.in-Some.place there in
-    omega (arith, c.without.ensures, less, c.loop-number-test.true, c.requires.count)
+    omega (arith, c.without.ensures, less, c.loop-number-test.true, c.requires.count, c.requires.room)
 
 pub bounds-places-place : goal.bounds-places-place
-bounds-places-place c =
-    let small : IsSet c.loop-number.number = omega (arith, c.loop-number-test.true, c.requires.count) in
+bounds-places-place g c =
+    let small : IsSet c.loop-number.number = omega (arith, c.loop-number-test.true, c.requires.count, c.requires.room) in
     let there : has c.loop-number.number c.in-Some.place ≡ true = (first_is c.loop-number.number c.in-Some.place small (sym c.first.ensures ∙ c.in-Some.is)).0 in
-    let fits : c.loop-number.number < 2 ^ 10 = omega (arith, c.loop-number-test.true, c.requires.count) in
+    let fits : c.loop-number.number < 2 ^ 10 = omega (arith, c.loop-number-test.true, c.requires.count, c.requires.room) in
     below_width c.loop-number.number 10 c.in-Some.place fits there
 
+pub overflow_add-rates : goal.overflow_add-rates
+overflow_add-rates g c =
+    let small : IsSet c.loop-number.number = omega (arith, c.loop-number-test.true, c.requires.count, c.requires.room) in
+    let there : has c.loop-number.number c.in-Some.place ≡ true = (first_is c.loop-number.number c.in-Some.place small (sym c.first.ensures ∙ c.in-Some.is)).0 in
+    let less : without c.loop-number.number c.in-Some.place < c.loop-number.number = without_less c.loop-number.number c.in-Some.place there in
+    let before : slice_index c.loop-number.rates c.without.result.0 ≤ 64000000000 * c.without.result.0 = c.loop-number.invariant.small c.without.result.0 in
+    record { fits = omega (arith, before, c.without.ensures, less, c.loop-number-test.true, c.requires.count, c.requires.low c.in-Some.place) }
+
 pub unreachable-requires : goal.unreachable-requires
-unreachable-requires c =
-    let small : IsSet c.loop-number.number = omega (arith, c.loop-number-test.true, c.requires.count) in
+unreachable-requires g c =
+    let small : IsSet c.loop-number.number = omega (arith, c.loop-number-test.true, c.requires.count, c.requires.room) in
     let none : c.loop-number.number ≡ 0 = first_none c.loop-number.number small (sym c.first.ensures ∙ c.in-None.is) in
     omega (arith, none, c.loop-number.auto.number)
 
 pub loop-number-preserved : goal.loop-number-preserved
-loop-number-preserved c =
-    let small : IsSet c.loop-number.number = omega (arith, c.loop-number-test.true, c.requires.count) in
+loop-number-preserved g c =
+    let small : IsSet c.loop-number.number = omega (arith, c.loop-number-test.true, c.requires.count, c.requires.room) in
     let there : has c.loop-number.number c.in-Some.place ≡ true = (first_is c.loop-number.number c.in-Some.place small (sym c.first.ensures ∙ c.in-Some.is)).0 in
     let less : without c.loop-number.number c.in-Some.place < c.loop-number.number = without_less c.loop-number.number c.in-Some.place there in
-    let within : c.loop-number.number < length c.loop-number.rates = omega (arith, c.loop-number.invariant.long, c.loop-number-test.true, c.requires.count) in
+    let within : c.loop-number.number < length c.loop-number.rates = omega (arith, c.loop-number.invariant.long, c.loop-number-test.true, c.requires.count, c.requires.room) in
     let value : ℕ = (slice_index c.loop-number.rates c.without.result.0 + slice_index c.args.places.now.rates c.in-Some.place) in
     let kept : (sets : ℕ) → sets ≢ c.loop-number.number → slice_index (slice_set c.loop-number.rates c.loop-number.number value) sets ≡ slice_index c.loop-number.rates sets
     = λ sets other. get_or-set_other c.loop-number.rates c.loop-number.number sets value 0 other in

@@ -4,8 +4,8 @@ use Rattle.strip_arrivals.proofs.table.rates_by.Given as goal
 
 -- the sets so far
 abbrev pub invariant-loop-number : goal.invariant-loop-number
-invariant-loop-number l = record {
-  long : length l.rates ≡ 1024;
+invariant-loop-number g l = record {
+  long : length l.rates ≡ g.row.SETS;
   none : slice_index l.rates 0 ≡ 0;
   small : (sets : ℕ) → slice_index l.rates sets ≤ 64000000000 * sets;
   more : (sets : ℕ) → sets < l.number → sets ≢ 0

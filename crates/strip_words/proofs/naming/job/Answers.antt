@@ -1,6 +1,5 @@
-use Rattle.std.proofs.Common.{bytes_eq, codes, true, take, drop, length, ◌-◌, ◌≡◌, ◌∷◌, refl, sym, ◌∙◌, subst}
+use Rattle.std.proofs.Common.{codes, take, drop, length, ◌-◌, refl, sym, ◌∙◌, subst}
 use Rattle.std.proofs.lemmas.Slice.Eq.{bytes_eq-Decides}
-use Rattle.strip_words.specs.Words.{Word}
 use Rattle.strip_words.specs.Solve.{NameSolve}
 use Rattle.strip_words.specs.Plans.{NamePlanFiles}
 use Rattle.strip_words.specs.Gen.{NameGen, NameTrial}

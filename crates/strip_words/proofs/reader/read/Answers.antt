@@ -1,12 +1,10 @@
-use Rattle.std.proofs.Common.{bytes_eq, Bool, arith, true, false, not, true≢false, take, drop, length, ◌-◌, ◌≡◌, ◌∷◌, ◌≢◌, [], All, refl, sym, ap, ◌∙◌, subst}
+use Rattle.std.proofs.Common.{arith, true≢false, length, ◌≡◌, ◌∷◌, ◌≢◌, [], All, refl, sym, ap, ◌∙◌, subst}
 use Rattle.std.proofs.lemmas.List.{length-map}
-use Rattle.std.proofs.lemmas.Slice.Eq.{bytes_eq-Decides}
-use Rattle.strip_words.specs.Words.{Word, IsSpelled, AreDistinct, options_in, operands_of}
+use Rattle.strip_words.specs.Words.{IsSpelled, AreDistinct, options_in, operands_of}
 use Rattle.strip_words.specs.Shown.{texts, strs, command_data, items_data, rest_data}
 use Rattle.strip_words.proofs.Results.{err_from}
 use Rattle.strip_words.proofs.Names.{names_from}
 use Rattle.strip_words.proofs.Spelled.{spells_from, spells_once}
-use Rattle.strip_words.proofs.Shows.{texts_begin}
 use Rattle.strip_words.proofs.reader.read.Goals as goal
 use Rattle.strip_words.proofs.reader.read.Goals.{else-len-command-via-then-len-command+then-are_filled+else-are_distinct, else-len-command-via-then-len-command+else-are_filled, else-len-command-via-else-len-command}
 

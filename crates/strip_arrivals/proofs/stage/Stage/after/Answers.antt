@@ -15,18 +15,8 @@ pub returns-then-has-clause-stage : goal.returns-then-has-clause-stage
 returns-then-has-clause-stage c =
     (came c.args.newcomers.0 c.args.self c.requires.stage c.args.actor _ (sym c.has.ensures ∙ c.if-has.true) c.without.ensures c.with.ensures refl).0
 
-pub returns-then-has-clause-fewer : goal.returns-then-has-clause-fewer
-returns-then-has-clause-fewer c =
-    (came c.args.newcomers.0 c.args.self c.requires.stage c.args.actor _ (sym c.has.ensures ∙ c.if-has.true) c.without.ensures c.with.ensures refl).1
-
 pub returns-else-has-clause-stage : goal.returns-else-has-clause-stage
 returns-else-has-clause-stage c =
     let here : has (actors_of (listed c.args.self.here)) c.args.actor ≡ true
     = is_here c.args.newcomers.0 c.args.self c.requires.stage c.args.actor c.requires.newcomer (sym c.has.ensures ∙ c.if-has.false) c.requires.here in
     (went c.args.newcomers.0 c.args.self c.requires.stage c.args.actor _ here refl c.without-else-has.ensures c.with-else-has.ensures).0
-
-pub returns-else-has-clause-fewer : goal.returns-else-has-clause-fewer
-returns-else-has-clause-fewer c =
-    let here : has (actors_of (listed c.args.self.here)) c.args.actor ≡ true
-    = is_here c.args.newcomers.0 c.args.self c.requires.stage c.args.actor c.requires.newcomer (sym c.has.ensures ∙ c.if-has.false) c.requires.here in
-    (went c.args.newcomers.0 c.args.self c.requires.stage c.args.actor _ here refl c.without-else-has.ensures c.with-else-has.ensures).1

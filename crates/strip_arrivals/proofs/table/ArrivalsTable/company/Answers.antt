@@ -8,11 +8,11 @@ use Rattle.strip_arrivals.proofs.Places.{sum_over_le_all}
 use Rattle.strip_arrivals.proofs.table.ArrivalsTable.company.Goals as goal
 
 pub scenes_with-with_second-requires : goal.scenes_with-with_second-requires
-scenes_with-with_second-requires c = λ i there.
+scenes_with-with_second-requires g c = λ i there.
     c.requires.known_newcomers i (has_from_minus c.args.newcomers.0 c.first_of-first.result.0 i (ap (λ (s : ℕ). has s i) (sym c.minus-second.ensures) ∙ there)).0
 
 pub returns-clause-company : goal.returns-clause-company
-returns-clause-company c =
+returns-clause-company g c =
     let film : GroupData = c.args.self.now in
     let limits = c.keeps_limits.ensures in
     let group : ℕ = c.args.group.0 in
@@ -39,6 +39,7 @@ returns-clause-company c =
       small = small;
       few = c.requires.few;
       small_newcomers = small_newcomers;
+      few_newcomers = c.requires.few_newcomers;
       known = c.requires.known;
       known_newcomers = c.requires.known_newcomers;
       few_actors = limits.actor_count;
@@ -48,6 +49,8 @@ returns-clause-company c =
       places = c.size-2.ensures;
       count = count;
       most = few;
+      room = omega (arith, c.requires.room, count);
+      few_sets = c.requires.few_sets;
       all = c.below.ensures ∙ ap full c.size-3.ensures;
       all_within = omega (arith, c.below.ensures ∙ ap full c.size-3.ensures, full_small (size group) (size group) (omega arith), count);
       left_long = c.left_by-left.ensures.long;
@@ -61,7 +64,7 @@ returns-clause-company c =
       classes = are_classes film c.args.set.0 newcomers first second with_first with_second
           c.scenes_with-with_first.ensures c.scenes_with-with_second.ensures c.first_of-first.ensures.member c.minus-second.ensures c.first_of-first.ensures.alone alone;
       days_long = refl;
-      days_each = for_kinds (λ kind. length (slice_index_or days kind []) ≡ 1024) c.days_of.ensures.long c.days_of-2.ensures.long c.days_of-3.ensures.long c.days_of-4.ensures.long;
+      days_each = for_kinds (λ kind. length (slice_index_or days kind []) ≡ g.row.SETS) c.days_of.ensures.long c.days_of-2.ensures.long c.days_of-3.ensures.long c.days_of-4.ensures.long;
       days = λ kind places lt below. for_kinds (λ k. slice_index (slice_index_or days k []) places ≡ of_class places (scenes k))
           (c.days_of.ensures.days places (within places below) ∙ ap (of_class places) (c.minus.ensures ∙ ap (λ (s : ℕ). minus s with_second) c.minus-without.ensures))
           (c.days_of-2.ensures.days places (within places below) ∙ ap (of_class places) (c.minus-2.ensures ∙ ap (λ (s : ℕ). minus s with_second) c.meet-with.ensures))

@@ -10,20 +10,20 @@ use Rattle.strip_arrivals.proofs.Own.{days_are, own, own_is}
 use Rattle.strip_arrivals.proofs.table.ArrivalsTable.own_pay.Goals as goal
 
 pub hold-requires : goal.hold-requires
-hold-requires c = c.requires.known c.in-Some.actor (turn_member c.args.company.now.group.0 c.in-Some.actor c.loop-actor.yielded (rest_of c.loop-actor.actor-iterator) (rest_of c.next.new.self) c.loop-actor.invariant.turns c.in-Some.ensures.steps)
+hold-requires g c = c.requires.known c.in-Some.actor (turn_member c.args.company.now.group.0 c.in-Some.actor c.loop-actor.yielded (rest_of c.loop-actor.actor-iterator) (rest_of c.next.new.self) c.loop-actor.invariant.turns c.in-Some.ensures.steps)
 
 pub plays-requires : goal.plays-requires
-plays-requires c = c.requires.known c.in-Some.actor (turn_member c.args.company.now.group.0 c.in-Some.actor c.loop-actor.yielded (rest_of c.loop-actor.actor-iterator) (rest_of c.next.new.self) c.loop-actor.invariant.turns c.in-Some.ensures.steps)
+plays-requires g c = c.requires.known c.in-Some.actor (turn_member c.args.company.now.group.0 c.in-Some.actor c.loop-actor.yielded (rest_of c.loop-actor.actor-iterator) (rest_of c.next.new.self) c.loop-actor.invariant.turns c.in-Some.ensures.steps)
 
 pub overflow_add-pay : goal.overflow_add-pay
-overflow_add-pay c =
+overflow_add-pay g c =
     let turn = turn_at c.args.company.now.group.0 c.in-Some.actor c.loop-actor.yielded (rest_of c.loop-actor.actor-iterator) (rest_of c.next.new.self) c.loop-actor.invariant.turns c.in-Some.ensures.steps in
     let days : c.days.result ≤ 19800 = omega (arith, c.days.ensures.same, c.requires.few_days (meet c.plays.result.0 c.args.company.now.set.0), ap (sum_over c.args.self.now.days) c.meet.ensures) in
     let more : c.hold.result * c.days.result ≤ 64000000000 * 19800 = mul-le-mul c.hold.ensures.low days in
     record { fits = omega (arith, more, c.loop-actor.invariant.small, turn.1, c.requires.few) }
 
 pub loop-actor-preserved : goal.loop-actor-preserved
-loop-actor-preserved c =
+loop-actor-preserved g c =
     let days : c.days.result ≤ 19800 = omega (arith, c.days.ensures.same, c.requires.few_days (meet c.plays.result.0 c.args.company.now.set.0), ap (sum_over c.args.self.now.days) c.meet.ensures) in
     let more : c.hold.result * c.days.result ≤ 64000000000 * 19800 = mul-le-mul c.hold.ensures.low days in
     let one : c.hold.result * c.days.result ≡ own c.args.self.now c.args.company.now.set.0 c.args.company.now.group.0 c.in-Some.actor
@@ -43,5 +43,5 @@ loop-actor-preserved c =
     last n = omega arith
 
 pub returns : goal.returns
-returns c = c.loop-actor.invariant.so_far ∙ own_is c.args.self.now c.args.company.now.set.0 c.args.company.now.group.0 c.args.company.now.newcomers.0 c.loop-actor.yielded
+returns g c = c.loop-actor.invariant.so_far ∙ own_is c.args.self.now c.args.company.now.set.0 c.args.company.now.group.0 c.args.company.now.newcomers.0 c.loop-actor.yielded
     (turns_all c.args.company.now.group.0 c.loop-actor.yielded (rest_of c.loop-actor.actor-iterator) c.loop-actor.invariant.turns c.in-None.ensures.steps.0)

@@ -1,0 +1,161 @@
+-- The parties of a set are paid for waiting no less than their values.
+use Rattle.std.proofs.Common.{◌≡◌, ◌≢◌, ℕ, zero, suc, ◌+◌, ◌*◌, ◌<◌, ◌≤◌, max, true, false, not, List, All, Contains, filter, length, take, drop, slice_index, inl, inr, sym, ◌∙◌, arith}
+use Rattle.std.proofs.Math.Nat.{max-eq_left, max-eq_right, mul-le-mul_right}
+use Rattle.std.proofs.lemmas.Bool.{and_parts, cases_lt, false≢true, not-true}
+use Rattle.std.proofs.lemmas.List.Elements.{All-weaker, All-contains_itself}
+use Rattle.std.proofs.lemmas.List.Kept.{IsStrictlyIncreasing-filter}
+use Rattle.strip_mask.specs.Set.{IsSet, LiesBelow, has, members, numbers_below, size}
+use Rattle.strip_mask.specs.Sums.{sum_below}
+use Rattle.strip_mask.proofs.Below.{is_set_below}
+use Rattle.strip_mask.proofs.Members.{has_from_members, members_rise}
+use Rattle.strip_mask.proofs.Sums.{sum_below_mono}
+use Rattle.strip_pay.specs.Film.{FilmData}
+use Rattle.strip_film.specs.Bounds.{plain_bound}
+use Rattle.strip_film.specs.Film.{IsFilm, LiesIn}
+use Rattle.strip_film.specs.Shoot.{on_location}
+use Rattle.strip_film.specs.Finish.{steps_cost}
+use Rattle.strip_film.proofs.Located.{location_lies}
+use Rattle.strip_film.proofs.Lists.{AllOnce}
+use Rattle.strip_kind.specs.declared.kind.Kind.TheVariants.{Arrivals}
+use Rattle.strip_arrivals.specs.Along.{waiting}
+use Rattle.strip_arrivals.proofs.Along.{value_le}
+use Rattle.strip_bound.specs.Bounds.{bound, greatest_below, group_at, group_data, hold_without, is_newcomer, located_by_hold, newcomers_at, newcomers_by_hold, number_of_parties, parties_extra, party_value}
+use Rattle.strip_bound.proofs.Arriving.{from_joined, has_each, joined, waiting_within_steps, waits_together}
+use Rattle.strip_bound.proofs.Fall.{Chain, below_from_numbers, contains_kept, numbers_rise, once, same_members}
+use Rattle.strip_bound.proofs.Members.{false_from}
+use Rattle.strip_bound.proofs.Pieces.{contains_take, contains_drop, from_set_of}
+use Rattle.strip_bound.proofs.Places.{pieces_differ, size_piece}
+
+module _ (film : FilmData) (set : ℕ) where
+  -- ---- who is in a party
+
+  pub located_once : Chain (λ a b. a ≢ b) (located_by_hold film set)
+  located_once = once (slice_index film.holds) (members (on_location film set)) (members_rise (on_location film set))
+
+  pub newcomers_once : Chain (λ a b. a ≢ b) (newcomers_by_hold film set)
+  newcomers_once = once (hold_without film set) (filter (is_newcomer film set) (numbers_below (length film.rates)))
+      (IsStrictlyIncreasing-filter (is_newcomer film set) (numbers_below (length film.rates)) (numbers_rise (length film.rates)))
+
+  pub is_located : (i : ℕ) → Contains (located_by_hold film set) i → has (on_location film set) i ≡ true
+  is_located i there = has_from_members (on_location film set) i
+      ((same_members (slice_index film.holds) (members (on_location film set)) i).0 there)
+
+  pub is_away : (i : ℕ) → Contains (newcomers_by_hold film set) i → (i < length film.rates) × (has (on_location film set) i ≡ false)
+  is_away i there =
+      let found = contains_kept (is_newcomer film set) (numbers_below (length film.rates)) i
+      ((same_members (hold_without film set) (filter (is_newcomer film set) (numbers_below (length film.rates))) i).0 there) in (
+        below_from_numbers (length film.rates) i found.0,
+        not-true (has (on_location film set) i) (and_parts (not (has (on_location film set) i)) _ found.1).0,
+      )
+
+  pub group_located : (many place i : ℕ) → has (group_at film set many place) i ≡ true → has (on_location film set) i ≡ true
+  group_located many place i there = is_located i (contains_drop (place * many) (located_by_hold film set) i
+      (contains_take many (drop (place * many) (located_by_hold film set)) i (from_set_of (take many (drop (place * many) (located_by_hold film set))) i there)))
+
+  pub newcomer_away : (count place i : ℕ) → has (newcomers_at film set count place) i ≡ true → (i < length film.rates) × (has (on_location film set) i ≡ false)
+  newcomer_away count place i there = is_away i (contains_drop (place * 2) (newcomers_by_hold film set) i
+      (contains_take count (drop (place * 2) (newcomers_by_hold film set)) i (from_set_of (take count (drop (place * 2) (newcomers_by_hold film set))) i there)))
+
+  -- no newcomer of a party is of a group
+  pub newcomer_apart : (many place count other i : ℕ) → has (newcomers_at film set count other) i ≡ true → has (group_at film set many place) i ≡ false
+  newcomer_apart many place count other i there = false_from (has (group_at film set many place) i) (λ member.
+      false≢true (sym (newcomer_away count other i there).1 ∙ group_located many place i member))
+
+  step_on : (j k m n : ℕ) → j < k → n ≤ m → j * m + n ≤ k * m
+  step_on j k m n less few =
+      let row : suc j * m ≤ k * m = mul-le-mul_right m (omega (arith, less)) in
+      let more : suc j * m ≡ j * m + m = grind arith in
+      omega (arith, row, more, few)
+
+  groups_apart : (many j k i : ℕ) → j < k → has (group_at film set many j) i ≡ true → has (group_at film set many k) i ≡ true → ⊥
+  groups_apart many j k i less first second = pieces_differ (located_by_hold film set) (j * many) many (k * many) many i located_once
+      (step_on j k many many less (omega arith))
+      (from_set_of (take many (drop (j * many) (located_by_hold film set))) i first)
+      (from_set_of (take many (drop (k * many) (located_by_hold film set))) i second)
+
+  newcomers_apart : (a b j k i : ℕ) → a ≤ 2 → j < k → has (newcomers_at film set a j) i ≡ true → has (newcomers_at film set b k) i ≡ true → ⊥
+  newcomers_apart a b j k i few less first second = pieces_differ (newcomers_by_hold film set) (j * 2) a (k * 2) b i newcomers_once
+      (omega (arith, less, few))
+      (from_set_of (take a (drop (j * 2) (newcomers_by_hold film set))) i first)
+      (from_set_of (take b (drop (k * 2) (newcomers_by_hold film set))) i second)
+
+  -- ---- the greatest value is some value
+
+  pub greatest_is : (many n place : ℕ) → (count : ℕ) × (count ≤ n) × (greatest_below film set many (suc n) place ≡ party_value film set many count place)
+  greatest_is many zero place = (0, omega arith, max-eq_right (omega arith))
+  greatest_is many (suc n) place =
+      let before = greatest_is many n place in
+      let last : ℕ = party_value film set many (suc n) place in
+      let known : ℕ = greatest_below film set many (suc n) place in
+      elim (cases_lt known last) [
+        | inl less ↦ (suc n, omega arith, max-eq_right (omega (arith, less)))
+        | inr most ↦ (before.0, omega (arith, before.1), max-eq_left most ∙ before.2)
+      ]
+
+  module _ (is : IsFilm film) (lies : LiesIn film set) where
+    is_set : IsSet set
+    is_set = is_set_below (length film.casts) set is.scene_count.1 lies
+
+    pub group_known : (many place : ℕ) → LiesBelow (length film.rates) (group_at film set many place)
+    group_known many place i there = location_lies film set is i (group_located many place i there)
+
+    pub newcomers_known : (count place : ℕ) → LiesBelow (length film.rates) (newcomers_at film set count place)
+    newcomers_known count place i there = (newcomer_away count place i there).0
+
+    value_at_most : (many count place : ℕ) (scenes : List ℕ) → AllOnce set scenes
+        → party_value film set many count place ≤ waiting (group_data film) (group_at film set many place) (newcomers_at film set count place) scenes
+    value_at_most many count place scenes each = value_le (group_data film) set (group_at film set many place) (newcomers_at film set count place)
+        is_set (is_set_below (length film.rates) (group_at film set many place) is.actor_count (group_known many place))
+        (λ i there. newcomer_apart many place count place i there) scenes
+        (is_set_below (length film.rates) (newcomers_at film set count place) is.actor_count (newcomers_known count place)) (has_each set scenes each)
+
+    -- the parties of a size, whatever their number
+    within_steps : (many : ℕ) (scenes : List ℕ) → AllOnce set scenes → plain_bound film set + parties_extra film set many ≤ steps_cost film set scenes
+    within_steps many scenes each =
+        let n : ℕ = number_of_parties film set many in
+        let chosen : ℕ → ℕ = λ place. (greatest_is many 2 place).0 in
+        let group : ℕ → ℕ = group_at film set many in
+        let coming : ℕ → ℕ = λ place. newcomers_at film set (chosen place) place in
+        let paid : ℕ → ℕ = λ place. waiting (group_data film) (group place) (coming place) scenes in
+        let values : parties_extra film set many ≤ sum_below n paid
+        = sum_below_mono n (greatest_below film set many 3) paid (λ place _.
+        omega (arith, (greatest_is many 2 place).2, value_at_most many (chosen place) place scenes each)) in
+        let together : sum_below n paid ≤ waiting (group_data film) (joined group n) (joined coming n) scenes
+        = waits_together film group coming (groups_apart many)
+        (λ j k i less. newcomers_apart (chosen j) (chosen k) j k i (greatest_is many 2 j).1 less)
+        (λ j k i member newcomer. false≢true (sym (newcomer_apart many j (chosen k) k i newcomer) ∙ member)) n scenes in
+        let steps : plain_bound film set + waiting (group_data film) (joined group n) (joined coming n) scenes ≤ steps_cost film set scenes
+        = waiting_within_steps film is (joined group n) (joined coming n) set scenes lies each
+        (λ i member. let found = from_joined group n i member in group_located many found.0 i found.2) in
+        omega (arith, values, together, steps)
+
+    pub arrivals_bound_tails : (scenes : List ℕ) → AllOnce set scenes → bound Arrivals film set ≤ steps_cost film set scenes
+    arrivals_bound_tails scenes each =
+        let few : plain_bound film set + parties_extra film set 7 ≤ steps_cost film set scenes = within_steps 7 scenes each in
+        let many : plain_bound film set + parties_extra film set 10 ≤ steps_cost film set scenes = within_steps 10 scenes each in
+        elim (cases_lt (parties_extra film set 7) (parties_extra film set 10)) [
+          | inl less ↦ (let is_many : max (parties_extra film set 7) (parties_extra film set 10) ≡ parties_extra film set 10 = max-eq_right (omega (arith, less)) in
+              omega (arith, many, is_many))
+          | inr most ↦ (let is_few : max (parties_extra film set 7) (parties_extra film set 10) ≡ parties_extra film set 7 = max-eq_left most in
+              omega (arith, few, is_few))
+        ]
+
+    -- ---- the numbers of those who are in a party
+
+    pub located_small : All (λ actor. actor < 64) (located_by_hold film set)
+    located_small = All-weaker (Contains (located_by_hold film set)) (λ actor. actor < 64)
+        (λ actor there. omega (arith, location_lies film set is actor (is_located actor there), is.actor_count))
+        (located_by_hold film set) (All-contains_itself (located_by_hold film set))
+
+    pub newcomers_small : All (λ actor. actor < 64) (newcomers_by_hold film set)
+    newcomers_small = All-weaker (Contains (newcomers_by_hold film set)) (λ actor. actor < 64)
+        (λ actor there. omega (arith, (is_away actor there).0, is.actor_count))
+        (newcomers_by_hold film set) (All-contains_itself (newcomers_by_hold film set))
+
+    pub group_few : (many place : ℕ) → size (group_at film set many place) ≤ many
+    group_few many place = size_piece (place * many) many (located_by_hold film set)
+        (λ actor there. omega (arith, location_lies film set is actor (is_located actor there), is.actor_count))
+
+    pub newcomers_few : (count place : ℕ) → size (newcomers_at film set count place) ≤ count
+    newcomers_few count place = size_piece (place * 2) count (newcomers_by_hold film set)
+        (λ actor there. omega (arith, (is_away actor there).0, is.actor_count))

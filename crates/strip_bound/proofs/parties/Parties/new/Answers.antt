@@ -1,0 +1,14 @@
+use Rattle.std.proofs.Common.{◌≡◌, ℕ, ◌+◌, ◌-◌, ◌/◌, length, ap, ◌∙◌}
+use Rattle.strip_mask.specs.Set.{size}
+use Rattle.strip_film.specs.Shoot.{on_location}
+use Rattle.strip_bound.proofs.Asked.{located_count, none_known}
+use Rattle.strip_bound.proofs.parties.Parties.new.Goals as goal
+
+pub returns-clause-parties : goal.returns-clause-parties
+returns-clause-parties c =
+    let film = c.args.film.now in
+    let q = c.args.q.0 in
+    let count : c.len.result ≡ size (on_location film q) = c.len.ensures.value ∙ ap length c.requires.actors.located ∙ located_count film q in
+    let number : (c.len.result + (c.args.many - 1)) / c.args.many ≡ (size (on_location film q) + (c.args.many - 1)) / c.args.many
+    = ap (λ (n : ℕ). (n + (c.args.many - 1)) / c.args.many) count in
+    none_known film q c.args.many ((c.len.result + (c.args.many - 1)) / c.args.many) c.args.need number c.requires.many

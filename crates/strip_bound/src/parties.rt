@@ -1,0 +1,245 @@
+// What parties cost beyond the plain bound.
+ghost use Rattle.std.specs.Prelude.{◌≡◌, ℕ, ◌+◌, ◌-◌, ◌*◌, ◌^◌, ◌<◌, ◌≤◌, ◌⊎◌, not, All, drop, filter, length, max, slice_index, slice_set, sum_by, take};
+ghost use Rattle.strip_mask.specs.Set.{LiesBelow, members};
+ghost use Rattle.strip_film.specs.Film.{LiesIn};
+ghost use Rattle.strip_film.specs.Shoot.{on_location};
+ghost use Rattle.strip_pay.specs.Pay.{works};
+ghost use Rattle.strip_bound.specs.Bounds.{hold_without, is_newcomer, newcomers_by_hold, parties_extra, set_of};
+ghost use Rattle.strip_bound.specs.Falling.{by_falling};
+ghost use Rattle.strip_bound.specs.Parties.{AreActors, AreAsked, AreParties};
+ghost use Rattle.strip_bound.specs.Tables.{AreTables};
+ghost use Rattle.arrayvec.specs.ArrayVec.{array_vec_len};
+
+use crate::falling::{Falling, place};
+use crate::tables::BoundTables;
+use arrayvec::ArrayVec;
+use strip_film::{Film, on};
+use strip_mask::Mask;
+
+/// How many actors a group of the smaller size has; the last one has what remains.
+const FEW: usize = 7;
+
+/// How many one of the larger size has.
+const MANY: usize = 10;
+
+/// How many parties there are at most.
+const PARTIES: usize = 10;
+
+/// How many newcomers a party has at most.
+const NEWCOMERS: usize = 2;
+
+/// Who is on location, by falling hold rate, and the newcomers, by what they would be paid for waiting
+/// on all days without them.
+#[derive(Drop)]
+pub(crate) struct Actors {
+    pub(crate) located: Falling,
+    pub(crate) newcomers: Falling,
+}
+
+/// The parties of a set: how many actors each of their groups has, but for the last one, how many
+/// parties there are, the greatest value known of each, the sum of these, and how far it has to reach.
+#[derive(Drop)]
+pub(crate) struct Parties {
+    pub(crate) many: usize,
+    pub(crate) number: usize,
+    pub(crate) values: [u64; PARTIES],
+    pub(crate) extra: u64,
+    pub(crate) need: u64,
+}
+
+/// What parties of seven or of ten cost beyond the plain bound, whichever is more, or a part of it that
+/// is at least `need`. It asks for the values of groups alone first, then for those with newcomers.
+pub(crate) fn extra_of_parties(film: &Film, tables: &BoundTables, q: Mask, need: u64) -> u64
+    requires tables { AreTables film.now tables.now }
+    requires lies { LiesIn film.now q.0 }
+    ensures most { result ≤ max (parties_extra film.now q.0 7) (parties_extra film.now q.0 10) }
+    ensures reaches { (need ≤ result) ⊎ (result ≡ max (parties_extra film.now q.0 7) (parties_extra film.now q.0 10)) }
+{
+    film.keeps_limits();
+    let on = on(film, q);
+    let mut actors = Actors {
+        located: located(film, tables, on),
+        newcomers: ArrayVec::new(),
+    };
+    let mut few = Parties::new(film, q, &actors, FEW, need);
+    few.ask(film, tables, q, &actors, 0);
+    if few.extra >= need {
+        return few.extra;
+    }
+    actors.newcomers = newcomers(film, tables, q, on);
+    few.ask(film, tables, q, &actors, 1);
+    few.ask(film, tables, q, &actors, 2);
+    if few.extra >= need || actors.located.len() <= FEW {
+        return few.extra;
+    }
+    let mut many = Parties::new(film, q, &actors, MANY, need);
+    many.ask(film, tables, q, &actors, 0);
+    many.ask(film, tables, q, &actors, 1);
+    many.ask(film, tables, q, &actors, 2);
+    few.extra.max(many.extra)
+}
+
+impl Parties {
+    /// The parties, of none of which anything is known.
+    fn new(film: &Film, q: Mask, actors: &Actors, many: usize, need: u64) -> Parties
+        requires actors { AreActors film.now q.0 0 actors.now }
+        requires many { (many ≡ 7) ⊎ (many ≡ 10) }
+        ensures parties { AreParties film.now q.0 many result }
+        ensures asked { AreAsked film.now q.0 many 0 result }
+        ensures need { result.need ≡ need }
+    {
+        Parties {
+            many,
+            number: (actors.located.len() + (many - 1)) / many,
+            values: [0; PARTIES],
+            extra: 0,
+            need,
+        }
+    }
+
+    /// Asks each party that has so many newcomers for its value with them, until as much as is needed
+    /// is known. One value for each party.
+    fn ask(&mut self, film: &Film, tables: &BoundTables, q: Mask, actors: &Actors, count: usize)
+        requires tables { AreTables film.now tables.now }
+        requires lies { LiesIn film.now q.0 }
+        requires actors { AreActors film.now q.0 count actors.now }
+        requires count { count ≤ 2 }
+        requires many { (self.old.many ≡ 7) ⊎ (self.old.many ≡ 10) }
+        requires parties { AreParties film.now q.0 self.old.many self.old }
+        requires asked { AreAsked film.now q.0 self.old.many count self.old }
+        ensures many { self.new.many ≡ self.old.many }
+        ensures need { self.new.need ≡ self.old.need }
+        ensures parties { AreParties film.now q.0 self.new.many self.new }
+        ensures asked { AreAsked film.now q.0 self.new.many (count + 1) self.new }
+    {
+        film.keeps_limits();
+        for place in 0..self.asked(actors, count) {
+            if self.extra >= self.need {
+                return;
+            }
+            let group = set_from(&actors.located, place * self.many, self.many);
+            let newcomers = set_from(&actors.newcomers, place * NEWCOMERS, count);
+            let value = tables.arrivals.value(q, group, newcomers);
+            self.raise(place, value);
+        }
+    }
+
+    /// How many of the parties have so many newcomers: they are the first ones.
+    fn asked(&self, actors: &Actors, count: usize) -> usize
+        requires { count ≤ 2 }
+        ensures few { result ≤ self.now.number }
+        ensures rest { (place : ℕ) → result ≤ place → place < self.now.number
+            → (0 < count) × (array_vec_len actors.now.newcomers < place * 2 + count) }
+    {
+        if count == 0 {
+            return self.number;
+        }
+        self.number
+            .min((actors.newcomers.len() + (NEWCOMERS - count)) / NEWCOMERS)
+    }
+
+    /// Keeps the value of the party at this place, where it is above what was known of it.
+    fn raise(&mut self, place: usize, value: u64)
+        requires place { place < length self.old.values }
+        requires fits { self.old.extra + (value - slice_index self.old.values place) < 2 ^ 64 }
+        ensures { self.new ≡ record self.old {
+          values = slice_set self.old.values place (max (slice_index self.old.values place) value);
+          extra = self.old.extra + (value - slice_index self.old.values place);
+        } }
+    {
+        let more = value.saturating_sub(self.values[place]);
+        self.values[place] += more;
+        self.extra += more;
+    }
+}
+
+/// These actors, by falling hold rate. One turn for each actor of the film.
+fn located(film: &Film, tables: &BoundTables, on: Mask) -> Falling
+    requires tables { AreTables film.now tables.now }
+    requires lies { LiesBelow (length film.now.rates) on.0 }
+    ensures { result.items ≡ by_falling (slice_index film.now.holds) (members on.0) }
+{
+    film.keeps_limits();
+    let mut located = ArrayVec::new();
+    for &actor in tables.by_hold.iter() {
+        if on.has(actor) {
+            located.push(actor);
+        }
+    }
+    located
+}
+
+/// The newcomers, by what they would be paid for waiting on all days without them. One turn for each
+/// actor of the film, and for each newcomer at most one for each of the others.
+fn newcomers(film: &Film, tables: &BoundTables, q: Mask, on: Mask) -> Falling
+    requires tables { AreTables film.now tables.now }
+    requires lies { LiesIn film.now q.0 }
+    requires on { on.0 ≡ on_location film.now q.0 }
+    ensures { result.items ≡ newcomers_by_hold film.now q.0 }
+{
+    film.keeps_limits();
+    let pay = pay_without(film, tables, q);
+    let mut newcomers = ArrayVec::new();
+    for actor in 0..film.rates().len() as u32 {
+        if is_newcomer(film, tables, q, on, actor) {
+            place(&mut newcomers, &pay, actor);
+        }
+    }
+    newcomers
+}
+
+/// Whether the actor isn't on location and has two or more scenes in the set.
+fn is_newcomer(film: &Film, tables: &BoundTables, q: Mask, on: Mask, actor: u32) -> bool
+    requires tables { AreTables film.now tables.now }
+    requires lies { LiesIn film.now q.0 }
+    requires on { on.0 ≡ on_location film.now q.0 }
+    requires known { actor < length film.now.rates }
+    ensures { result ≡ is_newcomer film.now q.0 actor }
+{
+    film.keeps_limits();
+    let scenes = Mask(tables.plays[actor as usize]).meet(q);
+    !on.has(actor) && scenes.size() >= 2
+}
+
+/// For each actor what he would be paid for waiting on all days of the set's scenes without him.
+fn pay_without(film: &Film, tables: &BoundTables, q: Mask) -> [u64; 64]
+    requires tables { AreTables film.now tables.now }
+    requires lies { LiesIn film.now q.0 }
+    ensures long { length result ≡ 64 }
+    ensures pay { (actor : ℕ) → slice_index result actor ≡ hold_without film.now q.0 actor }
+{
+    film.keeps_limits();
+    let holds = film.holds();
+    let mut pay = [0; 64];
+    for actor in 0..holds.len() {
+        pay[actor] = holds[actor] * days_without(film, tables, q, actor);
+    }
+    pay
+}
+
+/// The days of the set's scenes in which the actor doesn't work.
+fn days_without(film: &Film, tables: &BoundTables, q: Mask, actor: usize) -> u64
+    requires tables { AreTables film.now tables.now }
+    requires lies { LiesIn film.now q.0 }
+    requires known { actor < length film.now.rates }
+    ensures days { result ≡ sum_by (slice_index film.now.days) (filter (λ scene. not (works film.now actor scene)) (members q.0)) }
+    ensures small { result ≤ 19_800 }
+{
+    film.keeps_limits();
+    let scenes = q.minus(Mask(tables.plays[actor]));
+    tables.groups.day_sums().sum(scenes)
+}
+
+/// The actors at so many places of a list from this one on, or at all of fewer, as a set. One turn for
+/// each.
+fn set_from(actors: &[u32], from: usize, count: usize) -> Mask
+    requires listed { All (λ actor. actor < 64) actors.now }
+    requires fits { from + count < 2 ^ 63 }
+    ensures { result.0 ≡ set_of (take count (drop from actors.now)) }
+{
+    let mut set = Mask(0);
+    for place in from..(from + count).min(actors.len()) {
+        set = set.with(actors[place]);
+    }
+    set
+}

@@ -1,0 +1,49 @@
+// Films of the rows, and their bounds with arrivals.
+ghost use Rattle.strip_bound.specs.Tables.{AreTables};
+
+use std::alloc::Global;
+use std::test::Fail;
+use strip_bound::{BoundTables, Kept, static_reach};
+use strip_film::Film;
+use strip_kind::Kind;
+use strip_mask::Mask;
+
+/// The film of these lists, without pairs.
+pub(crate) fn film_of(
+    alloc: Global,
+    casts: &[u64],
+    days: &[u64],
+    rates: &[u64],
+    holds: &[u64],
+) -> Result<Film, Fail> {
+    let casts = Vec::from_slice(alloc, casts)?;
+    let days = Vec::from_slice(alloc, days)?;
+    let rates = Vec::from_slice(alloc, rates)?;
+    let holds = Vec::from_slice(alloc, holds)?;
+    let film = Film::of(casts, days, rates, holds, Vec::new(alloc)).ok_or("within the limits")?;
+    Ok(film)
+}
+
+/// The bound of the set, none where it has a number that is no scene.
+pub(crate) fn kept_bound(film: &Film, tables: &BoundTables, set: Mask) -> Option<u64>
+    requires { AreTables film.now tables.now }
+{
+    kept_reach(film, tables, set, u64::MAX)
+}
+
+/// A number as far as is needed, or the bound.
+pub(crate) fn kept_reach(film: &Film, tables: &BoundTables, set: Mask, need: u64) -> Option<u64>
+    requires { AreTables film.now tables.now }
+{
+    film.keeps_limits();
+    if !set.lies_below(film.scenes() as u32) {
+        return None;
+    }
+    let kind = Kind::Arrivals;
+    let kept = Kept::new(
+        film,
+        kind,
+        |q, need| static_reach(film, tables, kind, Mask(q), need),
+    );
+    Some(kept.reach(set, need))
+}

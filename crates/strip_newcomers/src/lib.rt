@@ -1,0 +1,16 @@
+//! Tests: the value of a group and its newcomers and the bound with arrivals, against values, bounds, costs
+//! and lists that another program worked out.
+#![tactic(auto)]
+
+#[cfg(test)]
+mod cases;
+#[cfg(test)]
+mod companies;
+#[cfg(test)]
+mod films;
+#[cfg(test)]
+mod finished;
+#[cfg(test)]
+mod stages;
+#[cfg(test)]
+mod values;

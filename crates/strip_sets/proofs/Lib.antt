@@ -1,0 +1,8 @@
+mod Sets
+mod Vectors
+mod Costs
+mod Passing
+mod TwoPlaces
+mod ByClass
+mod Parts
+mod Once
