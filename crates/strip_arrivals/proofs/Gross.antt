@@ -1,19 +1,18 @@
 -- Totals with what those who work in a scene of the group get for its days beside.
-use Rattle.std.proofs.Common.{◌≡◌, ℕ, ◌+◌, ◌*◌, ◌-◌, ◌^◌, ◌<◌, ◌≤◌, ◌⊎◌, Bool, true, false, not, ◌&&◌, ◌||◌, cond, min, List, [], ◌∷◌, Contains, slice_index, refl, sym, ap, ◌∙◌, subst, inl, inr, arith}
+use Rattle.std.proofs.Common.{◌≡◌, ℕ, ◌+◌, ◌*◌, ◌<◌, ◌≤◌, ◌⊎◌, Bool, true, false, not, ◌&&◌, ◌||◌, cond, min, List, [], ◌∷◌, Contains, slice_index, refl, sym, ap, ◌∙◌, subst, inl, inr, arith}
 use Rattle.std.proofs.Math.Nat.{min-le_left, min-le_right, min-eq_left, min-eq_right}
 use Rattle.std.proofs.lemmas.Bool.{cases_lt, false≢true}
-use Rattle.strip_mask.specs.Set.{IsSet, has, meet, minus, sum_over}
+use Rattle.strip_mask.specs.Set.{has, meet, minus, sum_over}
 use Rattle.strip_mask.specs.Sums.{sum_below}
 use Rattle.strip_mask.proofs.ByMembers.{has-empty, has-meet, has-minus, has-union, same_has}
 use Rattle.strip_mask.proofs.Sums.{sum_below-add, sum_below-ext, sum_below-none, sum_below-scale}
 use Rattle.strip_mask.proofs.Totals.{sum_over-minus, sum_over_is, sum_over-empty}
 use Rattle.strip_group.specs.Group.{GroupData}
-use Rattle.strip_arrivals.specs.Arrivals.{Event, IsOver, IsRun, StateData, after, allowed, charge, comes, events, events_left, goes, is_allowed, is_open, leaves, price, total}
-use Rattle.strip_arrivals.specs.Gross.{IsBest, IsGross, gross_charge, gross_price, most_charged, own_pay, weighted}
+use Rattle.strip_arrivals.specs.Arrivals.{Event, IsOver, IsRun, StateData, after, allowed, charge, comes, events, goes, is_allowed, is_open, leaves, price, total}
+use Rattle.strip_arrivals.specs.Gross.{IsBest, IsGross, gross_charge, gross_price, own_pay, weighted}
 use Rattle.strip_arrivals.proofs.Lists.{contains_from_filter, sum_passing}
 use Rattle.strip_arrivals.proofs.Casts.{none_works}
 use Rattle.strip_arrivals.proofs.Open.{open_after_going, open_after_leaving}
-use Rattle.strip_arrivals.proofs.Runs.{over_or_not}
 
 -- ---- days at rates
 
@@ -126,7 +125,7 @@ module _ (film : GroupData) (set group : ℕ) where
       ∙ off state (after state (goes actor)) actor (open_after_going film state actor)
 
   -- where all is over, nothing was added
-  none_added : (state : StateData) → IsOver group state → own_pay film set group state ≡ 0
+  pub none_added : (state : StateData) → IsOver group state → own_pay film set group state ≡ 0
   none_added state over = sum_below-none 64 (λ scene. cond {A = ℕ} (has set scene && is_open film state scene) (own_at scene) 0) (λ scene _.
       by_test (has set scene) (is_open film state scene) (own_at scene) (λ unpaid.
       let none : meet (slice_index film.casts scene) group ≡ 0
@@ -153,27 +152,43 @@ module _ (film : GroupData) (set group : ℕ) where
 
   -- ---- the least by what can happen first
 
-  pub none_tried : (tried : Event → Type 0) (state : StateData) (least : ℕ) → ((event : Event) → tried event → ⊥) → (IsOver group state → least ≡ 0)
-      → (least ≡ 2 ^ 64 - 1) ⊎ IsOver group state → IsBest film set group state tried least
-  none_tried tried state least none at_end begun = record {
+  -- nothing yet
+  pub none_tried : (never : ℕ) (tried : Event → Type 0) (state : StateData) (least : ℕ) → ((event : Event) → tried event → ⊥) → (IsOver group state → least ≡ 0)
+      → (never ≤ least) ⊎ IsOver group state → IsBest film set group never state tried least
+  none_tried never tried state least none at_end begun = record {
     over = at_end;
     no_more = λ event may was. absurd (none event was);
     attained = elim begun [ inl top ↦ inl top | inr over ↦ inr (inl over) ];
   }
 
-  -- nothing more
-  pub none_more : (tried more : Event → Type 0) (state : StateData) (least : ℕ) → IsBest film set group state tried least → ((event : Event) → more event → tried event)
-      → IsBest film set group state more least
-  none_more tried more state least best within = record {
+  -- one event, where all isn't over
+  pub first_tried : (never : ℕ) (tried : Event → Type 0) (state : StateData) (later : ℕ) (event : Event) → (IsOver group state → ⊥)
+      → ((other : Event) → tried other → event ≡ other) → Contains (allowed film set group state) event → IsGross film set group (after state event) later
+      → IsBest film set group never state tried (gross_charge film set group state event + later)
+  first_tried never tried state later event going_on only may gross = record {
+    over = λ over. absurd (going_on over);
+    no_more = λ other allow was. (
+      later,
+      subst (λ e. IsGross film set group (after state e) later) (only other was) gross,
+      subst (λ e. gross_charge film set group state event + later ≤ gross_charge film set group state e + later) (only other was) (omega arith),
+    );
+    attained = inr (inr (event, may, (later, gross, refl)));
+  }
+
+  -- nothing more that is allowed
+  pub none_more : (never : ℕ) (tried more : Event → Type 0) (state : StateData) (least : ℕ) → IsBest film set group never state tried least
+      → ((event : Event) → Contains (allowed film set group state) event → more event → tried event) → IsBest film set group never state more least
+  none_more never tried more state least best within = record {
     over = best.over;
-    no_more = λ event may was. best.no_more event may (within event was);
+    no_more = λ event may was. best.no_more event may (within event may was);
     attained = best.attained;
   }
 
   -- one more that isn't allowed
-  pub one_skipped : (tried more : Event → Type 0) (state : StateData) (least : ℕ) (event : Event) → IsBest film set group state tried least
-      → ((other : Event) → more other → tried other ⊎ (event ≡ other)) → (Contains (allowed film set group state) event → ⊥) → IsBest film set group state more least
-  one_skipped tried more state least event best within refused = record {
+  pub one_skipped : (never : ℕ) (tried more : Event → Type 0) (state : StateData) (least : ℕ) (event : Event) → IsBest film set group never state tried least
+      → ((other : Event) → more other → tried other ⊎ (event ≡ other)) → (Contains (allowed film set group state) event → ⊥)
+      → IsBest film set group never state more least
+  one_skipped never tried more state least event best within refused = record {
     over = best.over;
     no_more = λ other may was. elim (within other was) [
       | inl before ↦ best.no_more other may before
@@ -183,30 +198,27 @@ module _ (film : GroupData) (set group : ℕ) where
   }
 
   -- one more that is
-  pub one_tried : (tried more : Event → Type 0) (state : StateData) (least later : ℕ) (event : Event) → IsBest film set group state tried least
+  pub one_tried : (never : ℕ) (tried more : Event → Type 0) (state : StateData) (least later : ℕ) (event : Event) → IsBest film set group never state tried least
       → ((other : Event) → more other → tried other ⊎ (event ≡ other)) → Contains (allowed film set group state) event
-      → IsGross film set group (after state event) later → gross_charge film set group state event ≤ most_charged
-      → events_left group (after state event) < events_left group state
-      → IsBest film set group state more (min least (gross_charge film set group state event + later))
-  one_tried tried more state least later event best within may gross cheap fewer =
+      → IsGross film set group (after state event) later
+      → IsBest film set group never state more (min least (gross_charge film set group state event + later))
+  one_tried never tried more state least later event best within may gross =
       let paid : ℕ = gross_charge film set group state event + later in
       let first : min least paid ≤ least = min-le_left least paid in
       let second : min least paid ≤ paid = min-le_right least paid in
-      let low : paid ≤ most_charged * events_left group state = omega (arith, gross.small, cheap, fewer) in
       record {
         over = λ over. (let none = best.over over in omega (arith, none, first));
         no_more = λ other allow was. elim (within other was) [
-          | inl before ↦ (let found = best.no_more other allow before in (found.0, found.1, omega (arith, found.2, first), omega (arith, found.3, first)))
+          | inl before ↦ (let found = best.no_more other allow before in (found.0, found.1, omega (arith, found.2, first)))
           | inr is ↦ (
             later,
             subst (λ e. IsGross film set group (after state e) later) is gross,
             subst (λ e. min least paid ≤ gross_charge film set group state e + later) is second,
-            omega (arith, low, second),
           )
         ];
         attained = elim (cases_lt least paid) [
           | inl less ↦ (let is : min least paid ≡ least = min-eq_left (omega (arith, less)) in elim best.attained [
-            | inl top ↦ inl (is ∙ top)
+            | inl top ↦ inl (omega (arith, is, top))
             | inr rest ↦ elim rest [
               | inl over ↦ inr (inl over)
               | inr by ↦ inr (inr (by.0, by.1, (by.2.0, by.2.1, is ∙ by.2.2)))
@@ -216,45 +228,36 @@ module _ (film : GroupData) (set group : ℕ) where
         ];
       }
 
-  -- when all was tried
-  pub all_tried : (tried : Event → Type 0) (state : StateData) (least : ℕ) → IsSet group → IsSet state.coming → events_left group state ≤ 14
-      → IsBest film set group state tried least → ((event : Event) → Contains (events group state) event → tried event) → IsGross film set group state least
-  all_tried tried state least small fits few best whole = elim (over_or_not film set group small state fits) [
-    | inl over ↦ ended over
-    | inr some ↦ elim best.attained [
-      | inl top ↦ (let found = best.no_more some.0 some.1 (whole some.0 (known some.0 some.1)) in absurd (omega (arith, found.3, top, few)))
-      | inr rest ↦ elim rest [
-        | inl over ↦ ended over
-        | inr by ↦ (
-            let later = by.2.1 in
-            let gone = charged state by.0 in
-            let paid : ℕ = charge film set group state by.0 + later.net in
-            let found = best.no_more by.0 by.1 (whole by.0 (known by.0 by.1)) in
-            record {
-              net = paid;
-              is_least = record {
-                attained = (by.0 ∷ later.is_least.attained.0, (by.1, later.is_least.attained.1), ap (λ (n : ℕ). charge film set group state by.0 + n) later.is_least.attained.2);
-                least = no_less paid (omega (arith, by.2.2, later.added, gone));
-              };
-              added = omega (arith, by.2.2, later.added, gone);
-              small = found.3;
-            })
-      ]
-    ]
-  ]
-    where
-      known : (event : Event) → Contains (allowed film set group state) event → Contains (events group state) event
-      known event may = (contains_from_filter (is_allowed film set state) (events group state) event may).0
-
-      ended : IsOver group state → IsGross film set group state least
-      ended over =
+  -- when all was tried, and less than the number that stands for nothing was found
+  pub all_tried : (never : ℕ) (tried : Event → Type 0) (state : StateData) (least : ℕ) → IsBest film set group never state tried least
+      → ((event : Event) → Contains (events group state) event → tried event) → least < never → IsGross film set group state least
+  all_tried never tried state least best whole low = elim best.attained [
+    | inl top ↦ absurd (omega (arith, top, low))
+    | inr rest ↦ elim rest [
+      | inl over ↦ (
           let none = best.over over in
           record {
             net = 0;
             is_least = record { attained = ([], over, refl); least = λ run is_run. omega arith };
             added = omega (arith, none, none_added state over);
-            small = omega (arith, none);
-          }
+          })
+      | inr by ↦ (
+          let later = by.2.1 in
+          let gone = charged state by.0 in
+          let paid : ℕ = charge film set group state by.0 + later.net in
+          record {
+            net = paid;
+            is_least = record {
+              attained = (by.0 ∷ later.is_least.attained.0, (by.1, later.is_least.attained.1), ap (λ (n : ℕ). charge film set group state by.0 + n) later.is_least.attained.2);
+              least = no_less paid (omega (arith, by.2.2, later.added, gone));
+            };
+            added = omega (arith, by.2.2, later.added, gone);
+          })
+    ]
+  ]
+    where
+      known : (event : Event) → Contains (allowed film set group state) event → Contains (events group state) event
+      known event may = (contains_from_filter (is_allowed film set state) (events group state) event may).0
 
       no_less : (paid : ℕ) → (least ≡ paid + own_pay film set group state) → (run : List Event) → IsRun film set group state run → paid ≤ total film set group state run
       no_less paid is [] over = (let none = best.over over in omega (arith, none, is))

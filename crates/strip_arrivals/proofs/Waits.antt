@@ -8,7 +8,7 @@ use Rattle.strip_mask.specs.Set.{has, meet, minus, numbers_below, sum_over, with
 use Rattle.strip_mask.proofs.ByMembers.{empty_from, has-empty, has-meet, has-minus, has-with, has-with_other, same_has}
 use Rattle.strip_mask.proofs.Totals.{sum_over-empty, sum_over-with}
 use Rattle.strip_group.specs.Group.{GroupData, least_over}
-use Rattle.strip_arrivals.proofs.Places.{by_bit}
+use Rattle.strip_group.proofs.Places.{by_bit}
 use Rattle.strip_arrivals.specs.Arrivals.{StateData, actors_of, mates}
 use Rattle.strip_arrivals.specs.Gross.{least_paid, paid_by}
 use Rattle.strip_arrivals.proofs.Lists.{contains_none}

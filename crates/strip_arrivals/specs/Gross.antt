@@ -1,10 +1,10 @@
 -- Totals with what those who work in a scene of the group get for its days beside: so a scene's price goes by the newcomers in it
 -- alone, and what was added is taken off at the end.
-use Rattle.std.specs.Prelude.{◌≡◌, ℕ, suc, ◌+◌, ◌*◌, ◌-◌, ◌^◌, ◌≤◌, ◌==◌, ◌⊎◌, cond, Bool, ◌&&◌, Contains, drop, filter, length, take, slice_index}
+use Rattle.std.specs.Prelude.{◌≡◌, ℕ, suc, ◌+◌, ◌*◌, ◌≤◌, ◌==◌, ◌⊎◌, cond, Bool, ◌&&◌, Contains, drop, filter, length, take, slice_index}
 use Rattle.strip_mask.specs.Set.{has, meet, minus, numbers_below, sum_over}
 use Rattle.strip_mask.specs.Sums.{sum_below}
 use Rattle.strip_group.specs.Group.{GroupData, least_over}
-use Rattle.strip_arrivals.specs.Arrivals.{Event, IsLeastTotal, IsOver, StateData, actors_of, after, comes, goes, leaves, allowed, events_left, is_open, mates}
+use Rattle.strip_arrivals.specs.Arrivals.{Event, IsLeastTotal, IsOver, StateData, actors_of, after, comes, goes, leaves, allowed, is_open, mates}
 
 -- the days of the scenes of a set, each at a rate of its own
 abbrev pub weighted : GroupData → (ℕ → Bool) → (ℕ → ℕ) → ℕ
@@ -43,23 +43,18 @@ abbrev pub own_pay : GroupData → ℕ → ℕ → StateData → ℕ
 own_pay film set group state =
     weighted film (λ scene. has set scene && is_open film state scene) (λ scene. sum_over film.holds (meet (slice_index film.casts scene) group))
 
--- the most that an event is charged
-abbrev pub most_charged : ℕ
-most_charged = 16000000000000000
-
 -- a least total with what was added
 pub record IsGross (film : GroupData) (set group : ℕ) (state : StateData) (gross : ℕ) : Type 0 where
   pub net : ℕ
   pub is_least : IsLeastTotal film set group state net
   pub added : gross ≡ net + own_pay film set group state
-  pub small : gross ≤ most_charged * events_left group state
 
--- the least by what can happen first, as far as these events were tried: a way to it, and no less by any of them
-pub record IsBest (film : GroupData) (set group : ℕ) (state : StateData) (tried : Event → Type 0) (least : ℕ) : Type 0 where
+-- the least by what can happen first, as far as these events were tried: a way to it, and no less by any of them; from `never` on
+-- nothing is said
+pub record IsBest (film : GroupData) (set group never : ℕ) (state : StateData) (tried : Event → Type 0) (least : ℕ) : Type 0 where
   pub over : IsOver group state → least ≡ 0
   pub no_more : (event : Event) → Contains (allowed film set group state) event → tried event
       → (later : ℕ) × IsGross film set group (after state event) later × (least ≤ gross_charge film set group state event + later)
-      × (least ≤ most_charged * events_left group state)
-  pub attained : (least ≡ 2 ^ 64 - 1) ⊎ IsOver group state
+  pub attained : (never ≤ least) ⊎ IsOver group state
       ⊎ ((event : Event) × Contains (allowed film set group state) event × ((later : ℕ) × IsGross film set group (after state event) later
       × (least ≡ gross_charge film set group state event + later)))

@@ -2,10 +2,10 @@
 //! least.
 #![tactic(auto)]
 
-mod company;
+mod crew;
 pub mod laws;
-mod stage;
-mod stages;
+mod party;
+mod rows;
 mod table;
 
 pub use table::ArrivalsTable;

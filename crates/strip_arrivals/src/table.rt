@@ -1,20 +1,21 @@
 // What the values of a film's groups go by.
-ghost use Rattle.std.specs.Prelude.{◌≡◌, ℕ, ◌+◌, ◌*◌, ◌-◌, ◌^◌, ◌<◌, ◌≤◌, ◌≢◌, ◌&&◌, ◌++◌, ◌∷◌, [], true, false, not, cond, min, Contains, IfOk, List, length, slice_index, slice_index_or, sum};
-ghost use Rattle.strip_mask.specs.Set.{IsSet, LiesBelow, has, meet, members, minus, size, sum_over, with, without};
-ghost use Rattle.strip_mask.specs.Sums.{sum_below};
+ghost use Rattle.std.specs.Prelude.{◌≡◌, ℕ, ◌+◌, ◌*◌, ◌-◌, ◌^◌, ◌<◌, ◌≤◌, true, false, not, IfOk, length, slice_index, sum};
+ghost use Rattle.strip_mask.specs.Set.{LiesBelow, has, size, sum_over, with};
 ghost use Rattle.strip_group.specs.Group.{GroupData};
-ghost use Rattle.strip_group.specs.Places.{IsLimited, actor_at, pick};
-ghost use Rattle.strip_arrivals.specs.Arrivals.{actors_of, arrivals_value, at_first, is_without, mates};
-ghost use Rattle.strip_arrivals.specs.Company.{AreLeft, ArePlays, AreRates, IsBegun, IsCompany, IsRow, IsStage, NextOf, left_to_newcomers, listed, next_event, state_of};
-ghost use Rattle.strip_arrivals.specs.Gross.{IsBest, IsGross, gross_price, least_paid, own_pay};
+ghost use Rattle.strip_group.specs.Places.{IsLimited};
+ghost use Rattle.strip_arrivals.specs.Arrivals.{arrivals_value, at_first, is_without};
+ghost use Rattle.strip_arrivals.specs.Company.{ArePlays, IsCompany, most_paid};
+ghost use Rattle.strip_arrivals.specs.Gross.{own_pay};
 
-use crate::company::{ALL_SETS, Company, FEW_SETS, KINDS, PLACES};
-use crate::stages::first_row;
 use std::alloc::{AllocError, Global};
 use std::marker::Model;
 use strip_group::DaySums;
 use strip_io::Memory;
-use strip_mask::Mask;
+use strip_mask::{Mask, sum_over};
+use strip_sets::{BySet, FourPlaces, Seven, Ten, WideSeven, WideTen};
+
+/// A quarter of what fits in 32 bits.
+const NARROW: u64 = 1_073_741_823;
 
 /// For a film of at most 64 scenes: who works in each scene, its days, and what each actor gets for a
 /// day of waiting, in whole units of money. It is made once, with a copy of these numbers, for each
@@ -23,6 +24,7 @@ use strip_mask::Mask;
 pub struct ArrivalsTable {
     casts: Vec<u64>,
     plays: Vec<u64>,
+    days: [u64; 64],
     sums: DaySums,
     holds: Vec<u64>,
 }
@@ -35,7 +37,7 @@ impl Model for ArrivalsTable {
 
     ghost view = { λ t. record { casts = t.casts.items; days = t.sums; holds = t.holds.items } };
 
-    ghost invariant = { λ t. IsTable t.casts.items t.plays.items t.sums t.holds.items };
+    ghost invariant = { λ t. IsTable t.casts.items t.plays.items t.days t.sums t.holds.items };
 }
 
 impl ArrivalsTable {
@@ -57,6 +59,7 @@ impl ArrivalsTable {
         Ok(ArrivalsTable {
             casts: casts.to_vec(alloc)?,
             plays: plays_of(alloc, casts, holds.len())?,
+            days: by_scene(days),
             sums: DaySums::of(alloc, days)?,
             holds: holds.to_vec(alloc)?,
         })
@@ -73,28 +76,46 @@ impl ArrivalsTable {
         ensures same { result ≡ arrivals_value self.now set.0 group.0 newcomers.0 }
         ensures small { result ≤ sum self.now.days * sum self.now.holds }
     {
-        if group.size() <= 7 {
-            self.value_by_sets::<FEW_SETS>(set, group, newcomers)
-        } else {
-            self.value_by_sets::<ALL_SETS>(set, group, newcomers)
+        self.keeps_limits();
+        let never = self.never(set, group, newcomers);
+        match (group.size(), never <= NARROW) {
+            (0..=4, true) => self.value_by::<FourPlaces>(set, group, newcomers, never),
+            (5..=7, true) => self.value_by::<Seven>(set, group, newcomers, never),
+            (_, true) => self.value_by::<Ten>(set, group, newcomers, never),
+            (0..=7, false) => self.value_by::<WideSeven>(set, group, newcomers, never),
+            (_, false) => self.value_by::<WideTen>(set, group, newcomers, never),
         }
     }
 
-    /// The same, with room for so many sets of the group.
-    fn value_by_sets<const SETS: usize>(&self, set: Mask, group: Mask, newcomers: Mask) -> u64
-        requires few { size group.0 ≤ 10 }
-        requires few_newcomers { size newcomers.0 ≤ 2 }
-        requires known { LiesBelow (length self.now.holds) group.0 }
-        requires known_newcomers { LiesBelow (length self.now.holds) newcomers.0 }
-        requires apart { (actor : ℕ) → has newcomers.0 actor ≡ true → has group.0 actor ≡ false }
-        requires room { 2 ^ size group.0 ≤ SETS }
-        requires few_sets { SETS ≤ 1024 }
+    /// The same by numbers of some width for the sets of some places.
+    #[inline(never)]
+    fn value_by<S: BySet>(&self, set: Mask, group: Mask, newcomers: Mask, never: u64) -> u64
+        requires few { S.places ≤ 10 }
+        requires fits { size group.0 ≤ S.places }
+        requires company { IsCompany self.now set.0 group.0 newcomers.0 }
+        requires enough { most_paid self.now set.0 group.0 newcomers.0 < never }
+        requires low { sum_over self.now.holds group.0 + sum_over self.now.holds newcomers.0 < never }
+        requires room { 4 * never ≤ S.most }
+        requires wide { 2 ^ 32 - 1 ≤ S.most }
         ensures same { result ≡ arrivals_value self.now set.0 group.0 newcomers.0 }
         ensures small { result ≤ sum self.now.days * sum self.now.holds }
     {
-        self.keeps_limits();
-        let company = self.company::<SETS>(set, group, newcomers);
-        first_row(self, &company)[0] - self.own_pay(&company)
+        let party = self.party::<S>(set, group, newcomers, never);
+        let all = Mask::below(group.size()).0 as usize;
+        self.first_row(&party).at(all) - self.own_pay(set, group)
+    }
+
+    /// More than the group and the newcomers are paid for waiting on all days of the set.
+    fn never(&self, set: Mask, group: Mask, newcomers: Mask) -> u64
+        requires known { LiesBelow (length self.now.holds) group.0 }
+        requires known_newcomers { LiesBelow (length self.now.holds) newcomers.0 }
+        requires apart { (actor : ℕ) → has newcomers.0 actor ≡ true → has group.0 actor ≡ false }
+        ensures enough { most_paid self.now set.0 group.0 newcomers.0 < result }
+        ensures low { sum_over self.now.holds group.0 + sum_over self.now.holds newcomers.0 < result }
+        ensures small { 4 * result < 2 ^ 64 }
+    {
+        let rates = sum_over(&self.holds, group) + sum_over(&self.holds, newcomers);
+        (self.days(set) + 1) * rates + 1
     }
 
     /// Each table is of a film within the limits. It does nothing: a caller that needs one of them makes
@@ -134,6 +155,14 @@ impl ArrivalsTable {
         Mask(self.plays[actor as usize])
     }
 
+    /// The days of each scene, and 0 past the last one.
+    pub(crate) fn scene_days(&self) -> &[u64; 64]
+        ensures long { length result.now ≡ 64 }
+        ensures days { (scene : ℕ) → slice_index result.now scene ≡ slice_index self.now.days scene }
+    {
+        &self.days
+    }
+
     /// The days of the scenes of the set. One turn for each twelve scenes of the film.
     fn days(&self, scenes: Mask) -> u64
         ensures same { result ≡ sum_over self.now.days scenes.0 }
@@ -143,99 +172,30 @@ impl ArrivalsTable {
     }
 
     /// What those of the group get for the days of the scenes in which they work.
-    fn own_pay<const SETS: usize>(&self, company: &Company<SETS>) -> u64
-        requires { IsCompany self.now company.now }
-        ensures { result ≡ own_pay self.now company.now.set.0 company.now.group.0 (at_first company.now.newcomers.0) }
+    fn own_pay(&self, set: Mask, group: Mask) -> u64
+        requires few { size group.0 ≤ 10 }
+        requires known { LiesBelow (length self.now.holds) group.0 }
+        ensures { (newcomers : ℕ) → result ≡ own_pay self.now set.0 group.0 (at_first newcomers) }
     {
         let mut pay = 0;
-        for actor in company.group.iter() {
-            pay += self.hold(actor) * self.days(self.plays(actor).meet(company.set));
+        for actor in group.iter() {
+            pay += self.hold(actor) * self.days(self.plays(actor).meet(set));
         }
         pay
     }
+}
 
-    /// The company of a group and its newcomers on a set of scenes.
-    fn company<const SETS: usize>(&self, set: Mask, group: Mask, newcomers: Mask) -> Company<SETS>
-        requires few { size group.0 ≤ 10 }
-        requires few_newcomers { size newcomers.0 ≤ 2 }
-        requires known { LiesBelow (length self.now.holds) group.0 }
-        requires known_newcomers { LiesBelow (length self.now.holds) newcomers.0 }
-        requires apart { (actor : ℕ) → has newcomers.0 actor ≡ true → has group.0 actor ≡ false }
-        requires room { 2 ^ size group.0 ≤ SETS }
-        requires few_sets { SETS ≤ 1024 }
-        ensures set { result.set ≡ set }
-        ensures group { result.group ≡ group }
-        ensures newcomers { result.newcomers ≡ newcomers }
-        ensures company { IsCompany self.now result }
-    {
-        self.keeps_limits();
-        let first = first_of(newcomers);
-        let second = newcomers.minus(first);
-        let with_first = self.scenes_with(first);
-        let with_second = self.scenes_with(second);
-        let (without, with) = (set.minus(with_first), set.meet(with_first));
-        let places = self.by_place(group);
-        let count = sets_of(group.size());
-        let left = left_by(&places, set, count);
-        let days = [
-            self.days_of(&left, count, without.minus(with_second)),
-            self.days_of(&left, count, with.minus(with_second)),
-            self.days_of(&left, count, without.meet(with_second)),
-            self.days_of(&left, count, with.meet(with_second)),
-        ];
-        Company {
-            set,
-            group,
-            newcomers,
-            places: group.size() as usize,
-            count,
-            all: Mask::below(group.size()).0 as usize,
-            left,
-            rates: rates_by(&places, count),
-            kinds: [0, first.0, second.0, newcomers.0],
-            days,
-        }
+/// The days of each scene, and 0 past the last one.
+fn by_scene(days: &[u64]) -> [u64; 64]
+    requires { length days.now ≤ 64 }
+    ensures long { length result ≡ 64 }
+    ensures days { (scene : ℕ) → slice_index result scene ≡ slice_index days.now scene }
+{
+    let mut numbers = [0; 64];
+    for scene in 0..days.len() {
+        numbers[scene] = days[scene];
     }
-
-    /// The places of the group's actors. One turn for each.
-    fn by_place(&self, group: Mask) -> Places
-        requires few { size group.0 ≤ 10 }
-        requires known { LiesBelow (length self.now.holds) group.0 }
-        ensures plays { (place scene : ℕ) → place < size group.0 → has (slice_index result.plays place) scene ≡ has (slice_index self.now.casts scene) (actor_at group.0 place) }
-        ensures rates { (place : ℕ) → place < size group.0 → slice_index result.rates place ≡ slice_index self.now.holds (actor_at group.0 place) }
-        ensures low { (place : ℕ) → slice_index result.rates place ≤ 64_000_000_000 }
-    {
-        let mut plays = [0; PLACES];
-        let mut rates = [0; PLACES];
-        let mut place = 0;
-        for actor in group.iter() {
-            plays[place] = self.plays(actor).0;
-            rates[place] = self.hold(actor);
-            place += 1;
-        }
-        Places { plays, rates }
-    }
-
-    /// For each of so many sets of places the days of those of the scenes that it leaves open.
-    fn days_of<const SETS: usize>(
-        &self,
-        left: &[u64; SETS],
-        count: usize,
-        scenes: Mask,
-    ) -> [u16; SETS]
-        requires { count ≤ SETS }
-        ensures long { length result ≡ SETS }
-        ensures days { (places : ℕ) → places < count → slice_index result places ≡ sum_over self.now.days (meet (slice_index left.now places) scenes.0) }
-    {
-        let mut days = [0; SETS];
-        if scenes.is_empty() {
-            return days;
-        }
-        for places in 0..count {
-            days[places] = self.days(Mask(left[places]).meet(scenes)) as u16;
-        }
-        days
-    }
+    numbers
 }
 
 /// For each actor the scenes in which he works.
@@ -264,83 +224,4 @@ fn scenes_of(casts: &[u64], actor: u32) -> Mask
         }
     }
     scenes
-}
-
-/// How many sets so many places have.
-fn sets_of(places: u32) -> usize
-    requires { places ≤ 10 }
-    ensures same { result ≡ 2 ^ places }
-    ensures few { result ≤ 1024 }
-{
-    1 << places
-}
-
-/// The least of the set alone, where it has any.
-fn first_of(set: Mask) -> Mask
-    ensures member { (actor : ℕ) → has result.0 actor ≡ true → has set.0 actor ≡ true }
-    ensures alone { (actor other : ℕ) → has result.0 actor ≡ true → has result.0 other ≡ true → actor ≡ other }
-    ensures some { set.0 ≢ 0 → size (minus set.0 result.0) + 1 ≡ size set.0 }
-{
-    match set.first() {
-        Some(actor) => Mask(0).with(actor),
-        None => Mask(0),
-    }
-}
-
-/// By place the scenes in which an actor of a group works, and what he gets for a day of waiting.
-#[derive(Debug, Drop)]
-struct Places {
-    plays: [u64; PLACES],
-    rates: [u64; PLACES],
-}
-
-/// For each of so many sets of places the scenes of the set in which no one of them works. One turn for
-/// each set of places.
-fn left_by<const SETS: usize>(places: &Places, set: Mask, count: usize) -> [u64; SETS]
-    requires some { 0 < count }
-    requires few { count ≤ 1024 }
-    requires room { count ≤ SETS }
-    ensures long { length result ≡ SETS }
-    ensures none { slice_index result 0 ≡ set.0 }
-    ensures more { (sets : ℕ) → sets < count → sets ≢ 0
-        → (place : ℕ) × (has sets place ≡ true) × (slice_index result sets ≡ minus (slice_index result (without sets place)) (slice_index places.now.plays place)) }
-{
-    let mut left = [0; SETS];
-    left[0] = set.0;
-    for number in 1..count {
-        let gone = Mask(number as u64);
-        match gone.first() {
-            Some(place) => {
-                let before = Mask(left[gone.without(place).0 as usize]);
-                left[number] = before.minus(Mask(places.plays[place as usize])).0;
-            }
-            None => unreachable!(),
-        }
-    }
-    left
-}
-
-/// For each of so many sets of places what its actors get together for a day of waiting. One turn for
-/// each set of places.
-fn rates_by<const SETS: usize>(places: &Places, count: usize) -> [u64; SETS]
-    requires count { count ≤ 1024 }
-    requires room { count ≤ SETS }
-    requires low { (place : ℕ) → slice_index places.now.rates place ≤ 64_000_000_000 }
-    ensures long { length result ≡ SETS }
-    ensures none { slice_index result 0 ≡ 0 }
-    ensures more { (sets : ℕ) → sets < count → sets ≢ 0
-        → (place : ℕ) × (has sets place ≡ true) × (slice_index result sets ≡ slice_index result (without sets place) + slice_index places.now.rates place) }
-{
-    let mut rates = [0; SETS];
-    for number in 1..count {
-        let gone = Mask(number as u64);
-        match gone.first() {
-            Some(place) => {
-                rates[number] = rates[gone.without(place).0 as usize]
-                    + places.rates[place as usize];
-            }
-            None => unreachable!(),
-        }
-    }
-    rates
 }

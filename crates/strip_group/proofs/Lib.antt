@@ -1,6 +1,6 @@
 mod Lists
 pub mod Least
-mod Places
+pub mod Places
 mod Left
 mod Saved
 mod Four

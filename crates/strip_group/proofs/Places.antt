@@ -115,13 +115,13 @@ places_apart group i j here there other same =
 
 -- ---- the actors at the places of a set
 
-picked_with : (group set n : ℕ) → has set n ≡ true → picked group set (suc n) ≡ with (picked group set n) (actor_at group n)
+pub picked_with : (group set n : ℕ) → has set n ≡ true → picked group set (suc n) ≡ with (picked group set n) (actor_at group n)
 picked_with group set n there = ap (λ (b : Bool). cond {A = ℕ} b (with (picked group set n) (actor_at group n)) (picked group set n)) there
 
-picked_past : (group set n : ℕ) → has set n ≡ false → picked group set (suc n) ≡ picked group set n
+pub picked_past : (group set n : ℕ) → has set n ≡ false → picked group set (suc n) ≡ picked group set n
 picked_past group set n missing = ap (λ (b : Bool). cond {A = ℕ} b (with (picked group set n) (actor_at group n)) (picked group set n)) missing
 
-has_from_picked : (group set n i : ℕ) → has (picked group set n) i ≡ true → (place : ℕ) × (place < n) × (has set place ≡ true) × (actor_at group place ≡ i)
+pub has_from_picked : (group set n i : ℕ) → has (picked group set n) i ≡ true → (place : ℕ) × (place < n) × (has set place ≡ true) × (actor_at group place ≡ i)
 has_from_picked group set zero i there = absurd (false≢true (sym (has-empty i) ∙ there))
 has_from_picked group set (suc n) i there =
     let ih : has (picked group set n) i ≡ true → (place : ℕ) × (place < suc n) × (has set place ≡ true) × (actor_at group place ≡ i)

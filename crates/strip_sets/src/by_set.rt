@@ -87,6 +87,11 @@ pub trait BySet: Sized + Drop {
         requires { number ≤ most }
         ensures { (set : ℕ) → set < 2 ^ places → value self.new set ≡ min (value self.old set) number };
 
+    /// Lowers the number of each set to that of the others and what its days cost, where nothing is blocked.
+    fn or_open(&mut self, others: &Self, weights: &Self, days: &Self, blocked: &Self)
+        requires { (set : ℕ) → set < 2 ^ places → value others.now set + value weights.now set * value days.now set ≤ most }
+        ensures { (set : ℕ) → set < 2 ^ places → value self.new set ≡ lowered (value self.old set) (value others.now set + value weights.now set * value days.now set) (value blocked.now set) 0 };
+
     /// Lowers the number of each set to that of the others and what the days that it has more than
     /// they cost, where the same is blocked for both.
     fn or_before<C: Count, G: Guard>(
@@ -187,6 +192,13 @@ impl BySet for u64 {
     #[inline(always)]
     fn least_with(&mut self, number: u64) {
         *self = (*self).min(number);
+    }
+
+    #[inline(always)]
+    fn or_open(&mut self, others: &u64, weights: &u64, days: &u64, blocked: &u64) {
+        if *blocked == 0 {
+            *self = (*self).min(*others + *weights * *days);
+        }
     }
 
     #[inline(always)]
@@ -359,6 +371,21 @@ impl BySet for [u32; 4] {
     }
 
     #[inline(always)]
+    fn or_open(
+        &mut self,
+        others: &[u32; 4],
+        weights: &[u32; 4],
+        days: &[u32; 4],
+        blocked: &[u32; 4],
+    ) {
+        let (weights, days) = (u32x4::from_array(*weights), u32x4::from_array(*days));
+        let (numbers, others) = (u32x4::from_array(*self), u32x4::from_array(*others));
+        let least = numbers.simd_min(others.strict_add(weights.strict_mul(days)));
+        let open = u32x4::from_array(*blocked).simd_eq(u32x4::splat(0));
+        *self = open.select(least, numbers).to_array();
+    }
+
+    #[inline(always)]
     fn or_before<C: Count, G: Guard>(
         &mut self,
         others: &[u32; 4],
@@ -521,6 +548,18 @@ impl<T: BySet> BySet for Halves<T> {
     fn least_with(&mut self, number: u64) {
         self.without.least_with(number);
         self.with.least_with(number);
+    }
+
+    #[inline(always)]
+    fn or_open(&mut self, others: &Self, weights: &Self, days: &Self, blocked: &Self) {
+        self.without.or_open(
+            &others.without,
+            &weights.without,
+            &days.without,
+            &blocked.without,
+        );
+        self.with
+            .or_open(&others.with, &weights.with, &days.with, &blocked.with);
     }
 
     #[inline(always)]

@@ -1,5 +1,5 @@
 use Rattle.std.proofs.Common.{◌≤◌, arith, length}
-use Rattle.strip_arrivals.proofs.Places.{sum_over_le_all}
+use Rattle.strip_group.proofs.Places.{sum_over_le_all}
 use Rattle.strip_arrivals.proofs.table.ArrivalsTable.days.Goals as goal
 
 pub returns-clause-few : goal.returns-clause-few

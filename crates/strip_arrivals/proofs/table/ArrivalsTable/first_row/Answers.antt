@@ -1,0 +1,70 @@
+use Rattle.std.proofs.Common.{◌≡◌, ◌≢◌, ℕ, ◌*◌, ◌≤◌, true, [], sym, ap, ◌∙◌, subst, inl, inr, arith}
+use Rattle.std.proofs.lemmas.Bool.{cases_eq, false≢true}
+use Rattle.strip_mask.specs.Set.{IsSet, has, size, with, without}
+use Rattle.strip_mask.proofs.ByMembers.{IsSet-without, below_64, has-without_other, has-without_same, with-without}
+use Rattle.strip_mask.proofs.Sizes.{first_is, first_none, size-without}
+use Rattle.strip_group.specs.Group.{GroupData}
+use Rattle.strip_arrivals.specs.Company.{IsRow, staying}
+use Rattle.strip_arrivals.specs.Gross.{IsGross}
+use Rattle.strip_arrivals.proofs.table.ArrivalsTable.first_row.Goals as goal
+
+-- where there are no newcomers, none is to come and none is gone
+row_of_none : (film : GroupData) (set group count newcomers never : ℕ) (row : ℕ → ℕ) → newcomers ≡ 0
+    → IsRow film set group count 0 [] newcomers never row → IsRow film set group count newcomers [] 0 (3 * never) row
+row_of_none film set group count newcomers never row none over = record {
+  least = λ places lt.
+      subst (λ (gone : ℕ). IsGross film set group (staying group newcomers [] gone places) (row places)) none
+      (subst (λ (coming : ℕ). IsGross film set group (staying group coming [] newcomers places) (row places)) (sym none) (over.least places lt));
+  low = λ places lt. omega (arith, over.low places lt);
+}
+
+-- a set of one has no two members
+only_one : (set i j : ℕ) → IsSet set → size set ≤ 1 → has set i ≡ true → has set j ≡ true → i ≡ j
+only_one set i j small few there there_too = elim (cases_eq i j) [
+  | inl same ↦ same
+  | inr apart ↦ (let without_one = size-without set i small there in
+      let without_both = size-without (without set i) j (IsSet-without set i small) (has-without_other set i j apart ∙ there_too) in
+      absurd (omega (arith, without_one, without_both, few)))
+]
+
+pub without-requires : goal.without-requires
+without-requires g c =
+    let newcomers : ℕ = c.args.party.now.newcomers.0 in
+    let small : IsSet newcomers = c.requires.party.company.small_newcomers in
+    below_64 newcomers c.in-Some.one small (first_is newcomers c.in-Some.one small (sym c.first.ensures ∙ c.in-Some.is)).0
+
+pub row_of_one-requires-clause-only : goal.row_of_one-requires-clause-only
+row_of_one-requires-clause-only g c =
+    let newcomers : ℕ = c.args.party.now.newcomers.0 in
+    let one : ℕ = c.in-Some.one in
+    let small : IsSet newcomers = c.requires.party.company.small_newcomers in
+    let there : has newcomers one ≡ true = (first_is newcomers one small (sym c.first.ensures ∙ c.in-Some.is)).0 in
+    let none : without newcomers one ≡ 0
+    = first_none (without newcomers one) (IsSet-without newcomers one small) (sym (c.first-in-Some.ensures ∙ ap Rattle.strip_mask.specs.Set.first c.without.ensures) ∙ c.in-None-first.is) in
+    sym (with-without newcomers one there) ∙ ap (λ (set : ℕ). with set one) none
+
+pub row_of_two-requires-clause-pair : goal.row_of_two-requires-clause-pair
+row_of_two-requires-clause-pair g c =
+    let newcomers : ℕ = c.args.party.now.newcomers.0 in
+    let one : ℕ = c.in-Some.one in
+    let other : ℕ = c.in-Some-first.other in
+    let known = c.requires.party.company in
+    let small : IsSet (without newcomers one) = IsSet-without newcomers one known.small_newcomers in
+    let there : has newcomers one ≡ true = (first_is newcomers one known.small_newcomers (sym c.first.ensures ∙ c.in-Some.is)).0 in
+    let there_too : has (without newcomers one) other ≡ true
+    = (first_is (without newcomers one) other small (sym (c.first-in-Some.ensures ∙ ap Rattle.strip_mask.specs.Set.first c.without.ensures) ∙ c.in-Some-first.is)).0 in
+    let apart : one ≢ other = λ same. false≢true (sym (has-without_same newcomers one) ∙ ap (has (without newcomers one)) same ∙ there_too) in
+    let few : size (without newcomers one) ≤ 1 = omega (arith, size-without newcomers one known.small_newcomers there, known.few_newcomers) in
+    record {
+      one_comes = there;
+      other_comes = sym (has-without_other newcomers one other apart) ∙ there_too;
+      apart = apart;
+      only = λ actor comes. elim (cases_eq one actor) [
+        | inl is ↦ inl (sym is)
+        | inr different ↦ inr (only_one (without newcomers one) actor other small few (has-without_other newcomers one actor different ∙ comes) there_too)
+      ];
+    }
+
+pub returns-in-None : goal.returns-in-None
+returns-in-None g c = row_of_none c.args.self.now c.args.party.now.crew.set.0 c.args.party.now.crew.group.0 g.S.BySet.places c.args.party.now.newcomers.0 c.args.party.now.never (g.S.BySet.value c.over.result)
+    (first_none c.args.party.now.newcomers.0 c.requires.party.company.small_newcomers (sym c.first.ensures ∙ c.in-None.is)) c.over.ensures

@@ -1,0 +1,108 @@
+use Rattle.std.proofs.Common.{◌≡◌, ◌<◌, ℕ, List, [], ◌∷◌, true, not, ap, arith, sym, subst, ◌∙◌, inl, inr, length}
+use Rattle.std.proofs.lemmas.List.{length-replicate}
+use Rattle.std.proofs.Math.Nat.{min-le_right}
+use Rattle.std.proofs.lemmas.Bool.{and_parts, cases_eq, false≢true}
+use Rattle.strip_mask.specs.Set.{has, meet, minus, sum_over, with, without}
+use Rattle.strip_mask.proofs.ByMembers.{below_64, has-meet, has-minus, has-without_other, has-without_same}
+use Rattle.strip_mask.proofs.Totals.{sum_over-ext}
+use Rattle.strip_group.specs.Group.{GroupData}
+use Rattle.strip_arrivals.specs.Arrivals.{is_without}
+use Rattle.strip_arrivals.specs.Company.{AreCounted, just, ones}
+use Rattle.strip_arrivals.proofs.Masks.{alone_is, counted_alike, with_one_is}
+use Rattle.strip_arrivals.proofs.Room.{days_fit, hold_low, ones_fit, rates_low}
+use Rattle.strip_arrivals.proofs.table.ArrivalsTable.newcomer.Goals as goal
+
+pub scenes_with-requires : goal.scenes_with-requires
+scenes_with-requires g c = λ i there. c.requires.party.company.known_newcomers i (elim (cases_eq c.args.actor i) [
+  | inl is ↦ absurd (false≢true (sym (has-without_same c.args.party.now.newcomers.0 c.args.actor)
+      ∙ ap (has (without c.args.party.now.newcomers.0 c.args.actor)) is ∙ ap (λ (s : ℕ). has s i) (sym c.without.ensures) ∙ there))
+  | inr other ↦ sym (has-without_other c.args.party.now.newcomers.0 c.args.actor i other) ∙ ap (λ (s : ℕ). has s i) (sym c.without.ensures) ∙ there
+])
+
+-- a scene of both is one of the set
+in_set : (scenes plays set scene : ℕ) → scenes ≡ meet plays set → has scenes scene ≡ true → has set scene ≡ true
+in_set scenes plays set scene is there = (and_parts (has plays scene) (has set scene) (sym (has-meet plays set scene) ∙ ap (λ (s : ℕ). has s scene) (sym is) ∙ there)).1
+
+alone_in_set : (alone scenes others plays set scene : ℕ) → alone ≡ minus scenes others → scenes ≡ meet plays set → has alone scene ≡ true → has set scene ≡ true
+alone_in_set alone scenes others plays set scene is_alone is there =
+    in_set scenes plays set scene is (and_parts (has scenes scene) (not (has others scene)) (sym (has-minus scenes others scene) ∙ ap (λ (s : ℕ). has s scene) (sym is_alone) ∙ there)).0
+
+pub mates-waits-requires-clause-within : goal.mates-waits-requires-clause-within
+mates-waits-requires-clause-within g c = λ scene there. in_set c.meet-scenes.result.0 c.plays.result.0 c.args.party.now.crew.set.0 scene c.meet-scenes.ensures there
+
+pub least_with-requires : goal.least_with-requires
+least_with-requires g c =
+    let low = hold_low g.S.BySet.value g.S.BySet.places g.S.BySet.most c.args.self.now c.args.party.now c.requires.party c.args.actor c.requires.comes in
+    omega (arith, c.hold-hold.ensures.same, low, c.requires.party.low, c.requires.party.room)
+
+pub plus-requires : goal.plus-requires
+plus-requires g c = λ places lt.
+    let low = hold_low g.S.BySet.value g.S.BySet.places g.S.BySet.most c.args.self.now c.args.party.now c.requires.party c.args.actor c.requires.comes in
+    let rates = rates_low g.S.BySet.value g.S.BySet.places g.S.BySet.most c.args.self.now c.args.party.now c.requires.party places lt in
+    omega (
+      arith,
+      c.least_with.ensures places lt,
+      min-le_right (g.S.BySet.value c.mates-waits.result places) c.hold-hold.result,
+      c.hold-hold.ensures.same,
+      low,
+      rates,
+      c.requires.party.low,
+      c.requires.party.room,
+    )
+
+pub counted-requires-clause-within : goal.counted-requires-clause-within
+counted-requires-clause-within g c = λ scene there.
+    alone_in_set c.minus-alone.result.0 c.meet-scenes.result.0 c.scenes_with.result.0 c.plays.result.0 c.args.party.now.crew.set.0 scene c.minus-alone.ensures c.meet-scenes.ensures there
+
+pub counted-requires-clause-long : goal.counted-requires-clause-long
+counted-requires-clause-long g c = λ scene there.
+    let lt : scene < 64 = below_64 c.args.party.now.crew.set.0 scene c.requires.party.company.small_set
+    (alone_in_set c.minus-alone.result.0 c.meet-scenes.result.0 c.scenes_with.result.0 c.plays.result.0 c.args.party.now.crew.set.0 scene c.minus-alone.ensures c.meet-scenes.ensures there) in
+    omega (arith, lt, c.scene_days.ensures.long)
+
+pub counted-requires-clause-fits : goal.counted-requires-clause-fits
+counted-requires-clause-fits g c =
+    let fits = days_fit g.S.BySet.value g.S.BySet.places g.S.BySet.most c.args.self.now c.args.party.now c.requires.party c.minus-alone.result.0 in
+    omega (arith, fits, sum_over-ext c.scene_days.result.now c.args.self.now.days c.minus-alone.result.0 (λ scene _. c.scene_days.ensures.days scene))
+
+pub counted-requires-2-clause-within : goal.counted-requires-2-clause-within
+counted-requires-2-clause-within g c = λ scene there.
+    alone_in_set c.minus-alone.result.0 c.meet-scenes.result.0 c.scenes_with.result.0 c.plays.result.0 c.args.party.now.crew.set.0 scene c.minus-alone.ensures c.meet-scenes.ensures there
+
+pub counted-requires-2-clause-long : goal.counted-requires-2-clause-long
+counted-requires-2-clause-long g c = λ scene there.
+    let lt : scene < 64 = below_64 c.args.party.now.crew.set.0 scene c.requires.party.company.small_set
+    (alone_in_set c.minus-alone.result.0 c.meet-scenes.result.0 c.scenes_with.result.0 c.plays.result.0 c.args.party.now.crew.set.0 scene c.minus-alone.ensures c.meet-scenes.ensures there) in
+    omega (arith, lt, ap length c.one_each-ones.ensures, length-replicate {A = ℕ} 64 1)
+
+pub counted-requires-2-clause-fits : goal.counted-requires-2-clause-fits
+counted-requires-2-clause-fits g c =
+    let fits = ones_fit g.S.BySet.value g.S.BySet.places g.S.BySet.most c.args.self.now c.args.party.now c.requires.party c.minus-alone.result.0 in
+    omega (arith, fits, ap (λ (numbers : List ℕ). sum_over numbers c.minus-alone.result.0) c.one_each-ones.ensures)
+
+pub returns-clause-newcomer : goal.returns-clause-newcomer
+returns-clause-newcomer g c =
+    let film : GroupData = c.args.self.now in
+    let set : ℕ = c.args.party.now.crew.set.0 in
+    let group : ℕ = c.args.party.now.crew.group.0 in
+    let newcomers : ℕ = c.args.party.now.newcomers.0 in
+    let value = g.S.BySet.value in
+    let alone : c.minus-alone.result.0 ≡ just film newcomers (with 0 c.args.actor) set
+    = alone_is film set newcomers c.requires.party.company.small_set c.args.actor c.plays.result.0 c.meet-scenes.result.0 c.scenes_with.result.0 c.minus-alone.result.0 c.requires.comes c.plays.ensures c.meet-scenes.ensures
+    (subst (λ (others : ℕ). (scene : ℕ) → has c.scenes_with.result.0 scene ≡ not (is_without film others scene)) c.without.ensures c.scenes_with.ensures) c.minus-alone.ensures in
+    let mates : ℕ → ℕ = value c.mates-waits.result in
+    let are_mates = c.mates-waits.ensures (c.args.actor ∷ []) (with_one_is film set newcomers c.requires.party.company.small_set c.args.actor c.plays.result.0 c.meet-scenes.result.0 c.plays.ensures c.meet-scenes.ensures) in
+    record {
+      comes = c.requires.comes;
+      hold = c.hold-hold.ensures.same;
+      days = subst (λ (s : ℕ). AreCounted film group g.S.BySet.places film.days s (value c.counted.result)) alone
+          (counted_alike film group g.S.BySet.places c.scene_days.result.now film.days c.minus-alone.result.0 (value c.counted.result) c.scene_days.ensures.days c.counted.ensures);
+      scenes = subst (λ (s : ℕ). AreCounted film group g.S.BySet.places ones s (value c.counted-2.result)) alone
+          (subst (λ (numbers : List ℕ). AreCounted film group g.S.BySet.places numbers c.minus-alone.result.0 (value c.counted-2.result)) c.one_each-ones.ensures c.counted-2.ensures);
+      mates = mates;
+      are_mates = are_mates;
+      waits = λ places lt. omega (arith, c.plus.ensures places lt, c.least_with.ensures places lt);
+      waits_low = λ places lt. (
+          let rates = rates_low value g.S.BySet.places g.S.BySet.most film c.args.party.now c.requires.party places lt in
+          omega (arith, c.plus.ensures places lt, c.least_with.ensures places lt, min-le_right (mates places) c.hold-hold.result, rates));
+    }
