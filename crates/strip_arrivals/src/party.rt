@@ -84,7 +84,7 @@ impl ArrivalsTable {
         let alone = scenes.minus(self.scenes_with(party.newcomers.without(actor)));
         let ones = one_each();
         let mut waits = self.mates(crew, scenes);
-        waits.least_with(hold);
+        waits.least(&S::all(hold));
         waits.plus(&crew.rates);
         Newcomer {
             actor,

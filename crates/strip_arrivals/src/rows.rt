@@ -97,13 +97,9 @@ impl ArrivalsTable {
         requires party { IsParty S.value S.places S.most self.now party.now }
         ensures { IsRow self.now party.now.crew.set.0 party.now.crew.group.0 S.places 0 [] party.now.newcomers.0 party.now.never (S.value result) }
     {
-        let mut some = S::all(0);
-        some.sums(0, &[1; 10]);
-        some.least_with(1);
-        let mut row = S::all(0);
-        row.plus_times(&some, &S::all(party.never));
+        let mut row = S::none_and_others(0, party.never);
         let rates = Classes::same(&party.crew.rates);
-        row.pass::<One, Free>(rates, Classes::same(&party.days), &some);
+        row.pass::<One, Free>(rates, Classes::same(&party.days), &party.days);
         row
     }
 
@@ -117,8 +113,7 @@ impl ArrivalsTable {
     {
         let rates = &party.crew.rates;
         let mut row = S::all(0);
-        row.copy_from(over);
-        row.plus_times(rates, &one.days);
+        row.sum_times(over, rates, &one.days);
         let weights = Classes::two(&one.waits, rates);
         row.pass::<Two, Free>(weights, Classes::two(&party.days, &one.days), &party.days);
         row
@@ -159,19 +154,18 @@ impl ArrivalsTable {
         ensures { IsRow self.now party.now.crew.set.0 party.now.crew.group.0 S.places 0 (one.now.actor ∷ other.now.actor ∷ []) 0 (3 * party.now.never) (S.value result) }
     {
         let rates = &party.crew.rates;
-        let mut with_other = S::all(one.hold);
-        let mut neither = S::all(one.hold);
-        with_other.plus(rates);
-        neither.plus(&other.waits);
+        let mut with_other = S::all(0);
+        let mut neither = S::all(0);
+        with_other.more_than(rates, one.hold);
+        neither.more_than(&other.waits, one.hold);
         neither.least(&both.together);
-        let mut row = S::all(0);
-        row.copy_from(other_stays);
-        row.plus_times(&other.waits, &one.days);
+        let mut one_goes = S::all(0);
+        one_goes.sum_times(other_stays, &other.waits, &one.days);
         let mut other_goes = S::all(0);
-        other_goes.copy_from(one_stays);
-        other_goes.plus_times(&with_other, &other.days);
-        row.least(&other_goes);
-        row.plus_times(rates, &both.days);
+        other_goes.sum_times(one_stays, &with_other, &other.days);
+        one_goes.least(&other_goes);
+        let mut row = S::all(0);
+        row.sum_times(&one_goes, rates, &both.days);
         let weights = four(&neither, &other.waits, &with_other, rates);
         let days = four(&party.days, &one.days, &other.days, &both.days);
         row.pass::<Four, Free>(weights, days, &party.days);

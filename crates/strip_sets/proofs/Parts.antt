@@ -1,15 +1,17 @@
 -- What is computed for the sets without a place and for those with it, and so for all.
-use Rattle.std.proofs.Common.{◌≡◌, ◌≢◌, ℕ, zero, suc, ◌+◌, ◌-◌, ◌^◌, ◌<◌, ◌≤◌, ◌==◌, Bool, true, false, cond, List, [], ◌∷◌, slice_index, refl, sym, ap, ◌∙◌, inl, inr, arith}
+use Rattle.std.proofs.Common.{◌≡◌, ◌≢◌, ℕ, zero, suc, ◌+◌, ◌-◌, ◌^◌, ◌<◌, ◌≤◌, ◌==◌, Bool, true, false, cond, List, [], ◌∷◌, length, slice_index, refl, sym, ap, ◌∙◌, inl, inr, arith}
 use Rattle.std.proofs.lemmas.Bool.{cases_eq, false≢true}
 use Rattle.std.proofs.lemmas.Bool.Decides.{nat_tests}
 use Rattle.strip_mask.specs.Set.{full, has, sum_over, union, with, without}
-use Rattle.strip_mask.proofs.ByMembers.{has-without_other, has-without_same, with-without}
+use Rattle.strip_mask.proofs.ByMembers.{has-empty, has-without_other, has-without_same, with-without}
 use Rattle.strip_mask.proofs.Below.{has_full}
 use Rattle.strip_mask.proofs.Totals.{sum_over-with}
 use Rattle.strip_sets.specs.Numbers.{halves, sum_within}
 use Rattle.strip_sets.specs.Pass.{counted}
 use Rattle.strip_sets.proofs.Sets.{by_bit, below_top, halves_at, halves_out, halves_with, lacks_top, sum_full_more, wider_top, with_is_more, with_top, without_top}
 use Rattle.strip_sets.proofs.TwoPlaces.{by_four}
+use Rattle.strip_sets.proofs.Vectors.{sum_at, sum_lanes}
+use lib.Lanes.{zip2}
 
 -- ---- three numbers of each set
 
@@ -74,6 +76,17 @@ module _ (n : ℕ) (f g : ℕ → ℕ) (set number : ℕ) where
         let lt : other < 2 ^ n = below_top n other also missing in
         omega (arith, halves_out n f r other missing, halves_out n f g other missing, counted_other other set number (λ same. omega (arith, same, lt, is, more))))
   ]
+
+-- one number for the empty set, and another one for each other set
+pub apart_halves : (n : ℕ) (f g : ℕ → ℕ) (none others : ℕ) → ((set : ℕ) → set < 2 ^ n → f set ≡ cond {A = ℕ} (set == 0) none others)
+    → ((set : ℕ) → set < 2 ^ n → g set ≡ others) → (set : ℕ) → set < 2 ^ suc n → halves n f g set ≡ cond {A = ℕ} (set == 0) none others
+apart_halves n f g none others low high set small = elim (by_bit (has set n)) [
+  | inl there ↦ (
+      let some : set ≢ 0 = λ is. false≢true (sym (has-empty n) ∙ ap (λ s. has s n) (sym is) ∙ there) in
+      let test : (set == 0) ≡ false = grind (arith, nat_tests) in
+      halves_with n f g set there ∙ high (without set n) (without_top n set small) ∙ sym (ap (λ b. cond {A = ℕ} b none others) test))
+  | inr missing ↦ halves_out n f g set missing ∙ low set (below_top n set small missing)
+]
 
 -- ---- sums over the places that a set has not
 
@@ -184,3 +197,46 @@ below_two f = by_four (λ set. slice_index (f 0 ∷ (f 0 + f 1) ∷ (f 0 + f 2) 
 pub total_two : (f : ℕ → ℕ) → sum_within 2 f (full 2) ≡ f 0 + f 1 + (f 2 + f 3)
 unfolding full has with union
 total_two f = omega arith
+
+-- in lanes, where the numbers of the sets without the first place are added, and then those of the sets without the second
+module _ (xs a : List ℕ) (long : length xs ≡ 4) (firsts : a ≡ 0 ∷ slice_index xs 0 ∷ 0 ∷ slice_index xs 2 ∷ []) where
+  first_at : (i : ℕ) → slice_index a i ≡ slice_index (0 ∷ slice_index xs 0 ∷ 0 ∷ slice_index xs 2 ∷ []) i
+  first_at i = ap (λ l. slice_index l i) firsts
+
+  pub firsts_fit : sum_within 2 (slice_index xs) (full 2) < 4294967296 → (i : ℕ) → i < 4 → slice_index xs i + slice_index a i < 4294967296
+  firsts_fit fits = (let total = total_two (slice_index xs) in by_four (λ i. slice_index xs i + slice_index a i < 4294967296)
+      (omega (arith, fits, total, first_at 0)) (omega (arith, fits, total, first_at 1)) (omega (arith, fits, total, first_at 2)) (omega (arith, fits, total, first_at 3)))
+
+  abbrev with_first : List ℕ
+  with_first = zip2 (λ (x y : ℕ). x + y) xs a
+
+  with_first_lanes : length with_first ≡ 4
+  with_first_lanes = sum_lanes xs a long (ap length firsts)
+
+  with_first_at : (i : ℕ) → i < 4 → slice_index with_first i ≡ slice_index xs i + slice_index (0 ∷ slice_index xs 0 ∷ 0 ∷ slice_index xs 2 ∷ []) i
+  with_first_at i lt = sum_at xs a long (ap length firsts) i lt ∙ ap (λ x. slice_index xs i + x) (first_at i)
+
+  abbrev below : List ℕ
+  below = slice_index xs 0 ∷ (slice_index xs 0 + slice_index xs 1) ∷ (slice_index xs 0 + slice_index xs 2)
+      ∷ (slice_index xs 0 + slice_index xs 2 + (slice_index xs 1 + slice_index xs 3)) ∷ []
+
+  module _ (b : List ℕ) (seconds : b ≡ 0 ∷ 0 ∷ slice_index with_first 0 ∷ slice_index with_first 1 ∷ []) where
+    second_at : (i : ℕ) → slice_index b i ≡ slice_index (0 ∷ 0 ∷ slice_index with_first 0 ∷ slice_index with_first 1 ∷ []) i
+    second_at i = ap (λ l. slice_index l i) seconds
+
+    sums : (i : ℕ) → i < 4 → slice_index with_first i + slice_index b i ≡ slice_index below i
+    sums = (let none = with_first_at 0 (omega arith) in let one = with_first_at 1 (omega arith) in let two = with_first_at 2 (omega arith) in
+        let both = with_first_at 3 (omega arith) in by_four (λ i. slice_index with_first i + slice_index b i ≡ slice_index below i)
+        (omega (arith, none, second_at 0)) (omega (arith, one, second_at 1)) (omega (arith, none, two, second_at 2)) (omega (arith, one, both, second_at 3)))
+
+    pub seconds_fit : sum_within 2 (slice_index xs) (full 2) < 4294967296 → (i : ℕ) → i < 4 → slice_index with_first i + slice_index b i < 4294967296
+    seconds_fit fits i lt = (let total = total_two (slice_index xs) in let same = sums i lt in
+        let most : slice_index below i ≤ slice_index xs 0 + slice_index xs 1 + (slice_index xs 2 + slice_index xs 3)
+        = by_four (λ i. slice_index below i ≤ slice_index xs 0 + slice_index xs 1 + (slice_index xs 2 + slice_index xs 3))
+        (omega arith) (omega arith) (omega arith) (omega arith) i lt in omega (arith, same, most, total, fits))
+
+    pub below_lanes : length (zip2 (λ (x y : ℕ). x + y) with_first b) ≡ 4
+    below_lanes = sum_lanes with_first b with_first_lanes (ap length seconds)
+
+    pub below_at : (set : ℕ) → set < 4 → slice_index (zip2 (λ (x y : ℕ). x + y) with_first b) set ≡ sum_within 2 (slice_index xs) set
+    below_at set lt = sum_at with_first b with_first_lanes (ap length seconds) set lt ∙ sums set lt ∙ below_two (slice_index xs) set lt

@@ -5,7 +5,7 @@ use Rattle.std.proofs.lemmas.Bool.{cases_eq, false≢true}
 use Rattle.std.proofs.lemmas.Bool.Decides.{nat_tests}
 use Rattle.std.proofs.lemmas.Nat.{or_lt, pow_below, le_or_l, and_le_r}
 use Rattle.strip_mask.specs.Set.{LiesBelow, full, has, meet, sum_over, union, with, without}
-use Rattle.strip_mask.proofs.Totals.{sum_over-with}
+use Rattle.strip_mask.proofs.Totals.{sum_over-with, sum_over_mono}
 use Rattle.std.specs.Int.Bits.{or_shifted_r}
 use Rattle.strip_mask.proofs.ByMembers.{below_width, has-meet, has-with_same, has-with, has-without, has-without_same}
 use Rattle.strip_mask.proofs.ByMembers.{has_from_without, same_has, with-without, without-with, without_absent}
@@ -187,6 +187,10 @@ module _ (numbers : List ℕ) (n : ℕ) (few : n < 64) where
       let more : sum_over numbers (with (without set n) n) ≡ sum_over numbers (without set n) + slice_index numbers n = sum_over-with numbers (without set n) n few
       (has-without_same set n) in
       omega (arith, high (without set n) lt, is, more, ap (sum_over numbers) (with-without set n there))))
+
+-- no more than that of all places
+pub sum_most : (numbers : List ℕ) (n set : ℕ) → set < 2 ^ n → sum_over numbers set ≤ sum_over numbers (full n)
+sum_most numbers n set small = sum_over_mono numbers set (full n) (λ i there. has_full n i (below_width set n i small there))
 
 -- 1 shifted by the number of places
 pub one_shifted : (n shift : ℕ) → shift ≡ n → suc n ≤ 10 → 1 * 2 ^ shift % 18446744073709551616 ≡ 2 ^ n

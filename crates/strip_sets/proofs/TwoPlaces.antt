@@ -5,7 +5,7 @@ use Rattle.strip_mask.specs.Set.{full, has, minus, sum_over, union, with, withou
 use Rattle.strip_mask.proofs.Totals.{sum_over-empty, sum_over-with}
 use Rattle.strip_mask.proofs.ByMembers.{below_width, has-empty}
 use Rattle.strip_sets.specs.declared.terms.Classes.{Classes}
-use Rattle.strip_sets.specs.Numbers.{AreLanes, CanStep, HasLanes, Steps, by_class}
+use Rattle.strip_sets.specs.Numbers.{AreLanes, CanStep, Steps, by_class, step_from, step_to}
 use Rattle.strip_sets.specs.Pass.{HasRoom, Passes, cost, counted, lowered}
 use Rattle.strip_sets.proofs.Costs.{costs_most, costs_same, lowered_is, lowered_itself, lowered_most, lowered_same, totals_same}
 
@@ -94,7 +94,7 @@ module _ (numbers : List ℕ) where
 
 -- ---- one step
 
-module _ (classes : ℕ) (few : classes ≤ 4) (weights days : Classes (List ℕ)) (blocked : List ℕ) (lanes : AreLanes blocked × HasLanes weights × HasLanes days)
+module _ (classes : ℕ) (few : classes ≤ 4) (weights days : Classes (List ℕ)) (blocked : List ℕ) (blocked_lanes : AreLanes blocked)
     (first : ℕ → ℕ) (room : HasRoom 2 classes 4294967295 (by_class slice_index weights) (by_class slice_index days) first) where
   abbrev costs : ℕ → ℕ → ℕ
   costs = cost classes (by_class slice_index weights) (by_class slice_index days)
@@ -102,22 +102,6 @@ module _ (classes : ℕ) (few : classes ≤ 4) (weights days : Classes (List ℕ
   -- numbers with room for all days
   abbrev pub IsWithin : List ℕ → Type 0
   IsWithin numbers = (lane : ℕ) → lane < 4 → slice_index numbers lane ≤ room.before
-
-  -- where days rise from the position of each lane
-  can_step : (numbers positions : List ℕ) → AreLanes numbers → IsWithin numbers → ((lane : ℕ) → lane < 4 → slice_index positions lane < 4)
-      → ((class lane : ℕ) → class < classes → lane < 4 → by_class slice_index days class (slice_index positions lane) ≤ by_class slice_index days class lane)
-      → CanStep classes numbers weights days blocked positions
-  can_step numbers positions long within known rise = record {
-    few = few;
-    lanes = (long, lanes.0, lanes.1, lanes.2);
-    rise = rise;
-    fits = λ lane lt. omega (
-      arith,
-      within (slice_index positions lane) (known lane lt),
-      costs_most classes (by_class slice_index weights) (by_class slice_index days) (λ class _. by_class slice_index days class (slice_index positions lane)) lane,
-      room.fits lane lt,
-    );
-  }
 
   -- what days rise
   to_first : (class : ℕ) → class < classes → by_class slice_index days class 0 ≤ by_class slice_index days class 1
@@ -132,30 +116,110 @@ module _ (classes : ℕ) (few : classes ≤ 4) (weights days : Classes (List ℕ
   first_to_both : (class : ℕ) → class < classes → by_class slice_index days class 1 ≤ by_class slice_index days class 3
   first_to_both class known = omega (arith, room.rise class 3 1 known (omega arith) has_these.3, ap (by_class slice_index days class) both_without_second)
 
-  pub none_ready : (numbers : List ℕ) → AreLanes numbers → IsWithin numbers → CanStep classes numbers weights days blocked (0 ∷ 0 ∷ 0 ∷ 3 ∷ [])
-  none_ready numbers long within = can_step numbers (0 ∷ 0 ∷ 0 ∷ 3 ∷ []) long within
-      (by_four (λ lane. slice_index (0 ∷ 0 ∷ 0 ∷ 3 ∷ []) lane < 4) (omega arith) (omega arith) (omega arith) (omega arith))
-      (λ class lane known. by_four (λ lane. by_class slice_index days class (slice_index (0 ∷ 0 ∷ 0 ∷ 3 ∷ []) lane) ≤ by_class slice_index days class lane)
-      (omega arith) (to_first class known) (to_second class known) (omega arith) lane)
+  pub steps_rise : (class lane : ℕ) → class < classes → lane < 4 → by_class slice_index days class (slice_index step_from lane) ≤ by_class slice_index days class (slice_index step_to lane)
+  steps_rise class lane known = by_four (λ lane. by_class slice_index days class (slice_index step_from lane) ≤ by_class slice_index days class (slice_index step_to lane))
+      (second_to_both class known) (to_first class known) (to_second class known) (first_to_both class known) lane
 
-  pub first_ready : (numbers : List ℕ) → AreLanes numbers → IsWithin numbers → CanStep classes numbers weights days blocked (0 ∷ 1 ∷ 2 ∷ 1 ∷ [])
-  first_ready numbers long within = can_step numbers (0 ∷ 1 ∷ 2 ∷ 1 ∷ []) long within
-      (by_four (λ lane. slice_index (0 ∷ 1 ∷ 2 ∷ 1 ∷ []) lane < 4) (omega arith) (omega arith) (omega arith) (omega arith))
-      (λ class lane known. by_four (λ lane. by_class slice_index days class (slice_index (0 ∷ 1 ∷ 2 ∷ 1 ∷ []) lane) ≤ by_class slice_index days class lane)
-      (omega arith) (omega arith) (omega arith) (first_to_both class known) lane)
+  -- what a step costs, with room for the numbers
+  step_most : (lane : ℕ) → lane < 4 → room.before + costs (slice_index step_to lane) (slice_index step_from lane) ≤ 4294967295
+  step_most lane lt = omega (
+    arith,
+    costs_most classes (by_class slice_index weights) (by_class slice_index days) (λ class _. by_class slice_index days class (slice_index step_from lane)) (slice_index step_to lane),
+    room.fits (slice_index step_to lane) (by_four (λ lane. slice_index step_to lane < 4) (omega arith) (omega arith) (omega arith) (omega arith) lane lt),
+  )
 
-  pub second_ready : (numbers : List ℕ) → AreLanes numbers → IsWithin numbers → CanStep classes numbers weights days blocked (0 ∷ 1 ∷ 2 ∷ 2 ∷ [])
-  second_ready numbers long within = can_step numbers (0 ∷ 1 ∷ 2 ∷ 2 ∷ []) long within
-      (by_four (λ lane. slice_index (0 ∷ 1 ∷ 2 ∷ 2 ∷ []) lane < 4) (omega arith) (omega arith) (omega arith) (omega arith))
-      (λ class lane known. by_four (λ lane. by_class slice_index days class (slice_index (0 ∷ 1 ∷ 2 ∷ 2 ∷ []) lane) ≤ by_class slice_index days class lane)
-      (omega arith) (omega arith) (omega arith) (second_to_both class known) lane)
+  pub steps_fit : (lane : ℕ) → lane < 4 → costs (slice_index step_to lane) (slice_index step_from lane) < 4294967296
+  steps_fit lane lt = omega (arith, step_most lane lt)
 
-  pub stays_within : (guards : Bool) (numbers positions result : List ℕ) → IsWithin numbers → Steps classes guards numbers weights days blocked positions result → IsWithin result
-  stays_within guards numbers positions result within steps lane lt = omega (
+  -- what the steps cost, in lanes
+  module _ (paid : List ℕ) (long : AreLanes paid) (each : (lane : ℕ) → lane < 4 → slice_index paid lane ≡ costs (slice_index step_to lane) (slice_index step_from lane)) where
+    can_step : (numbers paid_there positions slots : List ℕ) → AreLanes numbers → IsWithin numbers → AreLanes paid_there
+        → ((lane : ℕ) → lane < 4 → slice_index paid_there lane ≡ slice_index paid (slice_index slots lane))
+        → ((lane : ℕ) → lane < 4 → slice_index positions lane < 4) → ((lane : ℕ) → lane < 4 → slice_index slots lane < 4)
+        → CanStep numbers paid_there blocked positions
+    can_step numbers paid_there positions slots lanes within also there known slotted = record {
+      lanes = (lanes, also, blocked_lanes);
+      fits = λ lane lt. omega (
+        arith,
+        within (slice_index positions lane) (known lane lt),
+        there lane lt,
+        each (slice_index slots lane) (slotted lane lt),
+        step_most (slice_index slots lane) (slotted lane lt),
+      );
+    }
+
+    pub none_ready : (numbers : List ℕ) → AreLanes numbers → IsWithin numbers → CanStep numbers paid blocked (0 ∷ 0 ∷ 0 ∷ 3 ∷ [])
+    none_ready numbers lanes within = can_step numbers paid (0 ∷ 0 ∷ 0 ∷ 3 ∷ []) (0 ∷ 1 ∷ 2 ∷ 3 ∷ []) lanes within long
+        (by_four (λ lane. slice_index paid lane ≡ slice_index paid (slice_index (0 ∷ 1 ∷ 2 ∷ 3 ∷ []) lane)) refl refl refl refl)
+        (by_four (λ lane. slice_index (0 ∷ 0 ∷ 0 ∷ 3 ∷ []) lane < 4) (omega arith) (omega arith) (omega arith) (omega arith))
+        (by_four (λ lane. slice_index (0 ∷ 1 ∷ 2 ∷ 3 ∷ []) lane < 4) (omega arith) (omega arith) (omega arith) (omega arith))
+
+    pub first_ready : (numbers : List ℕ) → AreLanes numbers → IsWithin numbers → CanStep numbers paid blocked (0 ∷ 1 ∷ 2 ∷ 1 ∷ [])
+    first_ready numbers lanes within = can_step numbers paid (0 ∷ 1 ∷ 2 ∷ 1 ∷ []) (0 ∷ 1 ∷ 2 ∷ 3 ∷ []) lanes within long
+        (by_four (λ lane. slice_index paid lane ≡ slice_index paid (slice_index (0 ∷ 1 ∷ 2 ∷ 3 ∷ []) lane)) refl refl refl refl)
+        (by_four (λ lane. slice_index (0 ∷ 1 ∷ 2 ∷ 1 ∷ []) lane < 4) (omega arith) (omega arith) (omega arith) (omega arith))
+        (by_four (λ lane. slice_index (0 ∷ 1 ∷ 2 ∷ 3 ∷ []) lane < 4) (omega arith) (omega arith) (omega arith) (omega arith))
+
+    pub second_ready : (numbers paid_last : List ℕ) → AreLanes numbers → IsWithin numbers → AreLanes paid_last
+        → ((lane : ℕ) → lane < 4 → slice_index paid_last lane ≡ slice_index paid (slice_index (0 ∷ 1 ∷ 2 ∷ 0 ∷ []) lane))
+        → CanStep numbers paid_last blocked (0 ∷ 1 ∷ 2 ∷ 2 ∷ [])
+    second_ready numbers paid_last lanes within also there = can_step numbers paid_last (0 ∷ 1 ∷ 2 ∷ 2 ∷ []) (0 ∷ 1 ∷ 2 ∷ 0 ∷ []) lanes within also there
+        (by_four (λ lane. slice_index (0 ∷ 1 ∷ 2 ∷ 2 ∷ []) lane < 4) (omega arith) (omega arith) (omega arith) (omega arith))
+        (by_four (λ lane. slice_index (0 ∷ 1 ∷ 2 ∷ 0 ∷ []) lane < 4) (omega arith) (omega arith) (omega arith) (omega arith))
+
+    -- each step as that of its sets; where a set steps to itself it stays, whatever that costs
+    module _ (guards : Bool) (begun one after least paid_last : List ℕ) where
+      abbrev closed : ℕ → ℕ
+      closed set = counted guards (slice_index blocked set)
+
+      stays : (before now : List ℕ) (lane price : ℕ) → slice_index now lane ≡ lowered (slice_index before lane) (slice_index before lane + price) (closed lane) (closed lane)
+          → slice_index now lane ≡ lowered (slice_index before lane) (slice_index before lane + costs lane lane) (closed lane) (closed lane)
+      stays before now lane price is = is ∙ lowered_itself (slice_index before lane) price (closed lane) (closed lane)
+          ∙ sym (lowered_itself (slice_index before lane) (costs lane lane) (closed lane) (closed lane))
+
+      goes : (before now : List ℕ) (lane from price : ℕ) → price ≡ costs lane from
+          → slice_index now lane ≡ lowered (slice_index before lane) (slice_index before from + price) (closed lane) (closed from)
+          → slice_index now lane ≡ lowered (slice_index before lane) (slice_index before from + costs lane from) (closed lane) (closed from)
+      goes before now lane from price same is = is ∙ ap (λ x. lowered (slice_index before lane) (slice_index before from + x) (closed lane) (closed from)) same
+
+      pub from_none_each : Steps guards begun paid blocked (0 ∷ 0 ∷ 0 ∷ 3 ∷ []) one → (lane : ℕ) → lane < 4
+          → slice_index one lane ≡ lowered (slice_index begun lane) (slice_index begun (slice_index (0 ∷ 0 ∷ 0 ∷ 3 ∷ []) lane) + costs lane (slice_index (0 ∷ 0 ∷ 0 ∷ 3 ∷ []) lane))
+          (closed lane) (closed (slice_index (0 ∷ 0 ∷ 0 ∷ 3 ∷ []) lane))
+      from_none_each steps = by_four (λ lane. slice_index one lane ≡ lowered (slice_index begun lane) (slice_index begun (slice_index (0 ∷ 0 ∷ 0 ∷ 3 ∷ []) lane)
+          + costs lane (slice_index (0 ∷ 0 ∷ 0 ∷ 3 ∷ []) lane)) (closed lane) (closed (slice_index (0 ∷ 0 ∷ 0 ∷ 3 ∷ []) lane)))
+          (stays begun one 0 (slice_index paid 0) (steps.each 0 (omega arith)))
+          (goes begun one 1 0 (slice_index paid 1) (each 1 (omega arith)) (steps.each 1 (omega arith)))
+          (goes begun one 2 0 (slice_index paid 2) (each 2 (omega arith)) (steps.each 2 (omega arith)))
+          (stays begun one 3 (slice_index paid 3) (steps.each 3 (omega arith)))
+
+      pub from_first_each : Steps guards one paid blocked (0 ∷ 1 ∷ 2 ∷ 1 ∷ []) after → (lane : ℕ) → lane < 4
+          → slice_index after lane ≡ lowered (slice_index one lane) (slice_index one (slice_index (0 ∷ 1 ∷ 2 ∷ 1 ∷ []) lane) + costs lane (slice_index (0 ∷ 1 ∷ 2 ∷ 1 ∷ []) lane))
+          (closed lane) (closed (slice_index (0 ∷ 1 ∷ 2 ∷ 1 ∷ []) lane))
+      from_first_each steps = by_four (λ lane. slice_index after lane ≡ lowered (slice_index one lane) (slice_index one (slice_index (0 ∷ 1 ∷ 2 ∷ 1 ∷ []) lane)
+          + costs lane (slice_index (0 ∷ 1 ∷ 2 ∷ 1 ∷ []) lane)) (closed lane) (closed (slice_index (0 ∷ 1 ∷ 2 ∷ 1 ∷ []) lane)))
+          (stays one after 0 (slice_index paid 0) (steps.each 0 (omega arith)))
+          (stays one after 1 (slice_index paid 1) (steps.each 1 (omega arith)))
+          (stays one after 2 (slice_index paid 2) (steps.each 2 (omega arith)))
+          (goes one after 3 1 (slice_index paid 3) (each 3 (omega arith)) (steps.each 3 (omega arith)))
+
+      pub from_second_each : ((lane : ℕ) → lane < 4 → slice_index paid_last lane ≡ slice_index paid (slice_index (0 ∷ 1 ∷ 2 ∷ 0 ∷ []) lane))
+          → Steps guards after paid_last blocked (0 ∷ 1 ∷ 2 ∷ 2 ∷ []) least → (lane : ℕ) → lane < 4
+          → slice_index least lane ≡ lowered (slice_index after lane) (slice_index after (slice_index (0 ∷ 1 ∷ 2 ∷ 2 ∷ []) lane) + costs lane (slice_index (0 ∷ 1 ∷ 2 ∷ 2 ∷ []) lane))
+          (closed lane) (closed (slice_index (0 ∷ 1 ∷ 2 ∷ 2 ∷ []) lane))
+      from_second_each there steps = by_four (λ lane. slice_index least lane ≡ lowered (slice_index after lane) (slice_index after (slice_index (0 ∷ 1 ∷ 2 ∷ 2 ∷ []) lane)
+          + costs lane (slice_index (0 ∷ 1 ∷ 2 ∷ 2 ∷ []) lane)) (closed lane) (closed (slice_index (0 ∷ 1 ∷ 2 ∷ 2 ∷ []) lane)))
+          (stays after least 0 (slice_index paid_last 0) (steps.each 0 (omega arith)))
+          (stays after least 1 (slice_index paid_last 1) (steps.each 1 (omega arith)))
+          (stays after least 2 (slice_index paid_last 2) (steps.each 2 (omega arith)))
+          (goes after least 3 2 (slice_index paid_last 3) (there 3 (omega arith) ∙ each 0 (omega arith)) (steps.each 3 (omega arith)))
+
+  pub stays_within : (guards : Bool) (numbers paid positions result : List ℕ) → IsWithin numbers → Steps guards numbers paid blocked positions result → IsWithin result
+  stays_within guards numbers paid positions result within steps lane lt = omega (
     arith,
     within lane lt,
     steps.each lane lt,
-    lowered_most (slice_index numbers lane) (slice_index numbers (slice_index positions lane) + costs lane (slice_index positions lane)) (counted guards (slice_index blocked lane)) (counted guards (slice_index blocked (slice_index positions lane))),
+    lowered_most (slice_index numbers lane) (slice_index numbers (slice_index positions lane) + slice_index paid lane) (counted guards (slice_index blocked lane))
+        (counted guards (slice_index blocked (slice_index positions lane))),
   )
 
 -- ---- three steps

@@ -1,8 +1,8 @@
 -- A number for each set of a few places, in lanes and by halves.
-use Rattle.std.specs.Prelude.{◌≡◌, ℕ, zero, suc, ◌+◌, ◌^◌, ◌<◌, ◌≤◌, Bool, cond, List, [], ◌∷◌, length, slice_index}
+use Rattle.std.specs.Prelude.{◌≡◌, ℕ, zero, suc, ◌+◌, ◌^◌, ◌<◌, Bool, cond, List, [], ◌∷◌, length, slice_index}
 use Rattle.strip_mask.specs.Set.{has, with, without}
 use Rattle.strip_sets.specs.declared.terms.Classes.{Classes}
-use Rattle.strip_sets.specs.Pass.{cost, counted, lowered}
+use Rattle.strip_sets.specs.Pass.{counted, lowered}
 
 -- a vector of four numbers
 abbrev pub AreLanes : List ℕ → Type 0
@@ -25,17 +25,21 @@ by_class value classes class set =
 abbrev pub HasLanes : Classes (List ℕ) → Type 0
 HasLanes classes = AreLanes classes.first × AreLanes classes.second × AreLanes classes.third × AreLanes classes.fourth
 
+-- the four steps by which the sets of two places are come to, each at a lane: where it leads to, and where it comes from
+abbrev pub step_to : List ℕ
+step_to = 3 ∷ 1 ∷ 2 ∷ 3 ∷ []
+
+abbrev pub step_from : List ℕ
+step_from = 2 ∷ 0 ∷ 0 ∷ 1 ∷ []
+
 -- each lane can be come to from that at its position
-pub record CanStep (classes : ℕ) (numbers : List ℕ) (weights days : Classes (List ℕ)) (blocked positions : List ℕ) : Type 0 where
-  pub few : classes ≤ 4
-  pub lanes : AreLanes numbers × AreLanes blocked × HasLanes weights × HasLanes days
-  pub rise : (class lane : ℕ) → class < classes → lane < 4 → by_class slice_index days class (slice_index positions lane) ≤ by_class slice_index days class lane
-  pub fits : (lane : ℕ) → lane < 4
-      → slice_index numbers (slice_index positions lane) + cost classes (by_class slice_index weights) (by_class slice_index days) lane (slice_index positions lane) < 2 ^ 32
+pub record CanStep (numbers costs blocked positions : List ℕ) : Type 0 where
+  pub lanes : AreLanes numbers × AreLanes costs × AreLanes blocked
+  pub fits : (lane : ℕ) → lane < 4 → slice_index numbers (slice_index positions lane) + slice_index costs lane < 2 ^ 32
 
 -- each lane is lowered to that at its position and what it costs to come from there
-pub record Steps (classes : ℕ) (guards : Bool) (numbers : List ℕ) (weights days : Classes (List ℕ)) (blocked positions result : List ℕ) : Type 0 where
+pub record Steps (guards : Bool) (numbers costs blocked positions result : List ℕ) : Type 0 where
   pub lanes : AreLanes result
   pub each : (lane : ℕ) → lane < 4 → slice_index result lane ≡ lowered (slice_index numbers lane)
-      (slice_index numbers (slice_index positions lane) + cost classes (by_class slice_index weights) (by_class slice_index days) lane (slice_index positions lane))
+      (slice_index numbers (slice_index positions lane) + slice_index costs lane)
       (counted guards (slice_index blocked lane)) (counted guards (slice_index blocked (slice_index positions lane)))

@@ -45,12 +45,14 @@ impl<T: BySet> BySet for Block<T> {
         }
     }
 
-    fn at(&self, set: usize) -> u64 {
-        self.numbers.at(set)
+    fn none_and_others(none: u64, others: u64) -> Self {
+        Block {
+            numbers: T::none_and_others(none, others),
+        }
     }
 
-    fn last(&self) -> u64 {
-        self.numbers.last()
+    fn at(&self, set: usize) -> u64 {
+        self.numbers.at(set)
     }
 
     #[inline(never)]
@@ -78,23 +80,24 @@ impl<T: BySet> BySet for Block<T> {
     }
 
     #[inline(never)]
+    fn more_than(&mut self, others: &Self, number: u64) {
+        self.numbers.more_than(&others.numbers, number);
+    }
+
+    #[inline(never)]
+    fn sum_times(&mut self, others: &Self, weights: &Self, days: &Self) {
+        self.numbers
+            .sum_times(&others.numbers, &weights.numbers, &days.numbers);
+    }
+
+    #[inline(never)]
     fn plus(&mut self, others: &Self) {
         self.numbers.plus(&others.numbers);
     }
 
     #[inline(never)]
-    fn plus_times(&mut self, weights: &Self, days: &Self) {
-        self.numbers.plus_times(&weights.numbers, &days.numbers);
-    }
-
-    #[inline(never)]
     fn least(&mut self, others: &Self) {
         self.numbers.least(&others.numbers);
-    }
-
-    #[inline(never)]
-    fn least_with(&mut self, number: u64) {
-        self.numbers.least_with(number);
     }
 
     #[inline(never)]

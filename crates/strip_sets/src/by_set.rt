@@ -1,11 +1,11 @@
 // A number for each set of a few places, by halves, and lowered place by place.
-ghost use Rattle.std.specs.Prelude.{◌≡◌, ◌↔◌, ℕ, ◌+◌, ◌*◌, ◌-◌, ◌^◌, ◌<◌, ◌≤◌, ◌==◌, min, suc, IsTrue, slice_index};
+ghost use Rattle.std.specs.Prelude.{◌≡◌, ◌↔◌, ℕ, ◌+◌, ◌*◌, ◌-◌, ◌^◌, ◌<◌, ◌≤◌, ◌==◌, cond, min, suc, IsTrue, slice_index};
 ghost use Rattle.std.proofs.Common.{rules};
 ghost use Rattle.strip_mask.specs.Set.{full, sum_over, with};
 ghost use Rattle.strip_sets.specs.Numbers.{by_class, halves, sum_within};
 ghost use Rattle.strip_sets.specs.Pass.{HasRoom, Passes, cost, cost_from, counted, lowered};
 
-use super::lanes::{FromFirst, FromNone, FromSecond, lower, lower_from};
+use super::lanes::{below_two, cost_of, lower, pass_two, vector};
 use super::terms::{Classes, Count, Guard};
 use std::simd::prelude::*;
 
@@ -30,15 +30,17 @@ pub trait BySet: Sized + Drop {
         requires { number ≤ most }
         ensures { (set : ℕ) → set < 2 ^ places → value result set ≡ number };
 
+    /// One number for the empty set, and another one for each other set.
+    fn none_and_others(none: u64, others: u64) -> Self
+        requires none { none ≤ most }
+        requires others { others ≤ most }
+        ensures { (set : ℕ) → set < 2 ^ places → value result set ≡ cond {A = ℕ} (set == 0) none others };
+
     /// The number of a set.
     fn at(&self, set: usize) -> u64
         requires few { places ≤ 10 }
         requires known { set < 2 ^ places }
         ensures { result ≡ value self.now set };
-
-    /// The number of the set of all places.
-    fn last(&self) -> u64
-        ensures { result ≡ value self.now (full places) };
 
     /// For each set a first number and the numbers of its places.
     fn sums(&mut self, first: u64, numbers: &[u64; 10])
@@ -68,24 +70,24 @@ pub trait BySet: Sized + Drop {
     fn copy_from(&mut self, others: &Self)
         ensures { (set : ℕ) → set < 2 ^ places → value self.new set ≡ value others.now set };
 
+    /// For each set the number of the others and that much more.
+    fn more_than(&mut self, others: &Self, number: u64)
+        requires { (set : ℕ) → set < 2 ^ places → value others.now set + number ≤ most }
+        ensures { (set : ℕ) → set < 2 ^ places → value self.new set ≡ value others.now set + number };
+
+    /// For each set the number of the others, and its weight for each of its days.
+    fn sum_times(&mut self, others: &Self, weights: &Self, days: &Self)
+        requires { (set : ℕ) → set < 2 ^ places → value others.now set + value weights.now set * value days.now set ≤ most }
+        ensures { (set : ℕ) → set < 2 ^ places → value self.new set ≡ value others.now set + value weights.now set * value days.now set };
+
     /// For each set the number of the others more.
     fn plus(&mut self, others: &Self)
         requires { (set : ℕ) → set < 2 ^ places → value self.old set + value others.now set ≤ most }
         ensures { (set : ℕ) → set < 2 ^ places → value self.new set ≡ value self.old set + value others.now set };
 
-    /// For each set its weight for each of its days more.
-    fn plus_times(&mut self, weights: &Self, days: &Self)
-        requires { (set : ℕ) → set < 2 ^ places → value self.old set + value weights.now set * value days.now set ≤ most }
-        ensures { (set : ℕ) → set < 2 ^ places → value self.new set ≡ value self.old set + value weights.now set * value days.now set };
-
     /// For each set the lesser of its number and that of the others.
     fn least(&mut self, others: &Self)
         ensures { (set : ℕ) → set < 2 ^ places → value self.new set ≡ min (value self.old set) (value others.now set) };
-
-    /// For each set no more than a number.
-    fn least_with(&mut self, number: u64)
-        requires { number ≤ most }
-        ensures { (set : ℕ) → set < 2 ^ places → value self.new set ≡ min (value self.old set) number };
 
     /// Lowers the number of each set to that of the others and what its days cost, where nothing is blocked.
     fn or_open(&mut self, others: &Self, weights: &Self, days: &Self, blocked: &Self)
@@ -144,11 +146,11 @@ impl BySet for u64 {
         number
     }
 
-    fn at(&self, _set: usize) -> u64 {
-        *self
+    fn none_and_others(none: u64, _others: u64) -> u64 {
+        none
     }
 
-    fn last(&self) -> u64 {
+    fn at(&self, _set: usize) -> u64 {
         *self
     }
 
@@ -175,23 +177,23 @@ impl BySet for u64 {
     }
 
     #[inline(always)]
+    fn more_than(&mut self, others: &u64, number: u64) {
+        *self = *others + number;
+    }
+
+    #[inline(always)]
+    fn sum_times(&mut self, others: &u64, weights: &u64, days: &u64) {
+        *self = *others + *weights * *days;
+    }
+
+    #[inline(always)]
     fn plus(&mut self, others: &u64) {
         *self += *others;
     }
 
     #[inline(always)]
-    fn plus_times(&mut self, weights: &u64, days: &u64) {
-        *self += *weights * *days;
-    }
-
-    #[inline(always)]
     fn least(&mut self, others: &u64) {
         *self = (*self).min(*others);
-    }
-
-    #[inline(always)]
-    fn least_with(&mut self, number: u64) {
-        *self = (*self).min(number);
     }
 
     #[inline(always)]
@@ -294,12 +296,13 @@ impl BySet for [u32; 4] {
         [number as u32; 4]
     }
 
-    fn at(&self, set: usize) -> u64 {
-        self[set] as u64
+    fn none_and_others(none: u64, others: u64) -> [u32; 4] {
+        let others = others as u32;
+        [none as u32, others, others, others]
     }
 
-    fn last(&self) -> u64 {
-        self[3] as u64
+    fn at(&self, set: usize) -> u64 {
+        self[set] as u64
     }
 
     #[inline(always)]
@@ -330,19 +333,25 @@ impl BySet for [u32; 4] {
 
     #[inline(always)]
     fn below(&mut self) {
-        let [none, first, second, both] = *self;
-        let with_second = none + second;
-        *self = [
-            none,
-            none + first,
-            with_second,
-            with_second + (first + both),
-        ];
+        *self = below_two(vector(self)).to_array();
     }
 
     #[inline(always)]
     fn copy_from(&mut self, others: &[u32; 4]) {
         *self = *others;
+    }
+
+    #[inline(always)]
+    fn more_than(&mut self, others: &[u32; 4], number: u64) {
+        let more = u32x4::splat(number as u32);
+        *self = u32x4::from_array(*others).strict_add(more).to_array();
+    }
+
+    #[inline(always)]
+    fn sum_times(&mut self, others: &[u32; 4], weights: &[u32; 4], days: &[u32; 4]) {
+        let (weights, days) = (u32x4::from_array(*weights), u32x4::from_array(*days));
+        let others = u32x4::from_array(*others);
+        *self = others.strict_add(weights.strict_mul(days)).to_array();
     }
 
     #[inline(always)]
@@ -352,22 +361,9 @@ impl BySet for [u32; 4] {
     }
 
     #[inline(always)]
-    fn plus_times(&mut self, weights: &[u32; 4], days: &[u32; 4]) {
-        let (weights, days) = (u32x4::from_array(*weights), u32x4::from_array(*days));
-        let numbers = u32x4::from_array(*self);
-        *self = numbers.strict_add(weights.strict_mul(days)).to_array();
-    }
-
-    #[inline(always)]
     fn least(&mut self, others: &[u32; 4]) {
         let (numbers, others) = (u32x4::from_array(*self), u32x4::from_array(*others));
         *self = numbers.simd_min(others).to_array();
-    }
-
-    #[inline(always)]
-    fn least_with(&mut self, number: u64) {
-        let numbers = u32x4::from_array(*self);
-        *self = numbers.simd_min(u32x4::splat(number as u32)).to_array();
     }
 
     #[inline(always)]
@@ -395,12 +391,11 @@ impl BySet for [u32; 4] {
         blocked: &[u32; 4],
         blocked_before: &[u32; 4],
     ) {
-        *self = lower::<C, G>(
+        let costs = cost_of::<C>(weights.lanes(), days.lanes(), before.lanes());
+        *self = lower::<G>(
             u32x4::from_array(*self),
             u32x4::from_array(*others),
-            weights.lanes(),
-            days.lanes(),
-            before.lanes(),
+            costs,
             u32x4::from_array(*blocked),
             u32x4::from_array(*blocked_before),
         )
@@ -415,11 +410,8 @@ impl BySet for [u32; 4] {
         blocked: &[u32; 4],
     ) {
         let (weights, days) = (weights.lanes(), days.lanes());
-        let blocked = u32x4::from_array(*blocked);
-        let numbers = u32x4::from_array(*self);
-        let numbers = lower_from::<FromNone, C, G>(numbers, weights, days, blocked);
-        let numbers = lower_from::<FromFirst, C, G>(numbers, weights, days, blocked);
-        *self = lower_from::<FromSecond, C, G>(numbers, weights, days, blocked).to_array();
+        let numbers = pass_two::<C, G>(vector(self), weights, days, vector(blocked));
+        *self = numbers.to_array();
     }
 }
 
@@ -478,6 +470,13 @@ impl<T: BySet> BySet for Halves<T> {
         }
     }
 
+    fn none_and_others(none: u64, others: u64) -> Self {
+        Halves {
+            without: T::none_and_others(none, others),
+            with: T::all(others),
+        }
+    }
+
     fn at(&self, set: usize) -> u64 {
         let place = 1 << T::places();
         if set < place {
@@ -487,21 +486,16 @@ impl<T: BySet> BySet for Halves<T> {
         }
     }
 
-    fn last(&self) -> u64 {
-        self.with.last()
-    }
-
     #[inline(always)]
     fn sums(&mut self, first: u64, numbers: &[u64; 10]) {
         self.without.sums(first, numbers);
-        self.with.sums(first + numbers[T::places()], numbers);
+        self.with.more_than(&self.without, numbers[T::places()]);
     }
 
     #[inline(always)]
     fn other_sums(&mut self, first: u64, numbers: &[u64; 10]) {
-        self.without
-            .other_sums(first + numbers[T::places()], numbers);
         self.with.other_sums(first, numbers);
+        self.without.more_than(&self.with, numbers[T::places()]);
     }
 
     fn add(&mut self, set: usize, number: u64) {
@@ -527,27 +521,28 @@ impl<T: BySet> BySet for Halves<T> {
     }
 
     #[inline(always)]
+    fn more_than(&mut self, others: &Self, number: u64) {
+        self.without.more_than(&others.without, number);
+        self.with.more_than(&others.with, number);
+    }
+
+    #[inline(always)]
+    fn sum_times(&mut self, others: &Self, weights: &Self, days: &Self) {
+        self.without
+            .sum_times(&others.without, &weights.without, &days.without);
+        self.with.sum_times(&others.with, &weights.with, &days.with);
+    }
+
+    #[inline(always)]
     fn plus(&mut self, others: &Self) {
         self.without.plus(&others.without);
         self.with.plus(&others.with);
     }
 
     #[inline(always)]
-    fn plus_times(&mut self, weights: &Self, days: &Self) {
-        self.without.plus_times(&weights.without, &days.without);
-        self.with.plus_times(&weights.with, &days.with);
-    }
-
-    #[inline(always)]
     fn least(&mut self, others: &Self) {
         self.without.least(&others.without);
         self.with.least(&others.with);
-    }
-
-    #[inline(always)]
-    fn least_with(&mut self, number: u64) {
-        self.without.least_with(number);
-        self.with.least_with(number);
     }
 
     #[inline(always)]

@@ -23,25 +23,25 @@ last_goes newcomers one gone stage = same_has newcomers (with gone one) (λ i. s
     unless true b = refl
     unless false b = refl
 
-pub plus_times-requires : goal.plus_times-requires
-plus_times-requires g c = λ places lt.
+pub sum_times-requires : goal.sum_times-requires
+sum_times-requires g c = λ places lt.
     let value = g.S.BySet.value in
     let paid = one_low value g.S.BySet.places g.S.BySet.most c.args.self.now c.args.party.now c.requires.party (with 0 c.args.one.now.actor) (value c.args.party.now.crew.rates) (value c.args.one.now.days)
     c.requires.one.days (rates_all_low value g.S.BySet.places g.S.BySet.most c.args.self.now c.args.party.now c.requires.party) places lt in
-    omega (arith, c.copy_from.ensures places lt, c.requires.over.low places lt, paid, c.requires.party.room)
+    omega (arith, c.requires.over.low places lt, paid, c.requires.party.room)
 
 pub pass-requires-clause-room : goal.pass-requires-clause-room
 pass-requires-clause-room g c =
     let value = g.S.BySet.value in
     let count : ℕ = g.S.BySet.places in
     let most : ℕ = g.S.BySet.most in
-    let first : ℕ → ℕ = value c.plus_times.new.self in
+    let first : ℕ → ℕ = value c.sum_times.new.self in
     subst (λ w. HasRoom count 2 most (by_class (λ s. value s.now) w) (by_class (λ s. value s.now) c.two.result) first) (sym c.two-weights.ensures)
     (subst (λ w. HasRoom count 2 most (by_class value (two_of c.args.one.now.waits c.args.party.now.crew.rates)) (by_class (λ s. value s.now) w) first) (sym c.two.ensures)
     (one_room value count most c.args.self.now c.args.party.now c.requires.party c.args.one.now c.requires.one first (λ places lt.
     let paid = one_low value count most c.args.self.now c.args.party.now c.requires.party (with 0 c.args.one.now.actor) (value c.args.party.now.crew.rates) (value c.args.one.now.days)
     c.requires.one.days (rates_all_low value count most c.args.self.now c.args.party.now c.requires.party) places lt in
-    omega (arith, c.plus_times.ensures places lt, c.copy_from.ensures places lt, c.requires.over.low places lt, paid))))
+    omega (arith, c.sum_times.ensures places lt, c.requires.over.low places lt, paid))))
 
 pub returns : goal.returns
 returns g c =
@@ -57,7 +57,7 @@ returns g c =
     let actor : ℕ = c.args.one.now.actor in
     let rates : ℕ → ℕ = value c.args.party.now.crew.rates in
     let days : ℕ → ℕ = value c.args.one.now.days in
-    let first : ℕ → ℕ = value c.plus_times.new.self in
+    let first : ℕ → ℕ = value c.sum_times.new.self in
     let some : 0 < 2 = omega arith in
     let width : 2 ^ size group ≤ 2 ^ count = pow-le-pow_right some known.crew.fits in
     let wide : (places : ℕ) → places < 2 ^ size group → places < 2 ^ count = λ places lt. omega (arith, lt, width) in
@@ -69,7 +69,7 @@ returns g c =
     let over : IsRow film set group count 0 [] (with c.args.gone.0 actor) never (value c.args.over.now)
     = subst (λ (gone : ℕ). IsRow film set group count 0 [] gone never (value c.args.over.now)) (last_goes newcomers actor c.args.gone.0 c.requires.stage) c.requires.over in
     let row_is : (places : ℕ) → places < 2 ^ count → first places ≡ value c.args.over.now places + rates places * days places
-    = λ places lt. c.plus_times.ensures places lt ∙ ap (λ (n : ℕ). n + rates places * days places) (c.copy_from.ensures places lt) in
+    = c.sum_times.ensures in
     free_row value count most film c.args.party.now known 0 (actor ∷ []) c.args.gone.0 c.requires.stage 2 (slice_index (0 ∷ with 0 actor ∷ [])) (kinds_one actor)
     weights all_days (one_prices value count most film c.args.party.now known c.args.one.now c.requires.one 0 c.args.gone.0)
     (one_days value count most film c.args.party.now known c.args.one.now c.requires.one 0 c.args.gone.0) first (value c.pass.new.self) (2 * never)

@@ -1,4 +1,4 @@
-use Rattle.std.proofs.Common.{◌≡◌, ℕ, ◌+◌, ◌*◌, ◌^◌, ◌<◌, ◌≤◌, Bool, true, false, cond, eqb, [], ◌∷◌, min, slice_index, subst, sym, ap, ◌∙◌, arith}
+use Rattle.std.proofs.Common.{◌≡◌, ℕ, ◌+◌, ◌*◌, ◌^◌, ◌<◌, ◌≤◌, Bool, true, false, cond, eqb, [], ◌∷◌, min, slice_index, subst, sym, arith}
 use Rattle.std.proofs.Math.Nat.{min-le_left, pow-le-pow_right}
 use Rattle.std.proofs.lemmas.Bool.{eq-eqb, eqb-true}
 use Rattle.strip_mask.specs.Set.{size, with}
@@ -102,5 +102,5 @@ returns g c =
     kept blocked
     (awaiting_later film set newcomers one other known.company.small_set c.requires.pair group count ones (value c.args.one.now.scenes) (value c.args.other.now.scenes) both
     c.requires.one.scenes c.requires.other.scenes c.requires.both.scenes blocked
-    (λ places lt. c.plus.ensures places lt ∙ ap (λ (n : ℕ). n + both places) (c.copy_from.ensures places lt)))
+    (λ places lt. omega (arith, c.plus.ensures places lt, c.copy_from.ensures places lt)))
     passes

@@ -30,8 +30,8 @@ alone_in_set alone scenes others plays set scene is_alone is there =
 pub mates-waits-requires-clause-within : goal.mates-waits-requires-clause-within
 mates-waits-requires-clause-within g c = λ scene there. in_set c.meet-scenes.result.0 c.plays.result.0 c.args.party.now.crew.set.0 scene c.meet-scenes.ensures there
 
-pub least_with-requires : goal.least_with-requires
-least_with-requires g c =
+pub all-requires : goal.all-requires
+all-requires g c =
     let low = hold_low g.S.BySet.value g.S.BySet.places g.S.BySet.most c.args.self.now c.args.party.now c.requires.party c.args.actor c.requires.comes in
     omega (arith, c.hold-hold.ensures.same, low, c.requires.party.low, c.requires.party.room)
 
@@ -41,7 +41,8 @@ plus-requires g c = λ places lt.
     let rates = rates_low g.S.BySet.value g.S.BySet.places g.S.BySet.most c.args.self.now c.args.party.now c.requires.party places lt in
     omega (
       arith,
-      c.least_with.ensures places lt,
+      c.least.ensures places lt,
+      c.all.ensures places lt,
       min-le_right (g.S.BySet.value c.mates-waits.result places) c.hold-hold.result,
       c.hold-hold.ensures.same,
       low,
@@ -101,8 +102,8 @@ returns-clause-newcomer g c =
           (subst (λ (numbers : List ℕ). AreCounted film group g.S.BySet.places numbers c.minus-alone.result.0 (value c.counted-2.result)) c.one_each-ones.ensures c.counted-2.ensures);
       mates = mates;
       are_mates = are_mates;
-      waits = λ places lt. omega (arith, c.plus.ensures places lt, c.least_with.ensures places lt);
+      waits = λ places lt. omega (arith, c.plus.ensures places lt, c.least.ensures places lt, c.all.ensures places lt);
       waits_low = λ places lt. (
           let rates = rates_low value g.S.BySet.places g.S.BySet.most film c.args.party.now c.requires.party places lt in
-          omega (arith, c.plus.ensures places lt, c.least_with.ensures places lt, min-le_right (mates places) c.hold-hold.result, rates));
+          omega (arith, c.plus.ensures places lt, c.least.ensures places lt, c.all.ensures places lt, min-le_right (mates places) c.hold-hold.result, rates));
     }

@@ -1,6 +1,0 @@
-use Rattle.std.proofs.Common.{ℕ, min}
-use Rattle.strip_sets.proofs.Parts.{each_half}
-use Rattle.strip_sets.proofs.by_set.HalvesBySet.least_with.Goals as goal
-
-pub returns : goal.returns
-returns g c = each_half g.T.BySet.places (g.T.BySet.value c.args.self.now.without) (g.T.BySet.value c.args.self.now.with) (g.T.BySet.value c.args.self.now.without) (g.T.BySet.value c.args.self.now.with) (g.T.BySet.value c.args.self.now.without) (g.T.BySet.value c.args.self.now.with) (λ (x y z : ℕ). min x c.args.number) (g.T.BySet.value c.least_with.new.self) (g.T.BySet.value c.least_with-2.new.self) c.least_with.ensures c.least_with-2.ensures
