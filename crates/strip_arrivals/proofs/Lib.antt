@@ -29,3 +29,5 @@ mod Masks
 mod Room
 mod Stages
 mod Staged
+mod Fewer
+mod Pending

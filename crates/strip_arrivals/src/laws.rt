@@ -33,3 +33,10 @@ pub fn waiting_adds_up()
         → waiting film (union group other) (union newcomers others) scenes
         ≡ waiting film group newcomers scenes + waiting film other others scenes }
 {}
+
+/// More newcomers are paid no less for waiting: where some are left out, the value is no greater.
+pub fn fewer_newcomers_wait_no_more()
+    ensures { (film : GroupData) (set group newcomers fewer : ℕ) → IsSet group → IsSet newcomers
+        → ((actor : ℕ) → has fewer actor ≡ true → has newcomers actor ≡ true)
+        → arrivals_value film set group fewer ≤ arrivals_value film set group newcomers }
+{}
