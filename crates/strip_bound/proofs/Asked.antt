@@ -47,6 +47,41 @@ module _ (film : FilmData) (set : ℕ) where
       = ap (λ (actors : List ℕ). arrivals_value (group_data film) set (group_at film set many place) (set_of actors)) same in
       max-eq_left (omega (arith, value, le-max_right (greatest_below film set many n place) (party_value film set many n place)))
 
+  -- nor has it with still more
+  pub no_more_from : (many before count place : ℕ) → length (newcomers_by_hold film set) < place * 2 + before → 0 < before → before ≤ suc count
+      → greatest_below film set many (suc count) place ≡ greatest_below film set many before place
+  no_more_from many before zero place short some fewer = (let same : 1 ≡ before = omega (arith, some, fewer) in ap (λ (n : ℕ). greatest_below film set many n place) same)
+  no_more_from many before (suc n) place short some fewer = elim (cases_eq before (suc (suc n))) [
+    | inl same ↦ ap (λ (k : ℕ). greatest_below film set many k place) (sym same)
+    | inr other ↦ (let less : before ≤ suc n = omega (arith, fewer, other) in
+        no_more many (suc n) place (omega (arith, short, less)) (omega arith) ∙ no_more_from many before n place short some less)
+  ]
+
+  -- where a value is no lower with more newcomers, that with the most of them is the greatest
+  module _ (many place : ℕ) (rises : (n : ℕ) → party_value film set many n place ≤ party_value film set many (suc n) place) where
+    pub greatest_last : (count : ℕ) → greatest_below film set many (suc count) place ≡ party_value film set many count place
+    greatest_last zero = max-eq_right (omega arith)
+    greatest_last (suc n) = max-eq_right (omega (arith, greatest_last n, rises n))
+
+    pub greatest_rises : (before count : ℕ) → before ≤ suc count → greatest_below film set many before place ≤ greatest_below film set many (suc count) place
+    greatest_rises before zero fewer = elim (cases_eq before 1) [
+      | inl same ↦ (let e : greatest_below film set many before place ≡ greatest_below film set many 1 place = ap (λ (k : ℕ). greatest_below film set many k place) same in
+          omega (arith, e))
+      | inr other ↦ (let none : before ≡ 0 = omega (arith, fewer, other) in
+          let e : greatest_below film set many before place ≡ 0 = ap (λ (k : ℕ). greatest_below film set many k place) none in
+          omega (arith, e))
+    ]
+    greatest_rises before (suc n) fewer = elim (cases_eq before (suc (suc n))) [
+      | inl same ↦ (let e : greatest_below film set many before place ≡ greatest_below film set many (suc (suc n)) place
+          = ap (λ (k : ℕ). greatest_below film set many k place) same in
+          omega (arith, e))
+      | inr other ↦ omega (
+        arith,
+        greatest_rises before n (omega (arith, fewer, other)),
+        le-max_left (greatest_below film set many (suc n) place) (party_value film set many (suc n) place),
+      )
+    ]
+
   -- ---- how many there are
 
   pub located_count : length (located_by_hold film set) ≡ size (on_location film set)
@@ -142,10 +177,15 @@ module _ (film : FilmData) (set : ℕ) where
           | inr most ↦ max-eq_left most ∙ omega (arith, most)
         ]
 
-    pub raised_here : slice_index before.values place ≡ greatest_below film set many count place
+    pub raised_here : (asked : ℕ) → asked ≤ count → ((n : ℕ) → party_value film set many n place ≤ party_value film set many (suc n) place)
+        → slice_index before.values place ≡ greatest_below film set many asked place
         → slice_index (slice_set before.values place (max (slice_index before.values place) value)) place ≡ greatest_below film set many (suc count) place
-    raised_here known = get_or-set_same before.values place (max (slice_index before.values place) value) 0 within
-        ∙ (λ i. max (known i) (is_value i))
+    raised_here asked fewer rises known =
+        let last : greatest_below film set many (suc count) place ≡ party_value film set many count place = greatest_last many place rises count in
+        let lower : greatest_below film set many asked place ≤ greatest_below film set many (suc count) place
+        = greatest_rises many place rises asked count (omega (arith, fewer)) in
+        get_or-set_same before.values place (max (slice_index before.values place) value) 0 within
+        ∙ (max-eq_right (omega (arith, known, is_value, last, lower)) ∙ (is_value ∙ sym last))
 
     pub raised_fits : IsFilm film → LiesIn film set → (many ≡ 7) ⊎ (many ≡ 10) → before.extra + (value - slice_index before.values place) < 2 ^ 64
     raised_fits is lies size_is =
@@ -164,7 +204,7 @@ module _ (film : FilmData) (set : ℕ) where
   -- ---- at first
 
   pub none_known : (many number need : ℕ) → number ≡ number_of_parties film set many → (many ≡ 7) ⊎ (many ≡ 10)
-      → AreParties film set many (record { many = many; number = number; values = replicate 10 0; extra = 0; need = need })
+      → AreParties film set many (record { many = many; number = number; asked = 0; values = replicate 10 0; extra = 0; need = need })
   none_known many number need is_number size_is = record {
     many = refl;
     number = is_number;
@@ -197,11 +237,12 @@ module _ (film : FilmData) (set : ℕ) where
       omega (arith, extra_le parties.many parties are, same, le-max_right (parties_extra film set 7) (parties_extra film set 10))
 
   -- asked with all newcomers, they reach as far as is needed, or have all
-  pub reached_or_all : (parties : Parties) (many need : ℕ) → AreParties film set parties.many parties → AreAsked film set parties.many 3 parties
-      → parties.many ≡ many → parties.need ≡ need → (need ≤ parties.extra) ⊎ (parties.extra ≡ parties_extra film set many)
-  reached_or_all parties many need are asked is_many same = elim asked [
+  pub reached_or_all : (parties : Parties) (many need : ℕ) → AreParties film set parties.many parties → AreAsked film set parties.many parties
+      → parties.asked ≡ 3 → parties.many ≡ many → parties.need ≡ need → (need ≤ parties.extra) ⊎ (parties.extra ≡ parties_extra film set many)
+  reached_or_all parties many need are asked all is_many same = elim asked [
     | inl reached ↦ inl (omega (arith, reached, same))
-    | inr known ↦ inr (extra_is parties.many parties are known ∙ ap (parties_extra film set) is_many)
+    | inr known ↦ inr (extra_is parties.many parties are (subst
+        (λ (n : ℕ). (place : ℕ) → place < parties.number → slice_index parties.values place ≡ greatest_below film set parties.many n place) all known) ∙ ap (parties_extra film set) is_many)
   ]
 
   -- at most seven on location are one party whatever its size

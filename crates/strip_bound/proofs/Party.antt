@@ -17,13 +17,15 @@ use Rattle.strip_film.specs.Finish.{steps_cost}
 use Rattle.strip_film.proofs.Located.{location_lies}
 use Rattle.strip_film.proofs.Lists.{AllOnce}
 use Rattle.strip_kind.specs.declared.kind.Kind.TheVariants.{Arrivals}
+use Rattle.strip_group.specs.Group.{GroupData}
 use Rattle.strip_arrivals.specs.Along.{waiting}
+use Rattle.strip_arrivals.specs.Arrivals.{arrivals_value}
 use Rattle.strip_arrivals.proofs.Along.{value_le}
 use Rattle.strip_bound.specs.Bounds.{bound, greatest_below, group_at, group_data, hold_without, is_newcomer, located_by_hold, newcomers_at, newcomers_by_hold, number_of_parties, parties_extra, party_value}
 use Rattle.strip_bound.proofs.Arriving.{from_joined, has_each, joined, waiting_within_steps, waits_together}
 use Rattle.strip_bound.proofs.Fall.{Chain, below_from_numbers, contains_kept, numbers_rise, once, same_members}
 use Rattle.strip_bound.proofs.Members.{false_from}
-use Rattle.strip_bound.proofs.Pieces.{contains_take, contains_drop, from_set_of}
+use Rattle.strip_bound.proofs.Pieces.{contains_take, contains_drop, from_set_of, more_taken}
 use Rattle.strip_bound.proofs.Places.{pieces_differ, size_piece}
 
 module _ (film : FilmData) (set : ℕ) where
@@ -139,6 +141,18 @@ module _ (film : FilmData) (set : ℕ) where
           | inr most ↦ (let is_few : max (parties_extra film set 7) (parties_extra film set 10) ≡ parties_extra film set 7 = max-eq_left most in
               omega (arith, few, is_few))
         ]
+
+    -- ---- more newcomers
+
+    -- a value is no lower with one more of the newcomers
+    pub value_rises : ((film : GroupData) (set group newcomers fewer : ℕ) → IsSet group → IsSet newcomers
+        → ((actor : ℕ) → has fewer actor ≡ true → has newcomers actor ≡ true) → arrivals_value film set group fewer ≤ arrivals_value film set group newcomers)
+        → (many place count : ℕ) → party_value film set many count place ≤ party_value film set many (suc count) place
+    value_rises no_more many place count = no_more (group_data film) set (group_at film set many place) (newcomers_at film set (suc count) place)
+        (newcomers_at film set count place)
+        (is_set_below (length film.rates) (group_at film set many place) is.actor_count (group_known many place))
+        (is_set_below (length film.rates) (newcomers_at film set (suc count) place) is.actor_count (newcomers_known (suc count) place))
+        (λ i there. more_taken count (drop (place * 2) (newcomers_by_hold film set)) i there)
 
     -- ---- the numbers of those who are in a party
 

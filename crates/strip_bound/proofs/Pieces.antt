@@ -114,6 +114,15 @@ from_fold set (x ∷ xs) i there = elim (from_fold (with set x) xs i there) [
   | inr later ↦ inr (contains_later x xs i later)
 ]
 
+-- one more of a list leaves those in the set who are
+more_by_fold : (set n : ℕ) (xs : List ℕ) (i : ℕ) → has (fold with set (take n xs)) i ≡ true → has (fold with set (take (suc n) xs)) i ≡ true
+more_by_fold set zero xs i there = kept_by_fold set (take 1 xs) i there
+more_by_fold set (suc n) [] i there = there
+more_by_fold set (suc n) (x ∷ xs) i there = more_by_fold (with set x) n xs i there
+
+pub more_taken : (n : ℕ) (xs : List ℕ) (i : ℕ) → has (set_of (take n xs)) i ≡ true → has (set_of (take (suc n) xs)) i ≡ true
+more_taken n xs i there = more_by_fold 0 n xs i there
+
 pub from_set_of : (xs : List ℕ) (i : ℕ) → has (set_of xs) i ≡ true → Contains xs i
 from_set_of xs i there = elim (from_fold 0 xs i there) [
   | inl none ↦ absurd (let f : has 0 i ≡ false = has-empty i in cc)

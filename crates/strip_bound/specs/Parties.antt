@@ -21,7 +21,7 @@ pub record AreParties (film : FilmData) (set count : ℕ) (parties : Parties) : 
   pub most : (place : ℕ) → slice_index parties.values place ≤ greatest_below film set count 3 place
   pub extra : parties.extra ≡ sum_below parties.number (slice_index parties.values)
 
--- either as much as is needed is known, or the greatest value of each party with fewer newcomers than that
-abbrev pub AreAsked : FilmData → ℕ → ℕ → ℕ → Parties → Type 0
-AreAsked film set many count parties = (parties.need ≤ parties.extra)
-    ⊎ ((place : ℕ) → place < parties.number → slice_index parties.values place ≡ greatest_below film set many count place)
+-- either as much as is needed is known, or the greatest value of each party with fewer newcomers than it was asked with
+abbrev pub AreAsked : FilmData → ℕ → ℕ → Parties → Type 0
+AreAsked film set many parties = (parties.need ≤ parties.extra)
+    ⊎ ((place : ℕ) → place < parties.number → slice_index parties.values place ≡ greatest_below film set many parties.asked place)

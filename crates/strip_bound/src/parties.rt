@@ -13,6 +13,7 @@ ghost use Rattle.arrayvec.specs.ArrayVec.{array_vec_len};
 use crate::falling::{Falling, place};
 use crate::tables::BoundTables;
 use arrayvec::ArrayVec;
+use strip_arrivals::laws::fewer_newcomers_wait_no_more;
 use strip_film::{Film, on};
 use strip_mask::Mask;
 
@@ -37,18 +38,22 @@ pub(crate) struct Actors {
 }
 
 /// The parties of a set: how many actors each of their groups has, but for the last one, how many
-/// parties there are, the greatest value known of each, the sum of these, and how far it has to reach.
+/// parties there are, with fewer than how many newcomers each was asked for its value, the greatest value
+/// known of each, the sum of these, and how far it has to reach.
 #[derive(Drop)]
 pub(crate) struct Parties {
     pub(crate) many: usize,
     pub(crate) number: usize,
+    pub(crate) asked: usize,
     pub(crate) values: [u64; PARTIES],
     pub(crate) extra: u64,
     pub(crate) need: u64,
 }
 
 /// What parties of seven or of ten cost beyond the plain bound, whichever is more, or a part of it that
-/// is at least `need`. It asks for the values of groups alone first, then for those with newcomers.
+/// is at least `need`. It asks for the values of groups of seven alone first, then for those with
+/// newcomers, and for those of groups of ten with all of theirs at once, since more newcomers don't lower
+/// a value.
 pub(crate) fn extra_of_parties(film: &Film, tables: &BoundTables, q: Mask, need: u64) -> u64
     requires tables { AreTables film.now tables.now }
     requires lies { LiesIn film.now q.0 }
@@ -67,14 +72,11 @@ pub(crate) fn extra_of_parties(film: &Film, tables: &BoundTables, q: Mask, need:
         return few.extra;
     }
     actors.newcomers = newcomers(film, tables, q, on);
-    few.ask(film, tables, q, &actors, 1);
-    few.ask(film, tables, q, &actors, 2);
+    few.ask_all(film, tables, q, &actors);
     if few.extra >= need || actors.located.len() <= FEW {
         return few.extra;
     }
     let mut many = Parties::new(film, q, &actors, MANY, need);
-    many.ask(film, tables, q, &actors, 0);
-    many.ask(film, tables, q, &actors, 1);
     many.ask(film, tables, q, &actors, 2);
     few.extra.max(many.extra)
 }
@@ -85,20 +87,51 @@ impl Parties {
         requires actors { AreActors film.now q.0 0 actors.now }
         requires many { (many ≡ 7) ⊎ (many ≡ 10) }
         ensures parties { AreParties film.now q.0 many result }
-        ensures asked { AreAsked film.now q.0 many 0 result }
+        ensures asked { AreAsked film.now q.0 many result }
+        ensures none { result.asked ≡ 0 }
         ensures need { result.need ≡ need }
     {
         Parties {
             many,
             number: (actors.located.len() + (many - 1)) / many,
+            asked: 0,
             values: [0; PARTIES],
             extra: 0,
             need,
         }
     }
 
-    /// Asks each party that has so many newcomers for its value with them, until as much as is needed
-    /// is known. One value for each party.
+    /// Asks each party for its value with all of its newcomers; with the first of them alone before, where
+    /// the groups come near to what is needed.
+    fn ask_all(&mut self, film: &Film, tables: &BoundTables, q: Mask, actors: &Actors)
+        requires tables { AreTables film.now tables.now }
+        requires lies { LiesIn film.now q.0 }
+        requires actors { AreActors film.now q.0 2 actors.now }
+        requires many { (self.old.many ≡ 7) ⊎ (self.old.many ≡ 10) }
+        requires parties { AreParties film.now q.0 self.old.many self.old }
+        requires asked { AreAsked film.now q.0 self.old.many self.old }
+        requires fewer { self.old.asked ≤ 1 }
+        ensures many { self.new.many ≡ self.old.many }
+        ensures need { self.new.need ≡ self.old.need }
+        ensures parties { AreParties film.now q.0 self.new.many self.new }
+        ensures asked { AreAsked film.now q.0 self.new.many self.new }
+        ensures all { self.new.asked ≡ 3 }
+    {
+        if !self.is_near() {
+            self.ask(film, tables, q, actors, 2);
+            return;
+        }
+        self.ask(film, tables, q, actors, 1);
+        self.ask(film, tables, q, actors, 2);
+    }
+
+    /// Whether no more than a sixth of what is needed is lacking. The time alone depends on it.
+    fn is_near(&self) -> bool {
+        self.extra >= self.need - self.need / 6
+    }
+
+    /// Asks each party for its value with so many of its newcomers at most, until as much as is needed is
+    /// known. One value for each party that has more of them than it was asked with.
     fn ask(&mut self, film: &Film, tables: &BoundTables, q: Mask, actors: &Actors, count: usize)
         requires tables { AreTables film.now tables.now }
         requires lies { LiesIn film.now q.0 }
@@ -106,14 +139,19 @@ impl Parties {
         requires count { count ≤ 2 }
         requires many { (self.old.many ≡ 7) ⊎ (self.old.many ≡ 10) }
         requires parties { AreParties film.now q.0 self.old.many self.old }
-        requires asked { AreAsked film.now q.0 self.old.many count self.old }
+        requires asked { AreAsked film.now q.0 self.old.many self.old }
+        requires fewer { self.old.asked ≤ count }
         ensures many { self.new.many ≡ self.old.many }
         ensures need { self.new.need ≡ self.old.need }
         ensures parties { AreParties film.now q.0 self.new.many self.new }
-        ensures asked { AreAsked film.now q.0 self.new.many (count + 1) self.new }
+        ensures asked { AreAsked film.now q.0 self.new.many self.new }
+        ensures more { self.new.asked ≡ count + 1 }
     {
         film.keeps_limits();
-        for place in 0..self.asked(actors, count) {
+        fewer_newcomers_wait_no_more();
+        let with_more = self.with_more(actors);
+        self.asked = count + 1;
+        for place in 0..with_more {
             if self.extra >= self.need {
                 return;
             }
@@ -124,18 +162,18 @@ impl Parties {
         }
     }
 
-    /// How many of the parties have so many newcomers: they are the first ones.
-    fn asked(&self, actors: &Actors, count: usize) -> usize
-        requires { count ≤ 2 }
+    /// How many of the parties have more newcomers than they were asked with, all where none was asked:
+    /// they are the first ones.
+    fn with_more(&self, actors: &Actors) -> usize
+        requires { self.now.asked ≤ 2 }
         ensures few { result ≤ self.now.number }
         ensures rest { (place : ℕ) → result ≤ place → place < self.now.number
-            → (0 < count) × (array_vec_len actors.now.newcomers < place * 2 + count) }
+            → (0 < self.now.asked) × (array_vec_len actors.now.newcomers < place * 2 + self.now.asked) }
     {
-        if count == 0 {
+        if self.asked == 0 {
             return self.number;
         }
-        self.number
-            .min((actors.newcomers.len() + (NEWCOMERS - count)) / NEWCOMERS)
+        self.number.min((actors.newcomers.len() + (NEWCOMERS - self.asked)) / NEWCOMERS)
     }
 
     /// Keeps the value of the party at this place, where it is above what was known of it.

@@ -71,7 +71,8 @@ fn with_notes<F: Fn(u64, u64) -> u64>(
     requires keeps { Keeps (F.pre kept.now.f) (F.post kept.now.f) kept.now.kind kept.now.film.now }
     requires start { IsComplete kept.now.film.now (path_data start.now) }
 {
-    let ended = alone(alloc, kept, start, CAP, ENTRIES)?;
+    let mut memo = Memo::new(alloc, kept)?;
+    let ended = alone(alloc, kept, &mut memo, start, CAP, ENTRIES)?;
     Ok(Outcome {
         cost: ended.cost,
         bound: ended.bound,

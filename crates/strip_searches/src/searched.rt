@@ -9,6 +9,7 @@ use strip_film::{Film, Path};
 use strip_io::Memory;
 use strip_kind::Kind;
 use strip_mask::Mask;
+use strip_memo::Memo;
 use strip_team::{Ended, alone};
 
 /// The end of a search of the film, by static bounds of this kind, that begins with this path.
@@ -28,5 +29,6 @@ pub(crate) fn searched(
     let kept = Kept::new(film, kind, |q, need| {
         static_reach(film, &tables, kind, Mask(q), need)
     });
-    alone(alloc, &kept, start, nodes, entries)
+    let mut memo = Memo::new(alloc, &kept)?;
+    alone(alloc, &kept, &mut memo, start, nodes, entries)
 }

@@ -24,6 +24,7 @@ use strip_io::Memory;
 use strip_kind::Kind;
 use strip_lines::laws::the_rules_are_true;
 use strip_mask::Mask;
+use strip_memo::Memo;
 use strip_model::Instance;
 use strip_pay::laws::pays_stay_small;
 use strip_proof::{Plan, Status};
@@ -104,9 +105,10 @@ fn search(
     let kept = Kept::new(film, kind, |q, need| {
         static_reach(film, &tables, kind, Mask(q), need)
     });
-    let ended = alone(alloc, &kept, start, nodes, entries)?;
+    let mut memo = Memo::new(alloc, &kept)?;
+    let ended = alone(alloc, &kept, &mut memo, start, nodes, entries)?;
     let trimmed = if ended.bound == ended.cost {
-        Some(trim(alloc, &kept, &ended.lines)?)
+        Some(trim(alloc, &kept, &mut memo, &ended.lines)?)
     } else {
         None
     };

@@ -31,21 +31,25 @@ use strip_walk::{Found, explore};
 /// Searches the film for a cheapest order, with one worker: it goes down the front, walks each task that is
 /// asked for, and closes the front up. It begins with a complete path, holds at most `cap` lines, at most
 /// 16,777,216, and its table has so many entries, 64 to 4,194,304. The time may grow with the number of
-/// open paths of the film that the start leaves.
+/// open paths of the film that the start leaves. The memo then has the static bounds that were asked for
+/// last.
 pub fn alone<F: Fn(u64, u64) -> u64>(
     alloc: Global,
     kept: &Kept<F>,
+    memo: &mut Memo,
     start: &Path,
     cap: u32,
     entries: u32,
 ) -> Result<Ended, Memory>
     requires keeps { Keeps (F.pre kept.now.f) (F.post kept.now.f) kept.now.kind kept.now.film.now }
+    requires memo { IsMemo kept.now.kind kept.now.film.now memo.old }
     requires start { IsComplete kept.now.film.now (path_data start.now) }
     requires some_lines { 1 ≤ cap }
     requires few_lines { cap ≤ 16777216 }
     requires some_entries { 64 ≤ entries }
     requires few_entries { entries ≤ 4194304 }
-    ensures { IfOk result (λ ended. IsEnded kept.now.kind kept.now.film.now (path_data start.now) cap (ended_data ended)) }
+    ensures memo { IsMemo kept.now.kind kept.now.film.now memo.new }
+    ensures ended { IfOk result (λ ended. IsEnded kept.now.kind kept.now.film.now (path_data start.now) cap (ended_data ended)) }
 {
     let mut front = layers(alloc, kept.film())?;
     let limits = Limits {
@@ -55,7 +59,7 @@ pub fn alone<F: Fn(u64, u64) -> u64>(
     };
     let mut world = open(alloc, kept, start, &front, &limits)?;
     let mut walked = begin(alloc, kept, &mut world, &mut front)?;
-    take_tasks(alloc, kept, &mut world, &front, &mut walked)?;
+    take_tasks(kept, memo, &mut world, &front, &mut walked)?;
     end(alloc, kept, world, &front, &walked)
 }
 
@@ -104,21 +108,22 @@ fn begin<F: Fn(u64, u64) -> u64>(
 
 /// Claims and walks the tasks, one after the other.
 fn take_tasks<F: Fn(u64, u64) -> u64>(
-    alloc: Global,
     kept: &Kept<F>,
+    memo: &mut Memo,
     world: &mut World,
     front: &Front,
     walked: &mut Walked,
 ) -> Result<(), Memory>
     requires keeps { Keeps (F.pre kept.now.f) (F.post kept.now.f) kept.now.kind kept.now.film.now }
+    requires memo { IsMemo kept.now.kind kept.now.film.now memo.old }
     requires walked { IsUnderWay kept.now.kind kept.now.film.now world.old (front_data front.now) walked.old.found.items 1 walked.old.spent }
+    ensures memo { IsMemo kept.now.kind kept.now.film.now memo.new }
     ensures search { IfOk result (λ _. world.new.search ≡ world.old.search) }
     ensures walked { IfOk result (λ _. IsUnderWay kept.now.kind kept.now.film.now world.new (front_data front.now)
         walked.new.found.items (suc (length front.now.tasks.items)) walked.new.spent) }
 {
-    let mut memo = Memo::new(alloc, kept)?;
     for task in 0..front.tasks.len() {
-        take_task(kept, world, front, task, walked, &mut memo)?;
+        take_task(kept, world, front, task, walked, memo)?;
     }
     Ok(())
 }

@@ -27,29 +27,21 @@ module _ (rules : Rules) (lines : List Line) (set : ℕ) where
     earlier : (place : ℕ) → FollowsBy done place → FollowsBy (done ++ scene ∷ []) place
     earlier place (first, there, short, best) = (first, Contains-append_left done (scene ∷ []) first there, short, best)
 
-    pub follows_more : (more : List Bool) → MarksMore marks more (IsBestOf lines (without set scene)) → IsShort scene → MarksMore before more (FollowsBy (done ++ scene ∷ []))
-    follows_more more next short place = (
+    pub follows_if : (more : List Bool) (Below : Type 0) → (Below → IsShort scene) → (IsShort scene → Below)
+        → MarksMore marks more (λ place. Below × IsBestOf lines (without set scene) place) → MarksMore before more (FollowsBy (done ++ scene ∷ []))
+    follows_if more Below short_where below_where next place = (
       λ mark. elim ((next place).0 mark) [
         | inl old ↦ elim ((so_far place).0 old) [ inl was ↦ inl was | inr follows ↦ inr (earlier place follows) ]
-        | inr best ↦ inr (scene, Contains-push done scene, short, best)
+        | inr (below, best) ↦ inr (scene, Contains-push done scene, short_where below, best)
       ],
       λ some. elim some [
         | inl was ↦ (next place).1 (inl ((so_far place).1 (inl was)))
         | inr (first, there, is_short, best) ↦ elim (Contains-push_cases done scene first there) [
           | inl old ↦ (next place).1 (inl ((so_far place).1 (inr (first, old, is_short, best))))
-          | inr now ↦ (next place).1 (inr (subst (λ (s : ℕ). IsBestOf lines (without set s) place) (sym now) best))
-        ]
-      ],
-    )
-
-    pub follows_same : (IsShort scene → ⊥) → MarksMore before marks (FollowsBy (done ++ scene ∷ []))
-    follows_same long place = (
-      λ mark. elim ((so_far place).0 mark) [ inl was ↦ inl was | inr follows ↦ inr (earlier place follows) ],
-      λ some. elim some [
-        | inl was ↦ (so_far place).1 (inl was)
-        | inr (first, there, is_short, best) ↦ elim (Contains-push_cases done scene first there) [
-          | inl old ↦ (so_far place).1 (inr (first, old, is_short, best))
-          | inr now ↦ absurd (long (subst IsShort (sym now) is_short))
+          | inr now ↦ (next place).1 (inr (
+            below_where (subst IsShort (sym now) is_short),
+            subst (λ (s : ℕ). IsBestOf lines (without set s) place) (sym now) best,
+          ))
         ]
       ],
     )

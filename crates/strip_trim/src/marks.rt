@@ -21,17 +21,19 @@ use strip_rule::open_firsts;
 pub(crate) fn marks_of<F: Fn(u64, u64) -> u64>(
     alloc: Global,
     kept: &Kept<F>,
+    memo: &mut Memo,
     best: &Best,
     count: usize,
 ) -> Result<Vec<bool>, Memory>
     requires keeps { Keeps (F.pre kept.now.f) (F.post kept.now.f) kept.now.kind kept.now.film.now }
     requires justified { AreJustified (rules_of kept.now.kind kept.now.film.now) best.now.lines }
+    requires memo { IsMemo kept.now.kind kept.now.film.now memo.old }
     requires count { count ≡ length best.now.lines }
-    ensures { IfOk result (λ marks. AreMarked (rules_of kept.now.kind kept.now.film.now) best.now.lines marks.items) }
+    ensures memo { IsMemo kept.now.kind kept.now.film.now memo.new }
+    ensures marked { IfOk result (λ marks. AreMarked (rules_of kept.now.kind kept.now.film.now) best.now.lines marks.items) }
 {
-    let mut memo = Memo::new(alloc, kept)?;
     let mut marks = vec![in alloc; false; count]?;
-    mark_reached(kept, &mut memo, best, &mut marks);
+    mark_reached(kept, memo, best, &mut marks);
     Ok(marks)
 }
 
@@ -48,7 +50,8 @@ fn mark_reached<F: Fn(u64, u64) -> u64>(
     requires memo { IsMemo kept.now.kind kept.now.film.now memo.old }
     requires count { length marks.old ≡ length best.now.lines }
     requires none { (place : ℕ) → is_marked marks.old place ≡ false }
-    ensures { AreMarked (rules_of kept.now.kind kept.now.film.now) best.now.lines marks.new }
+    ensures memo { IsMemo kept.now.kind kept.now.film.now memo.new }
+    ensures marked { AreMarked (rules_of kept.now.kind kept.now.film.now) best.now.lines marks.new }
 {
     mark(best, marks, kept.film().all());
     for entry in best.entries().iter().rev() {
@@ -83,8 +86,31 @@ fn mark_followers<F: Fn(u64, u64) -> u64>(
     for s in open_firsts(film, q).iter() {
         let rest = q.without(s);
         let need = entry.bound.saturating_sub(step(film, q, s));
-        if is_below(kept, memo, rest, need) {
-            mark(best, marks, rest);
+        mark_below(kept, memo, best, marks, rest, need);
+    }
+}
+
+/// Marks the best line of the set, where a line has the set and the static bound of it is below this
+/// number. The bound is asked for only where the line isn't marked already.
+fn mark_below<F: Fn(u64, u64) -> u64>(
+    kept: &Kept<F>,
+    memo: &mut Memo,
+    best: &Best,
+    marks: &mut [bool],
+    q: Mask,
+    need: u64,
+)
+    requires keeps { Keeps (F.pre kept.now.f) (F.post kept.now.f) kept.now.kind kept.now.film.now }
+    requires memo { IsMemo kept.now.kind kept.now.film.now memo.old }
+    requires count { length marks.old ≡ length best.now.lines }
+    requires lies { LiesIn kept.now.film.now q.0 }
+    ensures memo { IsMemo kept.now.kind kept.now.film.now memo.new }
+    ensures marked { MarksMore marks.old marks.new (λ place. (bound kept.now.kind kept.now.film.now q.0 < need) × IsBestOf best.now.lines q.0 place) }
+{
+    if let Some(place) = best.place(q.0) {
+        let line = best.entries()[place].line;
+        if !marks[line] && is_below(kept, memo, q, need) {
+            marks[line] = true;
         }
     }
 }

@@ -10,6 +10,7 @@ use strip_bound::{BoundTables, Kept, static_reach};
 use strip_film::{Film, Line};
 use strip_kind::Kind;
 use strip_mask::Mask;
+use strip_memo::Memo;
 
 fn triangle(alloc: Global) -> Result<Film, Fail>
     ensures { IfOk result (λ film. film ≡ triangle) }
@@ -42,7 +43,8 @@ fn trimmed(alloc: Global, film: &Film, kind: Kind, lines: &[Line]) -> Result<Vec
         kind,
         |q, need| static_reach(film, &tables, kind, Mask(q), need),
     );
-    let lines = trim(alloc, &kept, lines)?;
+    let mut memo = Memo::new(alloc, &kept)?;
+    let lines = trim(alloc, &kept, &mut memo, lines)?;
     Ok(lines)
 }
 

@@ -2,6 +2,7 @@
 ghost use Rattle.std.specs.Prelude.{◌≡◌, length, IfOk};
 ghost use Rattle.strip_bound.specs.Kept.{Keeps};
 ghost use Rattle.strip_lines.specs.Lines.{AreJustified, rules_of};
+ghost use Rattle.strip_memo.specs.Memo.{IsMemo};
 ghost use Rattle.strip_trim.specs.Marks.{marked_lines};
 ghost use Rattle.strip_trim.specs.Trimmed.{AreTrimmed};
 
@@ -11,23 +12,28 @@ use strip_best::Best;
 use strip_bound::Kept;
 use strip_film::Line;
 use strip_io::Memory;
+use strip_memo::Memo;
 
 /// The lines that the bound of the whole set needs: of each set that is reached the best line, if a
 /// line has the set, in the order of the list. The whole set is reached; and where the best line of a
 /// set that is reached has a bound above the static one, what then remains after each open first whose
-/// step and static bound come to less. Time n log n; for each set that is reached a static bound, and
-/// a step and a static bound for each open first.
+/// step and static bound come to less. Time n log n; for each set that is reached a static bound, a step
+/// for each open first, and a static bound for each line that is led on to. The bounds are asked of the
+/// memo, which is best the one of the search that made the lines.
 pub fn trim<F: Fn(u64, u64) -> u64>(
     alloc: Global,
     kept: &Kept<F>,
+    memo: &mut Memo,
     lines: &[Line],
 ) -> Result<Vec<Line>, Memory>
     requires keeps { Keeps (F.pre kept.now.f) (F.post kept.now.f) kept.now.kind kept.now.film.now }
+    requires memo { IsMemo kept.now.kind kept.now.film.now memo.old }
     requires justified { AreJustified (rules_of kept.now.kind kept.now.film.now) lines.now }
+    ensures memo { IsMemo kept.now.kind kept.now.film.now memo.new }
     ensures trimmed { IfOk result (λ trimmed. AreTrimmed (rules_of kept.now.kind kept.now.film.now) lines.now trimmed.items) }
 {
     let best = Best::of(alloc, lines)?;
-    let marks = marks_of(alloc, kept, &best, lines.len())?;
+    let marks = marks_of(alloc, kept, memo, &best, lines.len())?;
     marked(alloc, lines, &marks)
 }
 

@@ -14,23 +14,19 @@ located-requires-clause-lies c = rw c.on-on.ensures (location_lies c.args.film.n
 pub returns-then-few-need-clause-most : goal.returns-then-few-need-clause-most
 returns-then-few-need-clause-most c = few_le c.args.film.now c.args.q.0 c.ask.new.self c.ask.ensures.parties (c.ask.ensures.many ∙ c.new-few.ensures.parties.many)
 
-pub ask-requires-2-clause-actors : goal.ask-requires-2-clause-actors
-ask-requires-2-clause-actors c = actors_known c.args.film.now c.args.q.0 1 _ c.keeps_limits.ensures c.requires.lies (c.located.ensures ∙ ap (λ (on : ℕ). by_falling (slice_index c.args.film.now.holds) (members on)) c.on-on.ensures) c.newcomers-actors.ensures
-
-pub ask-requires-3-clause-actors : goal.ask-requires-3-clause-actors
-ask-requires-3-clause-actors c = actors_known c.args.film.now c.args.q.0 2 _ c.keeps_limits.ensures c.requires.lies (c.located.ensures ∙ ap (λ (on : ℕ). by_falling (slice_index c.args.film.now.holds) (members on)) c.on-on.ensures) c.newcomers-actors.ensures
+pub ask_all-requires-clause-actors : goal.ask_all-requires-clause-actors
+ask_all-requires-clause-actors c = actors_known c.args.film.now c.args.q.0 2 _ c.keeps_limits.ensures c.requires.lies (c.located.ensures ∙ ap (λ (on : ℕ). by_falling (slice_index c.args.film.now.holds) (members on)) c.on-on.ensures) c.newcomers-actors.ensures
 
 pub returns-then-few-need-2-clause-most : goal.returns-then-few-need-2-clause-most
-returns-then-few-need-2-clause-most c = few_le c.args.film.now c.args.q.0 c.ask-3.new.self c.ask-3.ensures.parties (c.ask-3.ensures.many ∙ c.ask-2.ensures.many ∙ c.ask.ensures.many ∙ c.new-few.ensures.parties.many)
+returns-then-few-need-2-clause-most c = few_le c.args.film.now c.args.q.0 c.ask_all.new.self c.ask_all.ensures.parties (c.ask_all.ensures.many ∙ c.ask.ensures.many ∙ c.new-few.ensures.parties.many)
 
 pub returns-then-few-need-2-clause-reaches : goal.returns-then-few-need-2-clause-reaches
 returns-then-few-need-2-clause-reaches c = elim c.then-few-need-2.branch [
   | then-few-need-2-via-then-few-need-2 w ↦ inl w.if-few-need-2.true
-  | then-few-need-2-via-else-few-need-2+then-len-le-FEW w ↦ elim (reached_or_all c.args.film.now c.args.q.0 c.ask-3.new.self 7 c.args.need c.ask-3.ensures.parties c.ask-3.ensures.asked
-      (c.ask-3.ensures.many ∙ c.ask-2.ensures.many ∙ c.ask.ensures.many ∙ c.new-few.ensures.parties.many)
-      (c.ask-3.ensures.need ∙ c.ask-2.ensures.need ∙ c.ask.ensures.need ∙ c.new-few.ensures.need)) [
+  | then-few-need-2-via-else-few-need-2+then-len-le-FEW w ↦ elim (reached_or_all c.args.film.now c.args.q.0 c.ask_all.new.self 7 c.args.need c.ask_all.ensures.parties
+      c.ask_all.ensures.asked c.ask_all.ensures.all (c.ask_all.ensures.many ∙ c.ask.ensures.many ∙ c.new-few.ensures.parties.many) (c.ask_all.ensures.need ∙ c.ask.ensures.need ∙ c.new-few.ensures.need)) [
         | inl reached ↦ inl reached
-        | inr all ↦ inr (all_of_few c.args.film.now c.args.q.0 c.ask-3.new.self.extra
+        | inr all ↦ inr (all_of_few c.args.film.now c.args.q.0 c.ask_all.new.self.extra
             (omega (arith, w.len.ensures.value, ap length c.located.ensures, ap (λ (on : ℕ). length (by_falling (slice_index c.args.film.now.holds) (members on))) c.on-on.ensures, located_count c.args.film.now c.args.q.0, w.if-len-le-FEW.true)) all)
       ]
 ]
@@ -38,36 +34,27 @@ returns-then-few-need-2-clause-reaches c = elim c.then-few-need-2.branch [
 pub new-many-requires-clause-actors : goal.new-many-requires-clause-actors
 new-many-requires-clause-actors c = actors_known c.args.film.now c.args.q.0 0 _ c.keeps_limits.ensures c.requires.lies (c.located.ensures ∙ ap (λ (on : ℕ). by_falling (slice_index c.args.film.now.holds) (members on)) c.on-on.ensures) c.newcomers-actors.ensures
 
-pub ask-requires-4-clause-actors : goal.ask-requires-4-clause-actors
-ask-requires-4-clause-actors c = actors_known c.args.film.now c.args.q.0 0 _ c.keeps_limits.ensures c.requires.lies (c.located.ensures ∙ ap (λ (on : ℕ). by_falling (slice_index c.args.film.now.holds) (members on)) c.on-on.ensures) c.newcomers-actors.ensures
+pub ask-requires-2-clause-actors : goal.ask-requires-2-clause-actors
+ask-requires-2-clause-actors c = actors_known c.args.film.now c.args.q.0 2 _ c.keeps_limits.ensures c.requires.lies (c.located.ensures ∙ ap (λ (on : ℕ). by_falling (slice_index c.args.film.now.holds) (members on)) c.on-on.ensures) c.newcomers-actors.ensures
 
-pub ask-requires-5-clause-actors : goal.ask-requires-5-clause-actors
-ask-requires-5-clause-actors c = actors_known c.args.film.now c.args.q.0 1 _ c.keeps_limits.ensures c.requires.lies (c.located.ensures ∙ ap (λ (on : ℕ). by_falling (slice_index c.args.film.now.holds) (members on)) c.on-on.ensures) c.newcomers-actors.ensures
-
-pub ask-requires-6-clause-actors : goal.ask-requires-6-clause-actors
-ask-requires-6-clause-actors c = actors_known c.args.film.now c.args.q.0 2 _ c.keeps_limits.ensures c.requires.lies (c.located.ensures ∙ ap (λ (on : ℕ). by_falling (slice_index c.args.film.now.holds) (members on)) c.on-on.ensures) c.newcomers-actors.ensures
-
-few_many : (c : goal.After-max) → c.ask-3.new.self.many ≡ 7
-few_many c = c.ask-3.ensures.many ∙ c.ask-2.ensures.many ∙ c.ask.ensures.many ∙ c.new-few.ensures.parties.many
-
-many_many : (c : goal.After-max) → c.ask-6.new.self.many ≡ 10
-many_many c = c.ask-6.ensures.many ∙ c.ask-5.ensures.many ∙ c.ask-4.ensures.many ∙ c.new-many.ensures.parties.many
+many_ten : (c : goal.After-max) → c.ask-2.new.self.many ≡ 10
+many_ten c = c.ask-2.ensures.many ∙ c.new-many.ensures.parties.many
 
 pub returns-clause-most : goal.returns-clause-most
 returns-clause-most c =
-    let few : c.ask-3.new.self.extra ≤ max (parties_extra c.args.film.now c.args.q.0 7) (parties_extra c.args.film.now c.args.q.0 10)
-    = few_le c.args.film.now c.args.q.0 c.ask-3.new.self c.ask-3.ensures.parties (few_many c) in
-    let many : c.ask-6.new.self.extra ≤ max (parties_extra c.args.film.now c.args.q.0 7) (parties_extra c.args.film.now c.args.q.0 10)
-    = many_le c.args.film.now c.args.q.0 c.ask-6.new.self c.ask-6.ensures.parties (many_many c) in
+    let few : c.ask_all.new.self.extra ≤ max (parties_extra c.args.film.now c.args.q.0 7) (parties_extra c.args.film.now c.args.q.0 10)
+    = few_le c.args.film.now c.args.q.0 c.ask_all.new.self c.ask_all.ensures.parties (c.ask_all.ensures.many ∙ c.ask.ensures.many ∙ c.new-few.ensures.parties.many) in
+    let many : c.ask-2.new.self.extra ≤ max (parties_extra c.args.film.now c.args.q.0 7) (parties_extra c.args.film.now c.args.q.0 10)
+    = many_le c.args.film.now c.args.q.0 c.ask-2.new.self c.ask-2.ensures.parties (many_ten c) in
     omega (arith, c.max.ensures, max-le few many)
 
 pub returns-clause-reaches : goal.returns-clause-reaches
-returns-clause-reaches c = elim (reached_or_all c.args.film.now c.args.q.0 c.ask-3.new.self 7 c.args.need c.ask-3.ensures.parties c.ask-3.ensures.asked (few_many c)
-    (c.ask-3.ensures.need ∙ c.ask-2.ensures.need ∙ c.ask.ensures.need ∙ c.new-few.ensures.need)) [
+returns-clause-reaches c = elim (reached_or_all c.args.film.now c.args.q.0 c.ask_all.new.self 7 c.args.need c.ask_all.ensures.parties c.ask_all.ensures.asked
+    c.ask_all.ensures.all (c.ask_all.ensures.many ∙ c.ask.ensures.many ∙ c.new-few.ensures.parties.many) (c.ask_all.ensures.need ∙ c.ask.ensures.need ∙ c.new-few.ensures.need)) [
       | inl reached ↦ absurd (omega (arith, reached, c.if-few-need-2.false))
-      | inr few ↦ elim (reached_or_all c.args.film.now c.args.q.0 c.ask-6.new.self 10 c.args.need c.ask-6.ensures.parties c.ask-6.ensures.asked (many_many c)
-          (c.ask-6.ensures.need ∙ c.ask-5.ensures.need ∙ c.ask-4.ensures.need ∙ c.new-many.ensures.need)) [
-            | inl reached ↦ inl (omega (arith, reached, c.max.ensures, le-max_right c.ask-3.new.self.extra c.ask-6.new.self.extra))
+      | inr few ↦ elim (reached_or_all c.args.film.now c.args.q.0 c.ask-2.new.self 10 c.args.need c.ask-2.ensures.parties c.ask-2.ensures.asked c.ask-2.ensures.more
+          (many_ten c) (c.ask-2.ensures.need ∙ c.new-many.ensures.need)) [
+            | inl reached ↦ inl (omega (arith, reached, c.max.ensures, le-max_right c.ask_all.new.self.extra c.ask-2.new.self.extra))
             | inr many ↦ inr (c.max.ensures ∙ (λ i. max (few i) (many i)))
           ]
     ]

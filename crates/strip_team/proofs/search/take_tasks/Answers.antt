@@ -6,7 +6,7 @@ use Rattle.strip_team.proofs.search.take_tasks.Goals as goal
 pub loop-task-init : goal.loop-task-init
 loop-task-init g c = record {
   way = c.requires.walked;
-  memo = c.in_ok-memo.ensures;
+  memo = c.requires.memo;
   search = refl;
 }
 

@@ -1,10 +1,11 @@
-use Rattle.std.proofs.Common.{arith, ◌≡◌, ◌-◌, ◌<◌, ℕ, true, false, length, append_assoc, sym, ap, ◌∙◌, subst}
+use Rattle.std.proofs.Common.{arith, ◌≡◌, ◌-◌, ◌<◌, ℕ, length, append_assoc, sym, ap, ◌∙◌, subst}
 use Rattle.strip_mask.specs.Iter.{rest_of}
 use Rattle.strip_mask.specs.Set.{members, without}
 use Rattle.strip_mask.proofs.Below.{LiesBelow-without}
 use Rattle.strip_mask.proofs.Turns.{turn_below, turn_member, turns_all}
 use Rattle.strip_pay.specs.Film.{FilmData}
 use Rattle.strip_film.specs.Film.{IsFilm, LiesIn}
+use Rattle.strip_film.specs.Rules.{Rules}
 use Rattle.strip_film.specs.Shoot.{step_cost}
 use Rattle.strip_bound.specs.Bounds.{bound}
 use Rattle.strip_lines.specs.Lines.{rules_of}
@@ -12,7 +13,7 @@ use Rattle.strip_rule.specs.Rule.{open_firsts}
 use Rattle.strip_best.specs.Best.{best_bound}
 use Rattle.strip_trim.specs.Marks.{IsBestOf, MarksMore}
 use Rattle.strip_trim.proofs.Firsts.{first_there, firsts_set, short_from, short_to}
-use Rattle.strip_trim.proofs.Followers.{IsShort, follows_all, follows_more, follows_none, follows_same}
+use Rattle.strip_trim.proofs.Followers.{follows_all, follows_if, follows_none}
 use Rattle.strip_trim.proofs.marks.mark_followers.Goals as goal
 
 pub loop-s-init : goal.loop-s-init
@@ -34,54 +35,37 @@ step-requires-clause-remains g c =
     (turn_member (open_firsts c.args.kept.now.film.now c.args.entry.now.set) c.in-Some.s c.loop-s.yielded (rest_of c.loop-s.s-iterator) (rest_of c.next.new.self)
     c.loop-s.invariant.turns c.in-Some.ensures.steps)
 
-pub is_below-requires-in-loop-s-clause-memo : goal.is_below-requires-in-loop-s-clause-memo
-is_below-requires-in-loop-s-clause-memo g c = c.loop-s.invariant.memo
+pub mark_below-requires-clause-memo : goal.mark_below-requires-clause-memo
+mark_below-requires-clause-memo g c = c.loop-s.invariant.memo
 
-pub is_below-requires-in-loop-s-clause-lies : goal.is_below-requires-in-loop-s-clause-lies
-is_below-requires-in-loop-s-clause-lies g c =
+pub mark_below-requires-clause-lies : goal.mark_below-requires-clause-lies
+mark_below-requires-clause-lies g c =
     subst (LiesIn c.args.kept.now.film.now) (sym c.without-rest.ensures)
     (LiesBelow-without (length c.args.kept.now.film.now.casts) c.args.entry.now.set c.in-Some.s c.requires.lies)
-
-pub loop-s-preserved-then-is_below : goal.loop-s-preserved-then-is_below
-loop-s-preserved-then-is_below g c =
-    let q : ℕ = c.args.entry.now.set in
-    let lines = c.args.best.now.lines in
-    let step : c.step.result ≡ step_cost c.args.kept.now.film.now q c.in-Some.s
-    = omega (arith, c.step.ensures, ap (λ (film : FilmData). step_cost film q c.in-Some.s) c.film-film.ensures) in
-    let need : c.saturating_sub-need.result ≡ best_bound lines q - step_cost c.args.kept.now.film.now q c.in-Some.s
-    = omega (arith, c.saturating_sub-need.ensures, c.requires.bound, step) in
-    let below : bound c.args.kept.now.kind c.args.kept.now.film.now (without q c.in-Some.s) < c.saturating_sub-need.result
-    = subst (λ (rest : ℕ). bound c.args.kept.now.kind c.args.kept.now.film.now rest < c.saturating_sub-need.result) c.without-rest.ensures
-    (c.is_below-in-loop-s.ensures.below.0 c.if-is_below.true) in
-    record {
-      memo = c.is_below-in-loop-s.ensures.memo;
-      turns = rw append_assoc (rw (← c.in-Some.ensures.steps) c.loop-s.invariant.turns);
-      marked = follows_more (rules_of c.args.kept.now.kind c.args.kept.now.film.now) lines q c.args.marks.now c.loop-s.marks c.loop-s.yielded c.in-Some.s
-          c.loop-s.invariant.marked c.mark.new.marks
-          (subst (λ (rest : ℕ). MarksMore c.loop-s.marks c.mark.new.marks (IsBestOf lines rest)) c.without-rest.ensures c.mark.ensures)
-          (short_from (step_cost c.args.kept.now.film.now q c.in-Some.s) (bound c.args.kept.now.kind c.args.kept.now.film.now (without q c.in-Some.s))
-          c.saturating_sub-need.result (best_bound lines q) need below);
-    }
 
 pub loop-s-preserved : goal.loop-s-preserved
 loop-s-preserved g c =
     let q : ℕ = c.args.entry.now.set in
     let lines = c.args.best.now.lines in
+    let rules : Rules = rules_of c.args.kept.now.kind c.args.kept.now.film.now in
     let step : c.step.result ≡ step_cost c.args.kept.now.film.now q c.in-Some.s
     = omega (arith, c.step.ensures, ap (λ (film : FilmData). step_cost film q c.in-Some.s) c.film-film.ensures) in
     let need : c.saturating_sub-need.result ≡ best_bound lines q - step_cost c.args.kept.now.film.now q c.in-Some.s
     = omega (arith, c.saturating_sub-need.ensures, c.requires.bound, step) in
-    let long : IsShort (rules_of c.args.kept.now.kind c.args.kept.now.film.now) lines q c.in-Some.s → ⊥ = λ short.
-    (let less : bound c.args.kept.now.kind c.args.kept.now.film.now c.without-rest.result.0 < c.saturating_sub-need.result
-    = subst (λ (rest : ℕ). bound c.args.kept.now.kind c.args.kept.now.film.now rest < c.saturating_sub-need.result) (sym c.without-rest.ensures)
-    (short_to (step_cost c.args.kept.now.film.now q c.in-Some.s) (bound c.args.kept.now.kind c.args.kept.now.film.now (without q c.in-Some.s))
-    c.saturating_sub-need.result (best_bound lines q) need short) in
-    let both : true ≡ false = sym (c.is_below-in-loop-s.ensures.below.1 less) ∙ c.if-is_below.false in cc) in
+    let more : MarksMore c.loop-s.marks c.mark_below.new.marks (λ place. (rules.bound (without q c.in-Some.s) < c.saturating_sub-need.result)
+    × IsBestOf lines (without q c.in-Some.s) place)
+    = subst (λ (rest : ℕ). MarksMore c.loop-s.marks c.mark_below.new.marks (λ place. (rules.bound rest < c.saturating_sub-need.result) × IsBestOf lines rest place))
+    c.without-rest.ensures c.mark_below.ensures.marked in
     record {
-      memo = c.is_below-in-loop-s.ensures.memo;
+      memo = c.mark_below.ensures.memo;
       turns = rw append_assoc (rw (← c.in-Some.ensures.steps) c.loop-s.invariant.turns);
-      marked = follows_same (rules_of c.args.kept.now.kind c.args.kept.now.film.now) lines q c.args.marks.now c.loop-s.marks c.loop-s.yielded c.in-Some.s
-          c.loop-s.invariant.marked long;
+      marked = follows_if rules lines q c.args.marks.now c.loop-s.marks c.loop-s.yielded c.in-Some.s c.loop-s.invariant.marked c.mark_below.new.marks
+          (rules.bound (without q c.in-Some.s) < c.saturating_sub-need.result)
+          (λ below. short_from (step_cost c.args.kept.now.film.now q c.in-Some.s) (rules.bound (without q c.in-Some.s)) c.saturating_sub-need.result
+          (best_bound lines q) need below)
+          (λ short. short_to (step_cost c.args.kept.now.film.now q c.in-Some.s) (rules.bound (without q c.in-Some.s)) c.saturating_sub-need.result
+          (best_bound lines q) need short)
+          more;
     }
 
 pub returns-clause-memo : goal.returns-clause-memo

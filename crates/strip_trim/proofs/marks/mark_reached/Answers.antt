@@ -55,8 +55,11 @@ loop-entry-preserved g c = record {
       c.next.new.self.iter.rest.now c.in-Some.entry.now c.loop-entry.marks way c.if-marks-entry.false;
 }
 
-pub returns : goal.returns
-returns g c =
+pub returns-clause-memo : goal.returns-clause-memo
+returns-clause-memo g c = c.loop-entry.invariant.memo
+
+pub returns-clause-marked : goal.returns-clause-marked
+returns-clause-marked g c =
     ended (rules_of c.args.kept.now.kind c.args.kept.now.film.now) c.args.best.now.lines c.args.best.now.entries c.entries.ensures.best
     c.loop-entry.entry-iterator.iter.rest.now c.loop-entry.marks c.loop-entry.invariant.way c.in-None.ensures.steps.0
     (c.loop-entry.auto.marks ∙ c.mark.auto.marks ∙ c.requires.count)

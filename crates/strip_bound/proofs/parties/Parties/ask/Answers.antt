@@ -7,14 +7,17 @@ use Rattle.strip_arrivals.specs.Arrivals.{arrivals_value}
 use Rattle.strip_bound.specs.declared.parties.Parties.{Parties}
 use Rattle.strip_bound.specs.Bounds.{greatest_below, group_at, newcomers_at, newcomers_by_hold, party_value, set_of}
 use Rattle.strip_bound.specs.Parties.{AreParties}
-use Rattle.strip_bound.proofs.Asked.{coming_is, no_more, raised_are, raised_fits, raised_here}
-use Rattle.strip_bound.proofs.Party.{group_few, group_known, located_small, newcomer_apart, newcomers_few, newcomers_known}
+use Rattle.strip_bound.proofs.Asked.{coming_is, no_more_from, raised_are, raised_fits, raised_here}
+use Rattle.strip_bound.proofs.Party.{group_few, group_known, located_small, newcomer_apart, newcomers_few, newcomers_known, value_rises}
 use Rattle.strip_bound.proofs.parties.Parties.ask.Goals as goal
 
 pub loop-place-init : goal.loop-place-init
 loop-place-init c = record {
-  parties = c.requires.parties;
+  parties =
+      let are = c.requires.parties in
+      record { many = are.many; number = are.number; few = are.few; long = are.long; most = are.most; extra = are.extra };
   need = refl;
+  more = refl;
   asked = elim c.requires.asked [
     | inl reached ↦ inl reached
     | inr known ↦ inr ((λ place none. absurd (omega (arith, none))), (λ place _ there. known place there))
@@ -79,7 +82,7 @@ value_is c = c.value-value.ensures.same
     ∙ (λ i. arrivals_value (c.requires.tables.arrivals i) c.args.q.0 (group_is c.before.before i) (newcomers_are c.before.before i))
 
 there : (c : goal.After-raise-arg-1) → c.loop-place.place < c.loop-place.self.number
-there c = omega (arith, c.loop-place-test.true, c.asked-place-end.ensures.few, c.loop-place.invariant.parties.number, c.requires.parties.number)
+there c = omega (arith, c.loop-place-test.true, c.with_more-with_more.ensures.few, c.loop-place.invariant.parties.number, c.requires.parties.number)
 
 pub raise-requires-clause-fits : goal.raise-requires-clause-fits
 raise-requires-clause-fits c = raised_fits c.args.film.now c.args.q.0 c.args.self.now.many c.args.count c.loop-place.place c.value-value.result c.loop-place.self
@@ -98,6 +101,7 @@ loop-place-preserved c =
       parties = subst (AreParties film q many) (sym c.raise.ensures)
           (raised_are film q many count place c.value-value.result before c.loop-place.invariant.parties (there c.before) c.requires.count (value_is c.before));
       need = ap (λ (parties : Parties). parties.need) c.raise.ensures ∙ c.loop-place.invariant.need;
+      more = ap (λ (parties : Parties). parties.asked) c.raise.ensures ∙ c.loop-place.invariant.more;
       asked = elim c.loop-place.invariant.asked [
         | inl reached ↦ absurd (omega (arith, reached, c.if-self.false))
         | inr known ↦ inr (
@@ -108,6 +112,8 @@ loop-place-preserved c =
                 let same : other ≡ place = omega (arith, from, less) in
                 ap (slice_index values) same
                 ∙ raised_here film q many count place c.value-value.result before c.loop-place.invariant.parties (there c.before) c.requires.count (value_is c.before)
+                c.args.self.now.asked c.requires.fewer
+                (value_rises film q c.keeps_limits.ensures c.requires.lies c.fewer_newcomers_wait_no_more.ensures many place)
                 (known.1 place (omega arith) (there c.before))
                 ∙ ap (greatest_below film q many (suc count)) (sym same))
           ]),
@@ -118,11 +124,11 @@ loop-place-preserved c =
       ];
     }
 
--- no newcomer is left for a party that isn't asked
-none_left : (c : goal.After-loop-place) → (place : ℕ) → 0 < c.args.count → length c.args.actors.now.newcomers.items < place * 2 + c.args.count
-    → length (newcomers_by_hold c.args.film.now c.args.q.0) < place * 2 + c.args.count
+-- a party that isn't asked has no newcomer left
+none_left : (c : goal.After-loop-place) → (place : ℕ) → 0 < c.args.self.now.asked → length c.args.actors.now.newcomers.items < place * 2 + c.args.self.now.asked
+    → length (newcomers_by_hold c.args.film.now c.args.q.0) < place * 2 + c.args.self.now.asked
 none_left c place some short = elim c.requires.actors.newcomers [
-  | inl none ↦ absurd (omega (arith, none, some))
+  | inl none ↦ absurd (omega (arith, none, some, c.requires.fewer))
   | inr same ↦ omega (arith, ap length same, short)
 ]
 
@@ -133,16 +139,18 @@ returns-clause-asked c =
     let count : ℕ = c.args.count in
     let parties : Parties = c.loop-place.self in
     let many : c.args.self.now.many ≡ parties.many = sym c.loop-place.invariant.parties.many in
-    let next : suc count ≡ count + 1 = omega arith in
+    let next : suc count ≡ parties.asked = omega (arith, c.loop-place.invariant.more) in
     elim c.loop-place.invariant.asked [
       | inl reached ↦ inl reached
       | inr known ↦ inr (λ place within.
           elim (cases_lt place c.loop-place.place) [
             | inl asked ↦ known.0 place asked
             | inr later ↦ (
-                let rest = c.asked-place-end.ensures.rest place (omega (arith, later, c.loop-place-test.false))
+                let rest = c.with_more-with_more.ensures.rest place (omega (arith, later, c.loop-place-test.false))
                 (omega (arith, within, c.loop-place.invariant.parties.number, c.requires.parties.number)) in
-                known.1 place later within ∙ sym (no_more film q c.args.self.now.many count place (none_left c place rest.0 rest.1) rest.0))
+                known.1 place later within
+                ∙ sym (no_more_from film q c.args.self.now.many c.args.self.now.asked count place (none_left c place rest.0 rest.1) rest.0
+                (omega (arith, c.requires.fewer))))
           ]
           ∙ (λ i. greatest_below film q (many i) (next i) place))
     ]
