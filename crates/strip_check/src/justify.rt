@@ -1,5 +1,5 @@
 // What a plan's lines justify.
-ghost use Rattle.std.specs.Prelude.{◌≡◌, ◌≢◌, ◌↔◌, ℕ, ◌+◌, ◌≤◌, nat_le, true, All, IsTrue};
+ghost use Rattle.std.specs.Prelude.{◌≡◌, ◌≢◌, ◌↔◌, ℕ, ◌+◌, ◌<◌, ◌≤◌, nat_le, true, All, IsTrue};
 ghost use Rattle.strip_mask.specs.Set.{has, members, without};
 ghost use Rattle.strip_film.specs.Film.{LiesIn};
 ghost use Rattle.strip_film.specs.Shoot.{on_location, step_cost};
@@ -11,12 +11,13 @@ ghost use Rattle.strip_check.specs.Reasons.{by_lines, justified};
 use strip_best::Best;
 use strip_bound::Kept;
 use strip_film::{Film, on, step, step_with};
+use strip_kind::Kind;
 use strip_mask::Mask;
 use strip_memo::Memo;
 use strip_rule::{open_firsts, open_firsts_with};
 
-/// Whether the lines justify a bound for a set. Most often its static bound decides, and else a step
-/// and a static bound for each open first.
+/// Whether the lines justify a bound for a set: its static bound decides, or else a step and what is known
+/// of the rest for each open first. Where static bounds are dear, the steps come first.
 pub(crate) fn is_justified<F: Fn(u64, u64) -> u64>(
     kept: &Kept<F>,
     memo: &mut Memo,
@@ -31,9 +32,39 @@ pub(crate) fn is_justified<F: Fn(u64, u64) -> u64>(
     ensures justified { result
         ≡ nat_le bound (justified (rules_of kept.now.kind kept.now.film.now) best.now.lines q.0) }
 {
+    if is_dear(kept.kind()) && is_by_steps(kept, memo, best, q, bound) {
+        return true;
+    }
     if memo.reach(kept, q, bound) >= bound {
         return true;
     }
+    is_by_steps(kept, memo, best, q, bound)
+}
+
+/// Whether static bounds of this kind take longer than a look at the lines. The time alone depends on it.
+fn is_dear(kind: Kind) -> bool {
+    match kind {
+        Kind::Plain | Kind::Pairs | Kind::Groups => false,
+        Kind::Arrivals => true,
+    }
+}
+
+/// Whether the set has open firsts, and the step of each and what is known of the rest reach the bound.
+fn is_by_steps<F: Fn(u64, u64) -> u64>(
+    kept: &Kept<F>,
+    memo: &mut Memo,
+    best: &Best,
+    q: Mask,
+    bound: u64,
+) -> bool
+    requires keeps { Keeps (F.pre kept.now.f) (F.post kept.now.f) kept.now.kind kept.now.film.now }
+    requires memo { IsMemo kept.now.kind kept.now.film.now memo.old }
+    requires lies { LiesIn kept.now.film.now q.0 }
+    ensures memo { IsMemo kept.now.kind kept.now.film.now memo.new }
+    ensures enough { IsTrue result → bound ≤ justified (rules_of kept.now.kind kept.now.film.now) best.now.lines q.0 }
+    ensures decides { (rules_of kept.now.kind kept.now.film.now).bound q.0 < bound
+        → result ≡ nat_le bound (justified (rules_of kept.now.kind kept.now.film.now) best.now.lines q.0) }
+{
     let film = kept.film();
     film.keeps_limits();
     let on = on(film, q);
@@ -107,6 +138,9 @@ fn is_known<F: Fn(u64, u64) -> u64>(
     ensures memo { IsMemo kept.now.kind kept.now.film.now memo.new }
     ensures known { IsTrue result ↔ (need ≤ known (rules_of kept.now.kind kept.now.film.now) best.now.lines q.0) }
 {
+    if is_dear(kept.kind()) && best.bound_of(q.0) >= need {
+        return true;
+    }
     memo.reach(kept, q, need) >= need || best.bound_of(q.0) >= need
 }
 

@@ -14,6 +14,7 @@ use strip_front::laws::tasks_are_starts;
 use strip_front::layers;
 use strip_kind::Kind;
 use strip_mask::Mask;
+use strip_memo::Memo;
 use strip_race::{Limits, World};
 use strip_start::{greedy, improve};
 use strip_team::alone;

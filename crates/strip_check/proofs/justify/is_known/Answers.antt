@@ -1,10 +1,21 @@
-use Rattle.std.proofs.Common.{◌≡◌, ◌↔◌, ◌≤◌, true, leb, subst, sym}
+use Rattle.std.proofs.Common.{◌≡◌, ◌↔◌, ◌≤◌, true, leb, refl, subst, sym, arith}
 use Rattle.strip_bound.specs.Bounds.{bound}
 use Rattle.strip_lines.specs.Lines.{known, rules_of}
 use Rattle.strip_best.specs.Best.{best_bound}
 use Rattle.strip_best.proofs.Known.{known_best}
 use Rattle.strip_check.proofs.Known.{by_line, by_static}
 use Rattle.strip_check.proofs.justify.is_known.Goals as goal
+
+pub returns-then-bound_of-need-clause-known : goal.returns-then-bound_of-need-clause-known
+returns-then-bound_of-need-clause-known g c = (
+  λ _. omega (
+    arith,
+    known_best (rules_of c.args.kept.now.kind c.args.kept.now.film.now) c.args.best.now.lines c.args.q.0,
+    c.bound_of.ensures,
+    c.if-bound_of-need.true,
+  ),
+  λ _. refl,
+)
 
 pub returns-then-reach-need-clause-known : goal.returns-then-reach-need-clause-known
 returns-then-reach-need-clause-known g c =
@@ -17,6 +28,6 @@ pub returns-else-reach-need-clause-known : goal.returns-else-reach-need-clause-k
 returns-else-reach-need-clause-known g c =
     let rules = rules_of c.args.kept.now.kind c.args.kept.now.film.now in
     let lines = c.args.best.now.lines in
-    subst (λ best. (leb c.args.need best ≡ true) ↔ (c.args.need ≤ known rules lines c.args.q.0)) (sym c.bound_of.ensures)
+    subst (λ best. (leb c.args.need best ≡ true) ↔ (c.args.need ≤ known rules lines c.args.q.0)) (sym c.bound_of-else-reach-need.ensures)
     (by_line c.args.need c.reach.result (bound c.args.kept.now.kind c.args.kept.now.film.now c.args.q.0) (best_bound lines c.args.q.0) (known rules lines c.args.q.0)
     (known_best rules lines c.args.q.0) c.reach.ensures.reaches c.if-reach-need.false)
