@@ -1,10 +1,11 @@
 -- What is charged when someone leaves or goes, class by class of scenes: those in which of the newcomers just the same work.
-use Rattle.std.proofs.Common.{◌≡◌, ◌≢◌, ℕ, zero, suc, ◌+◌, ◌*◌, ◌-◌, ◌^◌, ◌<◌, ◌≤◌, ◌==◌, ◌⊎◌, Bool, true, false, not, ◌&&◌, ◌||◌, cond, eqb, List, [], ◌∷◌, Contains, slice_index, refl, sym, ap, ◌∙◌, subst, inl, inr, arith}
+use Rattle.std.proofs.Common.{◌≡◌, ◌≢◌, ℕ, zero, suc, ◌+◌, ◌*◌, ◌-◌, ◌^◌, ◌<◌, ◌≤◌, ◌==◌, ◌⊎◌, Bool, true, false, not, ◌&&◌, ◌||◌, cond, eqb, List, [], ◌∷◌, Contains, length, slice_index, refl, sym, ap, ◌∙◌, subst, inl, inr, arith}
 use Rattle.std.proofs.Math.Pow.{pow_mono}
-use Rattle.std.proofs.lemmas.Bool.{and_parts, eq-eqb, eqb-true, false≢true, false_from_ne_true, or_right}
+use Rattle.std.proofs.lemmas.Bool.{and_parts, cases_lt, eq-eqb, eqb-true, false≢true, false_from_ne_true, or_right}
+use Rattle.std.proofs.lemmas.List.{get_or_past}
 use Rattle.strip_mask.specs.Set.{IsSet, has, meet, minus, size, sum_over, with, without}
 use Rattle.strip_mask.specs.Sums.{sum_below}
-use Rattle.strip_mask.proofs.ByMembers.{below_64, below_width, empty_from, has-empty, has-meet, has-minus, has-with, has-with_same, has_from_meet, has_from_minus, has_from_with, same_has, IsSet-minus}
+use Rattle.strip_mask.proofs.ByMembers.{below_width, empty_from, has-empty, has-meet, has-minus, has-with, has-with_same, has_from_meet, has_from_minus, has_from_with, same_has, IsSet-minus}
 use Rattle.strip_mask.proofs.Below.{and_true}
 use Rattle.strip_mask.proofs.Members.{Contains-members}
 use Rattle.strip_mask.proofs.Sums.{sum_below-ext, sum_below-none}
@@ -152,6 +153,13 @@ module _ (film : GroupData) (set group newcomers : ℕ) (known : IsCompany film 
   abbrev pub AreDays : ℕ → (ℕ → ℕ) → Type 0
   AreDays these days = AreCounted film group count film.days (just film newcomers these set) days
 
+  -- a scene in which someone works has days
+  has_days : (scene actor : ℕ) → has (slice_index film.casts scene) actor ≡ true → 0 < slice_index film.days scene
+  has_days scene actor works = elim (cases_lt scene (length film.casts)) [
+    | inl lt ↦ known.some_days scene 0 (omega (arith, lt, known.limits.day_count))
+    | inr past ↦ absurd (nobody actor (sym (ap (λ (cast : ℕ). has cast actor) (get_or_past film.casts scene 0 past)) ∙ works))
+  ]
+
   -- the classes of a stage have no more days than the set
   pub days_within : (here : List ℕ) (classes : ℕ) (kinds : ℕ → ℕ) (days : ℕ → ℕ → ℕ) → AreKinds here classes kinds
       → ((kind : ℕ) → kind < classes → AreDays (kinds kind) (days kind))
@@ -239,9 +247,8 @@ module _ (film : GroupData) (set group newcomers : ℕ) (known : IsCompany film 
       }
 
       -- else one may leave who works in none of the scenes that await someone
-      pub leaving_guarded : (ones : List ℕ) (blocked : ℕ → ℕ) → ((scene : ℕ) → scene < 64 → slice_index ones scene ≡ 1)
-          → AreCounted film group count ones (awaiting film coming gone set) blocked → AreLeaving film set group coming here gone (cost classes prices days) blocked
-      leaving_guarded ones blocked are_ones counted places place lt there =
+      pub leaving_guarded : (blocked : ℕ → ℕ) → AreCounted film group count film.days (awaiting film coming gone set) blocked → AreLeaving film set group coming here gone (cost classes prices days) blocked
+      leaving_guarded blocked counted places place lt there =
           let actor : ℕ = actor_at group place in
           let state : StateData = staying group coming here gone places in
           let test : ℕ → Bool = λ scene. not (is_without film coming scene) && is_without film gone scene in
@@ -254,8 +261,8 @@ module _ (film : GroupData) (set group newcomers : ℕ) (known : IsCompany film 
           let wider : 2 ^ size group ≤ 2 ^ count = pow_mono fits in
           let below : places < 2 ^ count = omega (arith, lt, wider) in
           let less : without places place < 2 ^ count = omega (arith, without_most places place, below) in
-          let split : sum_over ones shut + blocked (without places place) ≡ blocked places
-          = omega (arith, counted places below, counted (without places place) less, parted film group places place scenes place_within small ones) in
+          let split : sum_over film.days shut + blocked (without places place) ≡ blocked places
+          = omega (arith, counted places below, counted (without places place) less, parted film group places place scenes place_within small film.days) in
           let free : blocked (without places place) ≡ blocked places → (scene : ℕ) → has set scene ≡ true → is_open film state scene ≡ true
           → has (slice_index film.casts scene) actor ≡ true → is_without film coming scene ≡ true
           = λ same scene inside unpaid works. elim (by_bit (is_without film coming scene)) [
@@ -268,9 +275,9 @@ module _ (film : GroupData) (set group newcomers : ℕ) (known : IsCompany film 
                 = closing film group places place scenes place_within small scene ∙ and_true (has scenes scene)
                 (is_without film (left_at film group places) scene && has (slice_index film.casts scene) actor) awaited
                 (and_true (is_without film (left_at film group places) scene) (has (slice_index film.casts scene) actor) parts.0 works) in
-                let one = are_ones scene (below_64 shut scene shut_small is_shut) in
-                let at_least = value_le_sum_over ones shut scene shut_small is_shut in
-                absurd (omega (arith, one, at_least, split, same)))
+                let some = has_days scene actor works in
+                let at_least = value_le_sum_over film.days shut scene shut_small is_shut in
+                absurd (omega (arith, some, at_least, split, same)))
           ] in
           let none_shut : Contains (allowed film set group state) (leaves actor) → shut ≡ 0
           = λ is_allowed_one. empty_from shut (λ scene. false_from_ne_true (has shut scene) (λ is_shut.
@@ -284,7 +291,7 @@ module _ (film : GroupData) (set group newcomers : ℕ) (known : IsCompany film 
           false≢true (sym (ap not freed) ∙ stuck.0))) in
           record {
             may = λ same. may_leave places place lt there (fine_if film set state actor (free same));
-            only = λ is_allowed_one. (let nothing : sum_over ones shut ≡ 0 = ap (sum_over ones) (none_shut is_allowed_one) ∙ sum_over-empty ones in
+            only = λ is_allowed_one. (let nothing : sum_over film.days shut ≡ 0 = ap (sum_over film.days) (none_shut is_allowed_one) ∙ sum_over-empty film.days in
                 omega (arith, split, nothing));
             charged = λ same. leaving_cost places place lt there (free same);
           }
@@ -378,8 +385,8 @@ module _ (film : GroupData) (set group newcomers : ℕ) (known : IsCompany film 
       ∙ and_true (has (slice_index film.casts scene) actor) (has newcomers actor) parts.2 (of_here newcomers 0 here 0 stage actor is_here) in
       sum_two (λ kind. cond {A = ℕ} (eqb (kinds kind) these) 1 0) ∙ either_once one other actor these apart which among works)
 
-  module _ (one other : ℕ) (stage : IsStage newcomers (with 0 other) (one ∷ []) 0) (ones : List ℕ) (are_ones : (scene : ℕ) → scene < 64 → slice_index ones scene ≡ 1)
-      (both : ℕ → ℕ) (counted : AreCounted film group count ones (just film newcomers (with (with 0 one) other) set) both) (places : ℕ) (lt : places < 2 ^ size group) where
+  module _ (one other : ℕ) (stage : IsStage newcomers (with 0 other) (one ∷ []) 0)
+      (both : ℕ → ℕ) (counted : AreCounted film group count film.days (just film newcomers (with (with 0 one) other) set) both) (places : ℕ) (lt : places < 2 ^ size group) where
     -- the open scenes with both
     abbrev shared : ℕ
     shared = open_with film group places (just film newcomers (with (with 0 one) other) set)
@@ -426,9 +433,9 @@ module _ (film : GroupData) (set group newcomers : ℕ) (known : IsCompany film 
         (has_scenes test set scene known.small_set inside (eq-eqb (meet (slice_index film.casts scene) newcomers) (with (with 0 one) other) same))
         (open_parts film (minus group (pick group places)) 0 scene unpaid).0 in
         let small : IsSet shared = scenes_small free (just film newcomers (with (with 0 one) other) set) in
-        let one_more = are_ones scene (below_64 shared scene small there) in
-        let at_least = value_le_sum_over ones shared scene small there in
-        absurd (omega (arith, one_more, at_least, counted places below_all, none)))
+        let some = has_days scene one works in
+        let at_least = value_le_sum_over film.days shared scene small there in
+        absurd (omega (arith, some, at_least, counted places below_all, none)))
 
     -- one goes before the other comes, where they share no open scene
     pub may_go : both places ≡ 0 → Contains (allowed film set group (staying group (with 0 other) (one ∷ []) 0 places)) (goes one)
@@ -455,7 +462,7 @@ module _ (film : GroupData) (set group newcomers : ℕ) (known : IsCompany film 
         = (has_from_meet (slice_index film.casts scene) newcomers other (ap (λ (s : ℕ). has s other) same ∙ has-with_same (with 0 one) other)).0 in
         let unpaid = open_from film (minus group (pick group places)) 0 scene outer.1 (is_none film 0 scene (λ i at_work expected. nobody i expected)) in
         none_works film (with 0 other) scene other (if_fine film set state one known.small_set fine scene inner.0 unpaid works) works_too (has-with_same 0 other))) in
-        counted places below_all ∙ ap (sum_over ones) empty ∙ sum_over-empty ones
+        counted places below_all ∙ ap (sum_over film.days) empty ∙ sum_over-empty film.days
 
     -- what it costs
     pub first_goes : (price days : ℕ → ℕ) → both places ≡ 0 → ArePrices film set group count (with 0 other) (one ∷ []) 0 (with 0 one) price → AreDays (with 0 one) days

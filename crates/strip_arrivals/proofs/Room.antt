@@ -1,8 +1,7 @@
 -- A party's numbers are small, and there is room for what its stages cost.
-use Rattle.std.proofs.Common.{◌≡◌, ◌≢◌, ℕ, ◌+◌, ◌*◌, ◌^◌, ◌<◌, ◌≤◌, true, not, eqb, List, length, slice_index, sum, refl, sym, ap, ◌∙◌, arith}
+use Rattle.std.proofs.Common.{◌≡◌, ◌≢◌, ℕ, ◌+◌, ◌*◌, ◌^◌, ◌<◌, ◌≤◌, true, not, eqb, List, slice_index, sym, ap, ◌∙◌, arith}
 use Rattle.std.proofs.Math.Nat.{mul-le-mul}
 use Rattle.std.proofs.lemmas.Bool.{and_parts}
-use Rattle.std.proofs.lemmas.List.{length-replicate}
 use Rattle.strip_mask.specs.Set.{has, meet, minus, sum_over, without}
 use Rattle.strip_mask.specs.Sums.{sum_below}
 use Rattle.strip_mask.proofs.ByMembers.{IsSet-without, has-meet, has-minus, has-without_other}
@@ -12,17 +11,10 @@ use Rattle.strip_group.specs.Group.{GroupData}
 use Rattle.strip_group.specs.Places.{pick}
 use Rattle.strip_sets.specs.Pass.{HasRoom}
 use Rattle.strip_arrivals.specs.Arrivals.{actors_of, mates}
-use Rattle.strip_arrivals.specs.Company.{AreMates, IsParty, just, most_paid, ones}
+use Rattle.strip_arrivals.specs.Company.{AreCounted, AreMates, IsParty, just, most_paid}
 use Rattle.strip_arrivals.specs.declared.party.Party.{Party}
 use Rattle.strip_arrivals.proofs.Classes.{AreDays, AreKinds, counted_most, counted_rise, days_within, has-scenes_where}
 use Rattle.strip_group.proofs.Places.{actor_there, has_from_pick, sum_over_le_all}
-
--- the scenes of a set are few
-pub few_ones : (scenes : ℕ) → sum_over ones scenes ≤ 64
-few_ones scenes =
-    let long : length ones ≡ 64 = length-replicate {A = ℕ} 64 1 in
-    let all : sum ones ≡ 64 = refl in
-    omega (arith, all, sum_over_le_all ones scenes (omega (arith, long)))
 
 module _ {S : Type 0} (value : S → ℕ → ℕ) (count most : ℕ) (film : GroupData) (party : Party S) (known : IsParty value count most film party) where
   abbrev set : ℕ
@@ -47,8 +39,9 @@ module _ {S : Type 0} (value : S → ℕ → ℕ) (count most : ℕ) (film : Gro
   pub days_fit : (scenes : ℕ) → sum_over film.days scenes ≤ most
   days_fit scenes = omega (arith, few_days scenes, known.wide)
 
-  pub ones_fit : (scenes : ℕ) → sum_over ones scenes ≤ most
-  ones_fit scenes = omega (arith, few_ones scenes, known.wide)
+  -- no set of places leaves more days open than there are
+  pub days_low : (scenes : ℕ) (sums : ℕ → ℕ) → AreCounted film group count film.days scenes sums → (places : ℕ) → places < 2 ^ count → sums places ≤ 19800
+  days_low scenes sums counted places lt = omega (arith, counted_most film group count film.days scenes sums counted places lt, few_days scenes)
 
   pub group_low : (actors : ℕ) → ((i : ℕ) → has actors i ≡ true → has group i ≡ true) → sum_over film.holds actors ≤ sum_over film.holds group
   group_low actors within = sum_over_mono film.holds actors group within

@@ -1,14 +1,13 @@
 -- The rows of stages, by a pass over the sets of places: what a day costs by who is here, and how many classes of scenes there are.
 use Rattle.std.proofs.Common.{◌≡◌, ℕ, zero, suc, ◌+◌, ◌*◌, ◌^◌, ◌<◌, ◌≤◌, true, min, List, [], ◌∷◌, slice_index, sym, ap, ◌∙◌, arith}
 use Rattle.std.proofs.Math.Nat.{min-le_left}
-use Rattle.std.proofs.lemmas.List.{get_or-replicate}
 use Rattle.strip_mask.specs.Set.{has, with}
 use Rattle.strip_mask.proofs.ByMembers.{has-with_other, has-with_same}
 use Rattle.strip_group.specs.Group.{GroupData}
 use Rattle.strip_sets.specs.Numbers.{by_class}
 use Rattle.strip_sets.specs.Pass.{HasRoom, Passes, cost}
 use Rattle.strip_sets.specs.declared.terms.Classes.{Classes}
-use Rattle.strip_arrivals.specs.Company.{AreBoth, AreCounted, ArePair, ArePrices, IsBegun, IsNewcomer, IsParty, IsRow, IsStage, awaiting, ones}
+use Rattle.strip_arrivals.specs.Company.{AreBoth, AreCounted, ArePair, ArePrices, IsBegun, IsNewcomer, IsParty, IsRow, IsStage, awaiting}
 use Rattle.strip_arrivals.specs.declared.party.Both.{Both}
 use Rattle.strip_arrivals.specs.declared.party.Newcomer.{Newcomer}
 use Rattle.strip_arrivals.specs.declared.party.Party.{Party}
@@ -47,10 +46,6 @@ two_of first second = record { first = first; second = second; third = second; f
 abbrev pub four_of : {S : Type 0} → S → S → S → S → Classes S
 four_of first second third fourth = record { first = first; second = second; third = third; fourth = fourth }
 
--- all scenes count for one
-pub are_ones : (scene : ℕ) → scene < 64 → slice_index ones scene ≡ 1
-are_ones scene lt = get_or-replicate 64 scene 1 0 lt
-
 module _ {S : Type 0} (value : S → ℕ → ℕ) (count most : ℕ) (film : GroupData) (party : Party S) (known : IsParty value count most film party) where
   abbrev set : ℕ
   set = party.crew.set.0
@@ -74,11 +69,11 @@ module _ {S : Type 0} (value : S → ℕ → ℕ) (count most : ℕ) (film : Gro
     }
 
     -- someone is
-    pub guarded_row : (blocked : ℕ → ℕ) → AreCounted film group count ones (awaiting film coming gone set) blocked → Passes count (cost classes prices days) blocked first least
+    pub guarded_row : (blocked : ℕ → ℕ) → AreCounted film group count film.days (awaiting film coming gone set) blocked → Passes count (cost classes prices days) blocked first least
         → IsRow film set group count coming here gone bound least
     guarded_row blocked counted passes = record {
       least = row_least film set group newcomers party.never known.company known.enough coming here gone stage count (cost classes prices days) blocked first least known.crew.fits passes begun
-          (leaving_guarded film set group newcomers known.company count known.crew.fits coming here gone stage classes kinds are_kinds prices days are_prices are_days ones blocked are_ones counted);
+          (leaving_guarded film set group newcomers known.company count known.crew.fits coming here gone stage classes kinds are_kinds prices days are_prices are_days blocked counted);
       low = λ places lt. (let kept = passes.kept places lt in let most_first = low places lt in omega (arith, kept, most_first));
     }
 

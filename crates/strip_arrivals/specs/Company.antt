@@ -1,5 +1,5 @@
 -- A group and its newcomers on a set of scenes, with numbers for each set of the places of those of the group who are still here.
-use Rattle.std.specs.Prelude.{◌≡◌, ◌≢◌, ℕ, ◌+◌, ◌-◌, ◌*◌, ◌^◌, ◌<◌, ◌≤◌, ◌==◌, ◌⊎◌, ◌&&◌, ◌||◌, Bool, not, true, false, List, [], ◌∷◌, Contains, filter, length, min, replicate, slice_index}
+use Rattle.std.specs.Prelude.{◌≡◌, ◌≢◌, ℕ, ◌+◌, ◌-◌, ◌*◌, ◌^◌, ◌<◌, ◌≤◌, ◌==◌, ◌⊎◌, ◌&&◌, ◌||◌, Bool, not, true, false, List, [], ◌∷◌, All, Contains, filter, length, min, slice_index}
 use Rattle.strip_mask.specs.Set.{IsSet, LiesBelow, has, meet, members, minus, size, sum_over, with, without}
 use Rattle.strip_group.specs.Group.{GroupData}
 use Rattle.strip_group.specs.Places.{IsLimited, actor_at, pick}
@@ -15,16 +15,18 @@ pub record ArePlays (casts plays : List ℕ) (actors : ℕ) : Type 0 where
   pub count : length plays ≡ actors
   pub each : (actor scene : ℕ) → actor < actors → has (slice_index plays actor) scene ≡ has (slice_index casts scene) actor
 
--- a film within the limits, for each actor the scenes in which he works, and the days of 64 scenes
+-- a film within the limits, each scene of which has days, for each actor the scenes in which he works, and the days of 64 scenes
 pub record IsTable (casts plays long_days days holds : List ℕ) : Type 0 where
   pub limits : IsLimited (record { casts = casts; days = days; holds = holds })
+  pub some_days : All (λ count. 0 < count) days
   pub told : ArePlays casts plays (length holds)
   pub long : length long_days ≡ 64
   pub same : (scene : ℕ) → slice_index long_days scene ≡ slice_index days scene
 
--- a group and newcomers, none of whom is of the group, on a set of a film's scenes
+-- a group and newcomers, none of whom is of the group, on a set of a film's scenes, each of which has days
 pub record IsCompany (film : GroupData) (set group newcomers : ℕ) : Type 0 where
   pub limits : IsLimited film
+  pub some_days : All (λ count. 0 < count) film.days
   pub small_set : IsSet set
   pub small : IsSet group
   pub few : size group ≤ 10
@@ -151,17 +153,12 @@ pub record IsParty {S : Type 0} (value : S → ℕ → ℕ) (count most : ℕ) (
   pub room : 4 * party.never ≤ most
   pub wide : 2 ^ 32 - 1 ≤ most
 
--- one for each scene
-abbrev pub ones : List ℕ
-ones = replicate {A = ℕ} 64 1
-
--- one of the newcomers: the days and the number of the scenes in which of them he alone works, and what a day of a scene costs in
--- which none works while he is here
+-- one of the newcomers: the days of the scenes in which of them he alone works, and what a day of a scene costs in which none works
+-- while he is here
 pub record IsNewcomer {S : Type 0} (value : S → ℕ → ℕ) (count : ℕ) (film : GroupData) (party : Party S) (one : Newcomer S) : Type 0 where
   pub comes : has party.newcomers.0 one.actor ≡ true
   pub hold : one.hold ≡ slice_index film.holds one.actor
   pub days : AreCounted film party.crew.group.0 count film.days (just film party.newcomers.0 (with 0 one.actor) party.crew.set.0) (value one.days)
-  pub scenes : AreCounted film party.crew.group.0 count ones (just film party.newcomers.0 (with 0 one.actor) party.crew.set.0) (value one.scenes)
   pub mates : ℕ → ℕ
   pub are_mates : AreMates film party.crew.set.0 party.crew.group.0 count (one.actor ∷ []) mates
   pub waits : (places : ℕ) → places < 2 ^ count → value one.waits places ≡ value party.crew.rates places + min (mates places) one.hold
@@ -171,7 +168,6 @@ pub record IsNewcomer {S : Type 0} (value : S → ℕ → ℕ) (count : ℕ) (fi
 -- of them
 pub record AreBoth {S : Type 0} (value : S → ℕ → ℕ) (count : ℕ) (film : GroupData) (party : Party S) (one other : ℕ) (both : Both S) : Type 0 where
   pub days : AreCounted film party.crew.group.0 count film.days (just film party.newcomers.0 (with (with 0 one) other) party.crew.set.0) (value both.days)
-  pub scenes : AreCounted film party.crew.group.0 count ones (just film party.newcomers.0 (with (with 0 one) other) party.crew.set.0) (value both.scenes)
   pub mates : ℕ → ℕ
   pub are_mates : AreMates film party.crew.set.0 party.crew.group.0 count (one ∷ other ∷ []) mates
   pub together : (places : ℕ) → places < 2 ^ count → value both.together places ≡ value party.crew.rates places + mates places

@@ -1,7 +1,7 @@
 // A group and its newcomers, with what their stages go by.
 ghost use Rattle.std.specs.Prelude.{◌≡◌, ◌<◌, ◌≤◌, ◌*◌, ◌+◌, ◌^◌, ◌-◌, true};
 ghost use Rattle.strip_mask.specs.Set.{has, size, sum_over};
-ghost use Rattle.strip_arrivals.specs.Company.{AreBoth, ArePair, IsCompany, IsNewcomer, IsParty, most_paid, ones};
+ghost use Rattle.strip_arrivals.specs.Company.{AreBoth, ArePair, IsCompany, IsNewcomer, IsParty, most_paid};
 
 use crate::crew::Crew;
 use crate::table::ArrivalsTable;
@@ -18,24 +18,22 @@ pub(crate) struct Party<S> {
     pub(crate) days: S,
 }
 
-/// One of the newcomers: what he gets for a day of waiting; for each set of places the days and the
-/// number of the open scenes in which of the newcomers he alone works, and what a day of a scene
-/// without newcomers costs while he is here.
+/// One of the newcomers: what he gets for a day of waiting; for each set of places the days of the open
+/// scenes in which of the newcomers he alone works, and what a day of a scene without newcomers costs
+/// while he is here.
 #[derive(Drop)]
 pub(crate) struct Newcomer<S> {
     pub(crate) actor: u32,
     pub(crate) hold: u64,
     pub(crate) days: S,
-    pub(crate) scenes: S,
     pub(crate) waits: S,
 }
 
-/// Two newcomers: for each set of places the days and the number of the open scenes in which both work,
-/// and what those of the group get for a day who are here or share a scene with one of the two.
+/// Two newcomers: for each set of places the days of the open scenes in which both work, and what those
+/// of the group get for a day who are here or share a scene with one of the two.
 #[derive(Drop)]
 pub(crate) struct Both<S> {
     pub(crate) days: S,
-    pub(crate) scenes: S,
     pub(crate) together: S,
 }
 
@@ -82,7 +80,6 @@ impl ArrivalsTable {
         let hold = self.hold(actor);
         let scenes = self.plays(actor).meet(crew.set);
         let alone = scenes.minus(self.scenes_with(party.newcomers.without(actor)));
-        let ones = one_each();
         let mut waits = self.mates(crew, scenes);
         waits.least(&S::all(hold));
         waits.plus(&crew.rates);
@@ -90,7 +87,6 @@ impl ArrivalsTable {
             actor,
             hold,
             days: self.counted(crew, self.scene_days(), alone),
-            scenes: self.counted(crew, &ones, alone),
             waits,
         }
     }
@@ -105,20 +101,11 @@ impl ArrivalsTable {
         let (with_one, with_other) = (self.plays(one), self.plays(other));
         let both = with_one.meet(with_other).meet(crew.set);
         let either = with_one.union(with_other).meet(crew.set);
-        let ones = one_each();
         let mut together = self.mates(crew, either);
         together.plus(&crew.rates);
         Both {
             days: self.counted(crew, self.scene_days(), both),
-            scenes: self.counted(crew, &ones, both),
             together,
         }
     }
-}
-
-/// One for each scene.
-fn one_each() -> [u64; 64]
-    ensures { result ≡ ones }
-{
-    [1; 64]
 }

@@ -2,7 +2,7 @@
 // of the group who are still here.
 ghost use Rattle.std.specs.Prelude.{◌≡◌, ℕ, ◌*◌, ◌<◌, ◌≤◌, ◌^◌, ◌∷◌, []};
 ghost use Rattle.strip_mask.specs.Set.{with};
-ghost use Rattle.strip_arrivals.specs.Company.{AreBoth, AreCounted, ArePair, IsBegun, IsNewcomer, IsParty, IsRow, IsStage, awaiting, ones};
+ghost use Rattle.strip_arrivals.specs.Company.{AreBoth, AreCounted, ArePair, IsBegun, IsNewcomer, IsParty, IsRow, IsStage, awaiting};
 
 use crate::party::{Both, Newcomer, Party};
 use crate::table::ArrivalsTable;
@@ -33,7 +33,7 @@ impl ArrivalsTable {
     {
         let one = self.newcomer(party, actor);
         let mut row = self.alone(party, &one, Mask(0), &self.over(party));
-        self.leave(party, party.newcomers, Mask(0), &one.scenes, &mut row);
+        self.leave(party, party.newcomers, Mask(0), &one.days, &mut row);
         row
     }
 
@@ -52,9 +52,9 @@ impl ArrivalsTable {
         let other_first = self.here(party, &both, &other, &one, &other_stays, &one_stays);
         row.least(&other_first);
         let mut awaited = S::all(0);
-        awaited.copy_from(&one.scenes);
-        awaited.plus(&other.scenes);
-        awaited.plus(&both.scenes);
+        awaited.copy_from(&one.days);
+        awaited.plus(&other.days);
+        awaited.plus(&both.days);
         self.leave(party, party.newcomers, Mask(0), &awaited, &mut row);
         row
     }
@@ -85,7 +85,7 @@ impl ArrivalsTable {
             party,
             Mask(0).with(other.actor),
             Mask(0).with(one.actor),
-            &other.scenes,
+            &other.days,
             &mut gone,
         );
         let here = self.both_here(party, both, one, other, one_stays, other_stays);
@@ -120,11 +120,11 @@ impl ArrivalsTable {
     }
 
     /// Those of the group leave who work in none of the awaited scenes, while newcomers are still to come
-    /// and nobody of them is here.
+    /// and nobody of them is here. Each awaited scene has days, so that the days tell which are open.
     fn leave<S: BySet>(&self, party: &Party<S>, coming: Mask, gone: Mask, awaited: &S, row: &mut S)
         requires party { IsParty S.value S.places S.most self.now party.now }
         requires stage { IsStage party.now.newcomers.0 coming.0 [] gone.0 }
-        requires awaited { AreCounted self.now party.now.crew.group.0 S.places ones (awaiting self.now coming.0 gone.0 party.now.crew.set.0) (S.value awaited.now) }
+        requires awaited { AreCounted self.now party.now.crew.group.0 S.places self.now.days (awaiting self.now coming.0 gone.0 party.now.crew.set.0) (S.value awaited.now) }
         requires begun { IsBegun self.now party.now.crew.set.0 party.now.crew.group.0 party.now.never coming.0 [] gone.0 (S.value row.old) }
         requires low { (places : ℕ) → places < 2 ^ S.places → S.value row.old places ≤ 3 * party.now.never }
         ensures { IsRow self.now party.now.crew.set.0 party.now.crew.group.0 S.places coming.0 [] gone.0 (3 * party.now.never) (S.value row.new) }
@@ -194,10 +194,10 @@ impl ArrivalsTable {
     {
         let rates = &party.crew.rates;
         let mut awaited = S::all(0);
-        awaited.copy_from(&other.scenes);
-        awaited.plus(&both.scenes);
+        awaited.copy_from(&other.days);
+        awaited.plus(&both.days);
         let mut row = here;
-        row.or_open(gone, rates, &one.days, &both.scenes);
+        row.or_open(gone, rates, &one.days, &both.days);
         row.pass::<Two, Guarded>(
             Classes::two(&one.waits, rates),
             Classes::two(&party.days, &one.days),

@@ -1,5 +1,5 @@
 // What the values of a film's groups go by.
-ghost use Rattle.std.specs.Prelude.{◌≡◌, ℕ, ◌+◌, ◌*◌, ◌-◌, ◌^◌, ◌<◌, ◌≤◌, true, false, not, IfOk, length, slice_index, sum};
+ghost use Rattle.std.specs.Prelude.{◌≡◌, ℕ, ◌+◌, ◌*◌, ◌-◌, ◌^◌, ◌<◌, ◌≤◌, true, false, not, All, IfOk, length, slice_index, sum};
 ghost use Rattle.strip_mask.specs.Set.{LiesBelow, has, size, sum_over, with};
 ghost use Rattle.strip_group.specs.Group.{GroupData};
 ghost use Rattle.strip_group.specs.Places.{IsLimited};
@@ -54,6 +54,7 @@ impl ArrivalsTable {
         requires actors { length holds.now ≤ 64 }
         requires day_sum { sum days.now ≤ 19800 }
         requires hold_sum { sum holds.now ≤ 64_000_000_000 }
+        requires some_days { All (λ count. 0 < count) days.now }
         ensures { IfOk result (λ table. table ≡ record { casts = casts.now; days = days.now; holds = holds.now }) }
     {
         Ok(ArrivalsTable {
@@ -151,10 +152,11 @@ impl ArrivalsTable {
         (self.days(set) + 1) * rates + 1
     }
 
-    /// Each table is of a film within the limits. It does nothing: a caller that needs one of them makes
-    /// this call first.
+    /// Each table is of a film within the limits, each scene of which has days. It does nothing: a caller
+    /// that needs this makes this call first.
     fn keeps_limits(&self)
-        ensures { IsLimited self.now }
+        ensures limits { IsLimited self.now }
+        ensures some_days { All (λ count. 0 < count) self.now.days }
     {
         let _ = &self.casts;
     }

@@ -19,12 +19,12 @@ struct Film {
 static FIRST: [Film; 8] = [
     Film {
         casts: &[0x25, 0x2e, 0x14, 0x14, 0x54, 0x16, 0x13, 0x4],
-        days: &[1, 0, 2, 4, 3, 4, 2, 1],
+        days: &[1, 1, 2, 4, 3, 4, 2, 1],
         holds: &[2, 6, 5, 8, 2, 2, 0],
         set: 0x6f,
         group: 0x72,
         newcomers: 0x5,
-        value: 12,
+        value: 14,
     },
     Film {
         casts: &[0x3b, 0x3e, 0x2, 0x38, 0x4, 0x14, 0x1e, 0x39, 0x33],
@@ -103,12 +103,12 @@ static SECOND: [Film; 8] = [
     },
     Film {
         casts: &[0x1c, 0x3, 0x1e, 0x1a, 0x1d, 0x1],
-        days: &[4, 4, 1, 4, 0, 4],
+        days: &[4, 4, 1, 4, 1, 4],
         holds: &[3, 1, 2, 5, 4],
         set: 0x3f,
         group: 0x7,
         newcomers: 0x10,
-        value: 24,
+        value: 25,
     },
     Film {
         casts: &[0x1e, 0x15, 0x6c, 0x75, 0x25],
@@ -130,7 +130,7 @@ static SECOND: [Film; 8] = [
     },
     Film {
         casts: &[0x18, 0x0, 0x10, 0x9, 0xa, 0xc, 0x9, 0x2],
-        days: &[4, 1, 1, 4, 3, 2, 0, 1],
+        days: &[4, 1, 1, 4, 3, 2, 1, 1],
         holds: &[3, 2, 3, 2, 3],
         set: 0xdf,
         group: 0x1a,
@@ -253,7 +253,7 @@ static FOURTH: [Film; 8] = [
     },
     Film {
         casts: &[0xe, 0x79, 0x39, 0x54, 0x12, 0x8, 0x7e, 0x18],
-        days: &[4, 1, 1, 1, 3, 2, 3, 0],
+        days: &[4, 1, 1, 1, 3, 2, 3, 1],
         holds: &[2, 5, 1, 5, 3, 0, 0],
         set: 0xff,
         group: 0x58,
@@ -328,7 +328,7 @@ static FIFTH: [Film; 8] = [
     },
     Film {
         casts: &[0x74, 0x51, 0x71, 0x2d, 0x3b, 0x29, 0x7a, 0x1d],
-        days: &[3, 1, 4, 2, 4, 0, 4, 4],
+        days: &[3, 1, 4, 2, 4, 1, 4, 4],
         holds: &[2, 16, 5, 3, 5, 5, 2],
         set: 0xcd,
         group: 0x57,
@@ -394,7 +394,7 @@ static FIFTH: [Film; 8] = [
 static SIXTH: [Film; 8] = [
     Film {
         casts: &[0x0, 0x1a, 0x0, 0x0, 0x2, 0x0, 0x10, 0x5],
-        days: &[0, 1, 4, 4, 4, 3, 1, 3],
+        days: &[1, 1, 4, 4, 4, 3, 1, 3],
         holds: &[5, 3, 0, 3, 5],
         set: 0xff,
         group: 0x1a,
@@ -403,12 +403,12 @@ static SIXTH: [Film; 8] = [
     },
     Film {
         casts: &[0x5, 0x1, 0x2, 0x8, 0x0, 0x28, 0x26, 0x11, 0x20],
-        days: &[3, 0, 0, 2, 1, 2, 3, 1, 4],
+        days: &[3, 1, 1, 2, 1, 2, 3, 1, 4],
         holds: &[1, 7, 5, 2, 12, 1, 3],
         set: 0x1ff,
         group: 0xf,
         newcomers: 0x60,
-        value: 23,
+        value: 34,
     },
     Film {
         casts: &[0x2, 0x14, 0x0, 0x10, 0x8],
@@ -439,7 +439,7 @@ static SIXTH: [Film; 8] = [
     },
     Film {
         casts: &[0x3e, 0x38, 0x67, 0x47, 0x58, 0x23, 0x5a],
-        days: &[2, 2, 2, 2, 0, 2, 2],
+        days: &[2, 2, 2, 2, 1, 2, 2],
         holds: &[3, 0, 3, 2, 3, 3, 1],
         set: 0x7f,
         group: 0x2a,
@@ -448,7 +448,7 @@ static SIXTH: [Film; 8] = [
     },
     Film {
         casts: &[0xd0, 0x80, 0x2, 0x2, 0x47, 0x10, 0x6, 0x20],
-        days: &[2, 2, 2, 4, 4, 0, 2, 0],
+        days: &[2, 2, 2, 4, 4, 1, 2, 1],
         holds: &[6, 5, 17, 9, 2, 3, 2, 2],
         set: 0xdf,
         group: 0xd2,

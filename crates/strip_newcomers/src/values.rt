@@ -1,5 +1,5 @@
 // The value of a group and its newcomers, of lists that may break the limits.
-ghost use Rattle.std.specs.Prelude.{◌≡◌, ℕ, ◌≤◌, IsTrue, false, sum, true};
+ghost use Rattle.std.specs.Prelude.{◌≡◌, ℕ, ◌<◌, ◌≤◌, All, IsTrue, false, sum, true};
 ghost use Rattle.strip_mask.specs.Set.{has};
 
 use std::alloc::Global;
@@ -23,6 +23,9 @@ pub(crate) fn value_of(
     if !is_within(days, 19_800) || !is_within(holds, 64_000_000_000) {
         return Ok(None);
     }
+    if !have_days(days) {
+        return Ok(None);
+    }
     let actors = holds.len() as u32;
     if group.size() > 10 || newcomers.size() > 2 || !are_apart(group, newcomers) {
         return Ok(None);
@@ -39,6 +42,13 @@ fn are_apart(group: Mask, newcomers: Mask) -> bool
     ensures { IsTrue result → (actor : ℕ) → has newcomers.0 actor ≡ true → has group.0 actor ≡ false }
 {
     group.meet(newcomers).is_empty()
+}
+
+/// Whether each scene has days.
+fn have_days(days: &[u64]) -> bool
+    ensures { IsTrue result → All (λ count. 0 < count) days.now }
+{
+    days.iter().all(|count| *count > 0)
 }
 
 /// Whether the numbers add up to no more than this.

@@ -6,19 +6,14 @@ use Rattle.strip_mask.proofs.ByMembers.{below_64, has-with_same}
 use Rattle.strip_group.specs.Group.{GroupData}
 use Rattle.strip_sets.specs.Numbers.{by_class}
 use Rattle.strip_sets.specs.Pass.{HasRoom, Passes, cost, lowered}
-use Rattle.strip_arrivals.specs.Company.{AreCounted, ones}
 use Rattle.strip_arrivals.proofs.Begun.{begun_between}
-use Rattle.strip_arrivals.proofs.Classes.{counted_most, first_goes, kinds_one, may_go, only_then}
+use Rattle.strip_arrivals.proofs.Classes.{first_goes, kinds_one, may_go, only_then}
 use Rattle.strip_arrivals.proofs.Masks.{awaiting_later}
 use Rattle.strip_arrivals.proofs.Prices.{price_with}
-use Rattle.strip_arrivals.proofs.Room.{few_ones, one_low}
-use Rattle.strip_arrivals.proofs.Staged.{are_ones, guarded_row, one_days, one_prices, one_room, rates_all_low, two_of}
+use Rattle.strip_arrivals.proofs.Room.{days_low, one_low}
+use Rattle.strip_arrivals.proofs.Staged.{guarded_row, one_days, one_prices, one_room, rates_all_low, two_of}
 use Rattle.strip_arrivals.proofs.Stages.{stage_between}
 use Rattle.strip_arrivals.proofs.table.ArrivalsTable.between.Goals as goal
-
--- of a set of scenes at most 64 are open
-few_scenes : (film : GroupData) (group count scenes : ℕ) (sums : ℕ → ℕ) → AreCounted film group count ones scenes sums → (places : ℕ) → places < 2 ^ count → sums places ≤ 64
-few_scenes film group count scenes sums counted places lt = omega (arith, counted_most film group count ones scenes sums counted places lt, few_ones scenes)
 
 -- what is lowered is no more
 lowered_most : (number other blocked before : ℕ) → lowered number other blocked before ≤ number
@@ -31,8 +26,8 @@ lowered_most number other blocked before = by_test (eqb blocked before)
 pub plus-requires : goal.plus-requires
 plus-requires g c = λ places lt.
     let value = g.S.BySet.value in
-    let others = few_scenes c.args.self.now c.args.party.now.crew.group.0 g.S.BySet.places _ (value c.args.other.now.scenes) c.requires.other.scenes places lt in
-    let both = few_scenes c.args.self.now c.args.party.now.crew.group.0 g.S.BySet.places _ (value c.args.both.now.scenes) c.requires.both.scenes places lt in
+    let others = days_low value g.S.BySet.places g.S.BySet.most c.args.self.now c.args.party.now c.requires.party _ (value c.args.other.now.days) c.requires.other.days places lt in
+    let both = days_low value g.S.BySet.places g.S.BySet.most c.args.self.now c.args.party.now c.requires.party _ (value c.args.both.now.days) c.requires.both.days places lt in
     omega (arith, c.copy_from.ensures places lt, others, both, c.requires.party.wide)
 
 pub or_open-requires : goal.or_open-requires
@@ -71,7 +66,7 @@ returns g c =
     let other : ℕ = c.args.other.now.actor in
     let rates : ℕ → ℕ = value c.args.party.now.crew.rates in
     let days : ℕ → ℕ = value c.args.one.now.days in
-    let both : ℕ → ℕ = value c.args.both.now.scenes in
+    let both : ℕ → ℕ = value c.args.both.now.days in
     let here : ℕ → ℕ = value c.args.here in
     let gone : ℕ → ℕ = value c.args.gone.now in
     let stage = stage_between newcomers one other known.company.small_newcomers c.requires.pair in
@@ -94,13 +89,13 @@ returns g c =
     (one_days value count most film c.args.party.now known c.args.one.now c.requires.one (with 0 other) 0) first (value c.pass.new.self) (3 * never)
     (begun_between film set group newcomers never known.company one other (λ places. eqb (both places) 0) (λ places. rates places * days places) here gone first c.requires.pair.apart
     (below_64 newcomers other known.company.small_newcomers c.requires.pair.other_comes) c.requires.here.least c.requires.gone.least
-    (λ places lt fine. may_go film set group newcomers known.company count known.crew.fits one other stage ones are_ones both c.requires.both.scenes places lt (eqb-true (both places) 0 fine))
-    (λ places lt may. eq-eqb (both places) 0 (only_then film set group newcomers known.company count known.crew.fits one other stage ones are_ones both c.requires.both.scenes places lt may))
-    (λ places lt fine. first_goes film set group newcomers known.company count known.crew.fits one other stage ones are_ones both c.requires.both.scenes places lt rates days (eqb-true (both places) 0 fine)
+    (λ places lt fine. may_go film set group newcomers known.company count known.crew.fits one other stage both c.requires.both.days places lt (eqb-true (both places) 0 fine))
+    (λ places lt may. eq-eqb (both places) 0 (only_then film set group newcomers known.company count known.crew.fits one other stage both c.requires.both.days places lt may))
+    (λ places lt fine. first_goes film set group newcomers known.company count known.crew.fits one other stage both c.requires.both.days places lt rates days (eqb-true (both places) 0 fine)
     (price_with film set group newcomers known.company count rates known.crew.rates (with 0 other) 0 one c.requires.one.comes (with 0 one) (has-with_same 0 one)) c.requires.one.days)
     (λ places lt. row_is places (wide places lt)))
     kept blocked
-    (awaiting_later film set newcomers one other known.company.small_set c.requires.pair group count ones (value c.args.one.now.scenes) (value c.args.other.now.scenes) both
-    c.requires.one.scenes c.requires.other.scenes c.requires.both.scenes blocked
+    (awaiting_later film set newcomers one other known.company.small_set c.requires.pair group count film.days (value c.args.one.now.days) (value c.args.other.now.days) both
+    c.requires.one.days c.requires.other.days c.requires.both.days blocked
     (λ places lt. omega (arith, c.plus.ensures places lt, c.copy_from.ensures places lt)))
     passes

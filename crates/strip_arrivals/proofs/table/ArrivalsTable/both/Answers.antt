@@ -1,13 +1,12 @@
-use Rattle.std.proofs.Common.{◌≡◌, ◌<◌, ℕ, List, [], ◌∷◌, true, ap, arith, length, sym, subst, ◌∙◌}
+use Rattle.std.proofs.Common.{◌≡◌, ◌<◌, ℕ, [], ◌∷◌, true, ap, arith, sym, subst, ◌∙◌}
 use Rattle.std.proofs.lemmas.Bool.{and_parts}
-use Rattle.std.proofs.lemmas.List.{length-replicate}
-use Rattle.strip_mask.specs.Set.{has, meet, sum_over}
+use Rattle.strip_mask.specs.Set.{has, meet}
 use Rattle.strip_mask.proofs.ByMembers.{below_64, has-meet}
 use Rattle.strip_mask.proofs.Totals.{sum_over-ext}
 use Rattle.strip_group.specs.Group.{GroupData}
-use Rattle.strip_arrivals.specs.Company.{AreCounted, just, ones}
+use Rattle.strip_arrivals.specs.Company.{AreCounted, just}
 use Rattle.strip_arrivals.proofs.Masks.{both_is, counted_alike, two, with_either_is}
-use Rattle.strip_arrivals.proofs.Room.{days_fit, mates_low, ones_fit, rates_low}
+use Rattle.strip_arrivals.proofs.Room.{days_fit, mates_low, rates_low}
 use Rattle.strip_arrivals.proofs.table.ArrivalsTable.both.Goals as goal
 
 -- a scene of both is one of the set
@@ -38,19 +37,6 @@ counted-requires-clause-fits g c =
     let fits = days_fit g.S.BySet.value g.S.BySet.places g.S.BySet.most c.args.self.now c.args.party.now c.requires.party c.meet-both.result.0 in
     omega (arith, fits, sum_over-ext c.scene_days.result.now c.args.self.now.days c.meet-both.result.0 (λ scene _. c.scene_days.ensures.days scene))
 
-pub counted-requires-2-clause-within : goal.counted-requires-2-clause-within
-counted-requires-2-clause-within g c = λ scene there. in_set c.meet-both.result.0 c.meet.result.0 c.args.party.now.crew.set.0 scene c.meet-both.ensures there
-
-pub counted-requires-2-clause-long : goal.counted-requires-2-clause-long
-counted-requires-2-clause-long g c = λ scene there.
-    let lt : scene < 64 = below_64 c.args.party.now.crew.set.0 scene c.requires.party.company.small_set (in_set c.meet-both.result.0 c.meet.result.0 c.args.party.now.crew.set.0 scene c.meet-both.ensures there) in
-    omega (arith, lt, ap length c.one_each-ones.ensures, length-replicate {A = ℕ} 64 1)
-
-pub counted-requires-2-clause-fits : goal.counted-requires-2-clause-fits
-counted-requires-2-clause-fits g c =
-    let fits = ones_fit g.S.BySet.value g.S.BySet.places g.S.BySet.most c.args.self.now c.args.party.now c.requires.party c.meet-both.result.0 in
-    omega (arith, fits, ap (λ (numbers : List ℕ). sum_over numbers c.meet-both.result.0) c.one_each-ones.ensures)
-
 pub returns : goal.returns
 returns g c =
     let film : GroupData = c.args.self.now in
@@ -64,8 +50,6 @@ returns g c =
     record {
       days = subst (λ (s : ℕ). AreCounted film group g.S.BySet.places film.days s (value c.counted.result)) both
           (counted_alike film group g.S.BySet.places c.scene_days.result.now film.days c.meet-both.result.0 (value c.counted.result) c.scene_days.ensures.days c.counted.ensures);
-      scenes = subst (λ (s : ℕ). AreCounted film group g.S.BySet.places ones s (value c.counted-2.result)) both
-          (subst (λ (numbers : List ℕ). AreCounted film group g.S.BySet.places numbers c.meet-both.result.0 (value c.counted-2.result)) c.one_each-ones.ensures c.counted-2.ensures);
       mates = value c.mates-together.result;
       are_mates = c.mates-together.ensures (c.args.one ∷ c.args.other ∷ []) (with_either_is film set newcomers c.requires.party.company.small_set
           c.args.one c.args.other c.plays-with_one.result.0 c.plays-with_other.result.0 c.meet-either.result.0 c.plays-with_one.ensures c.plays-with_other.ensures (c.meet-either.ensures ∙ ap (λ (s : ℕ). meet s set) c.union.ensures));

@@ -3,7 +3,7 @@ use Rattle.std.proofs.Math.Pow.{pow_mono}
 use Rattle.strip_mask.specs.Set.{size, with}
 use Rattle.strip_mask.proofs.ByMembers.{below_64}
 use Rattle.strip_group.specs.Group.{GroupData}
-use Rattle.strip_arrivals.specs.Company.{AreCounted, IsBegun, IsStage, awaiting, ones}
+use Rattle.strip_arrivals.specs.Company.{AreCounted, IsBegun, IsStage, awaiting}
 use Rattle.strip_arrivals.proofs.Begun.{begun_coming}
 use Rattle.strip_arrivals.proofs.Masks.{awaiting_other, pair_turned}
 use Rattle.strip_arrivals.proofs.Stages.{stage_coming}
@@ -29,11 +29,11 @@ leave-requires-clause-awaited g c =
     let newcomers : ℕ = c.args.party.now.newcomers.0 in
     let one : ℕ = c.args.one.now.actor in
     let other : ℕ = c.args.other.now.actor in
-    let scenes : ℕ → ℕ = g.S.BySet.value c.args.other.now.scenes in
-    of_same (λ coming gone. AreCounted film group g.S.BySet.places ones (awaiting film coming gone set) scenes) (with 0 other) (with 0 one)
+    let days : ℕ → ℕ = g.S.BySet.value c.args.other.now.days in
+    of_same (λ coming gone. AreCounted film group g.S.BySet.places film.days (awaiting film coming gone set) days) (with 0 other) (with 0 one)
     c.with.result.0 c.with-2.result.0 c.with.ensures c.with-2.ensures
-    (subst (λ (s : ℕ). AreCounted film group g.S.BySet.places ones s scenes)
-    (awaiting_other film set newcomers one other c.requires.party.company.small_set c.requires.pair) c.requires.other.scenes)
+    (subst (λ (s : ℕ). AreCounted film group g.S.BySet.places film.days s days)
+    (awaiting_other film set newcomers one other c.requires.party.company.small_set c.requires.pair) c.requires.other.days)
 
 pub leave-requires-clause-begun : goal.leave-requires-clause-begun
 leave-requires-clause-begun g c =

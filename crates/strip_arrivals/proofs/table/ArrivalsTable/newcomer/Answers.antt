@@ -1,15 +1,14 @@
-use Rattle.std.proofs.Common.{◌≡◌, ◌<◌, ℕ, List, [], ◌∷◌, true, not, ap, arith, sym, subst, ◌∙◌, inl, inr, length}
-use Rattle.std.proofs.lemmas.List.{length-replicate}
+use Rattle.std.proofs.Common.{◌≡◌, ◌<◌, ℕ, [], ◌∷◌, true, not, ap, arith, sym, subst, ◌∙◌, inl, inr}
 use Rattle.std.proofs.Math.Nat.{min-le_right}
 use Rattle.std.proofs.lemmas.Bool.{and_parts, cases_eq, false≢true}
-use Rattle.strip_mask.specs.Set.{has, meet, minus, sum_over, with, without}
+use Rattle.strip_mask.specs.Set.{has, meet, minus, with, without}
 use Rattle.strip_mask.proofs.ByMembers.{below_64, has-meet, has-minus, has-without_other, has-without_same}
 use Rattle.strip_mask.proofs.Totals.{sum_over-ext}
 use Rattle.strip_group.specs.Group.{GroupData}
 use Rattle.strip_arrivals.specs.Arrivals.{is_without}
-use Rattle.strip_arrivals.specs.Company.{AreCounted, just, ones}
+use Rattle.strip_arrivals.specs.Company.{AreCounted, just}
 use Rattle.strip_arrivals.proofs.Masks.{alone_is, counted_alike, with_one_is}
-use Rattle.strip_arrivals.proofs.Room.{days_fit, hold_low, ones_fit, rates_low}
+use Rattle.strip_arrivals.proofs.Room.{days_fit, hold_low, rates_low}
 use Rattle.strip_arrivals.proofs.table.ArrivalsTable.newcomer.Goals as goal
 
 pub scenes_with-requires : goal.scenes_with-requires
@@ -66,21 +65,6 @@ counted-requires-clause-fits g c =
     let fits = days_fit g.S.BySet.value g.S.BySet.places g.S.BySet.most c.args.self.now c.args.party.now c.requires.party c.minus-alone.result.0 in
     omega (arith, fits, sum_over-ext c.scene_days.result.now c.args.self.now.days c.minus-alone.result.0 (λ scene _. c.scene_days.ensures.days scene))
 
-pub counted-requires-2-clause-within : goal.counted-requires-2-clause-within
-counted-requires-2-clause-within g c = λ scene there.
-    alone_in_set c.minus-alone.result.0 c.meet-scenes.result.0 c.scenes_with.result.0 c.plays.result.0 c.args.party.now.crew.set.0 scene c.minus-alone.ensures c.meet-scenes.ensures there
-
-pub counted-requires-2-clause-long : goal.counted-requires-2-clause-long
-counted-requires-2-clause-long g c = λ scene there.
-    let lt : scene < 64 = below_64 c.args.party.now.crew.set.0 scene c.requires.party.company.small_set
-    (alone_in_set c.minus-alone.result.0 c.meet-scenes.result.0 c.scenes_with.result.0 c.plays.result.0 c.args.party.now.crew.set.0 scene c.minus-alone.ensures c.meet-scenes.ensures there) in
-    omega (arith, lt, ap length c.one_each-ones.ensures, length-replicate {A = ℕ} 64 1)
-
-pub counted-requires-2-clause-fits : goal.counted-requires-2-clause-fits
-counted-requires-2-clause-fits g c =
-    let fits = ones_fit g.S.BySet.value g.S.BySet.places g.S.BySet.most c.args.self.now c.args.party.now c.requires.party c.minus-alone.result.0 in
-    omega (arith, fits, ap (λ (numbers : List ℕ). sum_over numbers c.minus-alone.result.0) c.one_each-ones.ensures)
-
 pub returns-clause-newcomer : goal.returns-clause-newcomer
 returns-clause-newcomer g c =
     let film : GroupData = c.args.self.now in
@@ -98,8 +82,6 @@ returns-clause-newcomer g c =
       hold = c.hold-hold.ensures.same;
       days = subst (λ (s : ℕ). AreCounted film group g.S.BySet.places film.days s (value c.counted.result)) alone
           (counted_alike film group g.S.BySet.places c.scene_days.result.now film.days c.minus-alone.result.0 (value c.counted.result) c.scene_days.ensures.days c.counted.ensures);
-      scenes = subst (λ (s : ℕ). AreCounted film group g.S.BySet.places ones s (value c.counted-2.result)) alone
-          (subst (λ (numbers : List ℕ). AreCounted film group g.S.BySet.places numbers c.minus-alone.result.0 (value c.counted-2.result)) c.one_each-ones.ensures c.counted-2.ensures);
       mates = mates;
       are_mates = are_mates;
       waits = λ places lt. omega (arith, c.plus.ensures places lt, c.least.ensures places lt, c.all.ensures places lt);

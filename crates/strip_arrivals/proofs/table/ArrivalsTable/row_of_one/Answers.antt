@@ -2,7 +2,7 @@ use Rattle.std.proofs.Common.{◌≡◌, ℕ, ◌<◌, ◌∙◌, [], refl, ap, 
 use Rattle.strip_mask.specs.Set.{has, with}
 use Rattle.strip_mask.proofs.ByMembers.{below_64, has-with_same}
 use Rattle.strip_group.specs.Group.{GroupData}
-use Rattle.strip_arrivals.specs.Company.{AreCounted, IsBegun, ones}
+use Rattle.strip_arrivals.specs.Company.{AreCounted, IsBegun}
 use Rattle.strip_arrivals.proofs.Begun.{begun_coming}
 use Rattle.strip_arrivals.proofs.Masks.{awaiting_him}
 use Rattle.strip_arrivals.proofs.Stages.{stage_alone_one, stage_first}
@@ -31,10 +31,10 @@ leave-requires-clause-awaited g c =
     let group : ℕ = c.args.party.now.crew.group.0 in
     let newcomers : ℕ = c.args.party.now.newcomers.0 in
     let actor : ℕ = c.newcomer-one.result.actor in
-    let scenes : ℕ → ℕ = g.S.BySet.value c.newcomer-one.result.scenes in
-    subst (λ (s : ℕ). AreCounted film group g.S.BySet.places ones s scenes)
+    let days : ℕ → ℕ = g.S.BySet.value c.newcomer-one.result.days in
+    subst (λ (s : ℕ). AreCounted film group g.S.BySet.places film.days s days)
     (awaiting_him film set newcomers actor c.requires.party.company.small_set (is_he newcomers c.args.actor actor c.requires.only c.newcomer-one.ensures.actor))
-    c.newcomer-one.ensures.newcomer.scenes
+    c.newcomer-one.ensures.newcomer.days
 
 pub leave-requires-clause-begun : goal.leave-requires-clause-begun
 leave-requires-clause-begun g c =

@@ -5,13 +5,12 @@ use Rattle.strip_mask.proofs.ByMembers.{below_64}
 use Rattle.strip_group.specs.Group.{GroupData}
 use Rattle.strip_group.specs.Places.{pick}
 use Rattle.strip_arrivals.specs.Arrivals.{mates}
-use Rattle.strip_arrivals.specs.Company.{AreBoth, AreCounted, ArePair, IsBegun, IsStage, just, ones}
+use Rattle.strip_arrivals.specs.Company.{AreBoth, AreCounted, ArePair, IsBegun, IsStage, just}
 use Rattle.strip_arrivals.specs.declared.party.Both.{Both}
 use Rattle.strip_arrivals.specs.declared.party.Party.{Party}
 use Rattle.strip_arrivals.proofs.Begun.{begun_both_coming}
-use Rattle.strip_arrivals.proofs.Classes.{counted_most}
 use Rattle.strip_arrivals.proofs.Masks.{awaiting_both, pair_is, pair_turned, two_turned}
-use Rattle.strip_arrivals.proofs.Room.{few_ones}
+use Rattle.strip_arrivals.proofs.Room.{days_low}
 use Rattle.strip_arrivals.proofs.Stages.{stage_alone, stage_first}
 use Rattle.strip_arrivals.proofs.table.ArrivalsTable.row_of_two.Goals as goal
 
@@ -35,16 +34,11 @@ both_turned value count film party both one other are =
     let newcomers : ℕ = party.newcomers.0 in
     record {
       days = subst (λ (s : ℕ). AreCounted film group count film.days (just film newcomers s set) (value both.days)) (two_turned one other) are.days;
-      scenes = subst (λ (s : ℕ). AreCounted film group count ones (just film newcomers s set) (value both.scenes)) (two_turned one other) are.scenes;
       mates = are.mates;
       are_mates = subst (λ (s : ℕ). (places : ℕ) → places < 2 ^ count → are.mates places ≡ sum_over film.holds (meet (minus group (pick group places)) (mates film set s)))
           (two_turned other one) are.are_mates;
       together = are.together;
     }
-
--- no set of places leaves more scenes open than there are
-few_scenes : (film : GroupData) (group count scenes : ℕ) (sums : ℕ → ℕ) → AreCounted film group count ones scenes sums → (places : ℕ) → places < 2 ^ count → sums places ≤ 64
-few_scenes film group count scenes sums counted places lt = omega (arith, counted_most film group count ones scenes sums counted places lt, few_ones scenes)
 
 pub alone-one_stays-requires-clause-stage : goal.alone-one_stays-requires-clause-stage
 alone-one_stays-requires-clause-stage g c =
@@ -73,25 +67,23 @@ pub plus-requires : goal.plus-requires
 plus-requires g c = λ places lt.
     let film : GroupData = c.args.self.now in
     let set : ℕ = c.args.party.now.crew.set.0 in
-    let group : ℕ = c.args.party.now.crew.group.0 in
     let newcomers : ℕ = c.args.party.now.newcomers.0 in
     let count : ℕ = g.S.BySet.places in
     let value = g.S.BySet.value in
-    let few = few_scenes film group count (just film newcomers (with 0 c.newcomer-one.result.actor) set) (value c.newcomer-one.result.scenes) c.newcomer-one.ensures.newcomer.scenes places lt in
-    let few_too = few_scenes film group count (just film newcomers (with 0 c.newcomer-other.result.actor) set) (value c.newcomer-other.result.scenes) c.newcomer-other.ensures.newcomer.scenes places lt in
+    let few = days_low value count g.S.BySet.most film c.args.party.now c.requires.party (just film newcomers (with 0 c.newcomer-one.result.actor) set) (value c.newcomer-one.result.days) c.newcomer-one.ensures.newcomer.days places lt in
+    let few_too = days_low value count g.S.BySet.most film c.args.party.now c.requires.party (just film newcomers (with 0 c.newcomer-other.result.actor) set) (value c.newcomer-other.result.days) c.newcomer-other.ensures.newcomer.days places lt in
     omega (arith, few, few_too, c.copy_from.ensures places lt, c.requires.party.wide)
 
 pub plus-requires-2 : goal.plus-requires-2
 plus-requires-2 g c = λ places lt.
     let film : GroupData = c.args.self.now in
     let set : ℕ = c.args.party.now.crew.set.0 in
-    let group : ℕ = c.args.party.now.crew.group.0 in
     let newcomers : ℕ = c.args.party.now.newcomers.0 in
     let count : ℕ = g.S.BySet.places in
     let value = g.S.BySet.value in
-    let few = few_scenes film group count (just film newcomers (with 0 c.newcomer-one.result.actor) set) (value c.newcomer-one.result.scenes) c.newcomer-one.ensures.newcomer.scenes places lt in
-    let few_too = few_scenes film group count (just film newcomers (with 0 c.newcomer-other.result.actor) set) (value c.newcomer-other.result.scenes) c.newcomer-other.ensures.newcomer.scenes places lt in
-    let few_both = few_scenes film group count (just film newcomers (with (with 0 c.args.one) c.args.other) set) (value c.both-both.result.scenes) c.both-both.ensures.scenes places lt in
+    let few = days_low value count g.S.BySet.most film c.args.party.now c.requires.party (just film newcomers (with 0 c.newcomer-one.result.actor) set) (value c.newcomer-one.result.days) c.newcomer-one.ensures.newcomer.days places lt in
+    let few_too = days_low value count g.S.BySet.most film c.args.party.now c.requires.party (just film newcomers (with 0 c.newcomer-other.result.actor) set) (value c.newcomer-other.result.days) c.newcomer-other.ensures.newcomer.days places lt in
+    let few_both = days_low value count g.S.BySet.most film c.args.party.now c.requires.party (just film newcomers (with (with 0 c.args.one) c.args.other) set) (value c.both-both.result.days) c.both-both.ensures.days places lt in
     omega (arith, few, few_too, few_both, c.plus.ensures places lt, c.copy_from.ensures places lt, c.requires.party.wide)
 
 pub leave-requires-clause-stage : goal.leave-requires-clause-stage
@@ -110,9 +102,9 @@ leave-requires-clause-awaited g c =
     let pair : ArePair newcomers one other
     = same_pair newcomers c.args.one c.args.other one other c.newcomer-one.ensures.actor c.newcomer-other.ensures.actor c.requires.pair in
     let both = same_both value count film c.args.party.now c.both-both.result c.args.one c.args.other one other c.newcomer-one.ensures.actor c.newcomer-other.ensures.actor c.both-both.ensures in
-    awaiting_both film set newcomers one other c.requires.party.company.small_set pair group count ones
-    (value c.newcomer-one.result.scenes) (value c.newcomer-other.result.scenes) (value c.both-both.result.scenes)
-    c.newcomer-one.ensures.newcomer.scenes c.newcomer-other.ensures.newcomer.scenes both.scenes (value c.plus-2.new.self)
+    awaiting_both film set newcomers one other c.requires.party.company.small_set pair group count film.days
+    (value c.newcomer-one.result.days) (value c.newcomer-other.result.days) (value c.both-both.result.days)
+    c.newcomer-one.ensures.newcomer.days c.newcomer-other.ensures.newcomer.days both.days (value c.plus-2.new.self)
     (λ places lt. omega (arith, c.plus-2.ensures places lt, c.plus.ensures places lt, c.copy_from.ensures places lt))
 
 pub leave-requires-clause-begun : goal.leave-requires-clause-begun
