@@ -2,10 +2,9 @@
 use Rattle.std.proofs.Common.{◌≡◌, ◌≢◌, ◌↔◌, ℕ, ◌<◌, Bool, true, false, cond, not, ◌&&◌, ◌||◌, eqb, List, [], ◌∷◌, IsTrue, Contains, fold, inl, inr, refl, sym, ap, ◌∙◌, subst}
 use Rattle.std.specs.List.{list_any}
 use Rattle.std.proofs.Math.Bool.{and-true, or_assoc, or_comm, or-false}
-use Rattle.std.proofs.lemmas.Bool.{cases_Bool, and_left, and_right, and_parts, eqb-true, eq-eqb}
+use Rattle.std.proofs.lemmas.Bool.{cases_Bool, and_left, and_right, and_parts, eqb-true, eq-eqb, and_from}
 use Rattle.strip_mask.specs.Set.{IsSet, has, with, meet, minus}
 use Rattle.strip_mask.proofs.ByMembers.{has-with, has-meet, has-minus, has-empty, has_from_minus, empty_from, same_has, some_member, below_64}
-use Rattle.strip_mask.proofs.Below.{and_true}
 use Rattle.strip_pay.specs.declared.pair.Pair.{Pair}
 use Rattle.strip_pay.specs.Film.{FilmData}
 use Rattle.strip_pay.specs.Pairs.{Precedes}
@@ -53,7 +52,7 @@ pub is_behind : (pairs : List Pair) (set scene first : ℕ) → has set first �
 is_behind pairs set scene first there precedes =
     let pair : Pair = record { first = first; then = scene } in
     has-behind pairs set scene
-    ∙ any_from (puts_behind set scene) pairs pair precedes (and_true (has set first) (eqb scene scene) there (eq-eqb scene scene refl))
+    ∙ any_from (puts_behind set scene) pairs pair precedes (and_from (has set first) (eqb scene scene) there (eq-eqb scene scene refl))
 
 -- a ready scene is in the set, and no scene of the set has to come before it
 pub ready_is : (film : FilmData) (set scene : ℕ) → has (ready film set) scene ≡ true → IsReady film set scene
@@ -69,7 +68,7 @@ ready_is film set scene member = record {
 pub is_ready : (film : FilmData) (set scene : ℕ) → IsReady film set scene → has (ready film set) scene ≡ true
 is_ready film set scene is =
     has-minus set (behind film.pairs set) scene
-    ∙ and_true (has set scene) (not (has (behind film.pairs set) scene)) is.member (ap not not_behind)
+    ∙ and_from (has set scene) (not (has (behind film.pairs set) scene)) is.member (ap not not_behind)
   where
     not_behind : has (behind film.pairs set) scene ≡ false
     not_behind = elim (cases_Bool (has (behind film.pairs set) scene)) [
@@ -91,7 +90,7 @@ ready_by_row : (film : FilmData) (set scene row : ℕ) → ((first : ℕ) → (h
 ready_by_row film set scene row tells there none = is_ready film set scene (record {
   member = there;
   first = λ earlier precedes. elim (cases_Bool (has set earlier)) [
-    | inl inside ↦ absurd (let e : has (meet row set) earlier ≡ true = has-meet row set earlier ∙ and_true (has row earlier) (has set earlier) ((tells earlier).1 precedes) inside in
+    | inl inside ↦ absurd (let e : has (meet row set) earlier ≡ true = has-meet row set earlier ∙ and_from (has row earlier) (has set earlier) ((tells earlier).1 precedes) inside in
         let f : has (meet row set) earlier ≡ false = subst (λ (q : ℕ). has q earlier ≡ false) (sym none) (has-empty earlier) in cc)
     | inr outside ↦ outside
   ];

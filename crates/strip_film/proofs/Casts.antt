@@ -2,11 +2,11 @@
 use Rattle.std.proofs.Common.{◌≡◌, ℕ, Bool, true, false, not, ◌||◌, List, [], ◌∷◌, length, Contains, fold, slice_index, inl, inr, sym, ap, ◌∙◌, subst}
 use Rattle.std.specs.List.{list_any}
 use Rattle.std.proofs.Math.Bool.{or_assoc, or-false}
-use Rattle.std.proofs.lemmas.Bool.{cases_lt, ltb-true}
+use Rattle.std.proofs.lemmas.Bool.{cases_lt, ltb-true, and_from}
 use Rattle.std.proofs.lemmas.List.{get_or_past}
 use Rattle.strip_mask.specs.Set.{IsSet, LiesBelow, has, union, minus, members}
 use Rattle.strip_mask.proofs.ByMembers.{has-union, has-minus, has-empty, has_from_minus, IsSet-minus}
-use Rattle.strip_mask.proofs.Below.{and_true, has-full, has_full, IsSet-full}
+use Rattle.strip_mask.proofs.Below.{has-full, has_full, IsSet-full}
 use Rattle.strip_mask.proofs.Members.{has_from_members, Contains-members}
 use Rattle.strip_pay.specs.Film.{FilmData}
 use Rattle.strip_pay.specs.Pay.{works}
@@ -50,7 +50,7 @@ pub is_called : (film : FilmData) (set actor : ℕ) → IsFilm film → WorksOut
 is_called film set actor is (scene, known, gone, working) =
     has_cast film (minus (all_scenes film) set) actor (IsSet-minus (all_scenes film) set (IsSet-full (length film.casts) is.scene_count.1)) (
       scene,
-      has-minus (all_scenes film) set scene ∙ and_true (has (all_scenes film) scene) (not (has set scene)) (has_full (length film.casts) scene known) (ap not gone),
+      has-minus (all_scenes film) set scene ∙ and_from (has (all_scenes film) scene) (not (has set scene)) (has_full (length film.casts) scene known) (ap not gone),
       working,
     )
 

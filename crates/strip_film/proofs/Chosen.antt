@@ -3,7 +3,8 @@ use Rattle.std.proofs.Common.{◌≡◌, ◌↔◌, ℕ, true, false, List, [], 
 use Rattle.std.proofs.lemmas.List.Elements.{Contains-append_left, Contains-push, Contains-push_cases}
 use Rattle.strip_mask.specs.Set.{has, with}
 use Rattle.strip_mask.proofs.ByMembers.{has-empty, has-with, has-with_same, has_from_with, same_has}
-use Rattle.strip_pay.proofs.Lists.{or_true, same_test}
+use Rattle.strip_mask.proofs.Agree.{same_test}
+use Rattle.std.proofs.Math.Bool.{or-true}
 
 -- the set has the numbers of the list that are chosen, and no other
 pub record IsChosen (chosen : ℕ) (done : List ℕ) (set : ℕ) : Type 0 where
@@ -26,7 +27,7 @@ IsChosen-with chosen done set i so_far here = record {
       | inr before ↦ (let both = (so_far.each x).0 before in (Contains-append_left done (i ∷ []) x both.0, both.1))
     ],
     λ both. elim (Contains-push_cases done i x both.0) [
-      | inl before ↦ has-with set i x ∙ rw ((so_far.each x).1 (before, both.1)) (or_true _)
+      | inl before ↦ has-with set i x ∙ rw ((so_far.each x).1 (before, both.1)) (or-true _)
       | inr same ↦ subst (λ (j : ℕ). has (with set i) j ≡ true) same (has-with_same set i)
     ],
   );

@@ -1,14 +1,12 @@
 -- Costs stay within the limits.
-use Rattle.std.proofs.Common.{◌≡◌, ℕ, ◌+◌, ◌*◌, ◌<◌, ◌≤◌, Bool, true, false, cond, not, List, [], ◌∷◌, length, sum, slice_index, ap, ◌∙◌, arith}
-use Rattle.std.proofs.lemmas.List.{take_all}
+use Rattle.std.proofs.Common.{◌≡◌, ℕ, ◌+◌, ◌*◌, ◌<◌, ◌≤◌, true, not, List, [], ◌∷◌, length, slice_index, ap, ◌∙◌, arith}
 use Rattle.std.proofs.lemmas.Nat.{mul-le}
 use Rattle.std.proofs.Math.Nat.{mul-le-mul_left}
 use Rattle.strip_mask.specs.Set.{IsSet, has, without, minus, sum_over}
-use Rattle.strip_mask.specs.Sums.{sum_below}
 use Rattle.strip_mask.proofs.ByMembers.{IsSet-without, has-minus, has_from_minus}
-use Rattle.strip_mask.proofs.Below.{and_true, has_full, IsSet-full}
-use Rattle.strip_mask.proofs.Sums.{sum_below_mono, sum_below-take}
-use Rattle.strip_mask.proofs.Totals.{sum_over_within, sum_over-without, sum_over_mono, value_le_sum_over}
+use Rattle.std.proofs.lemmas.Bool.{and_from}
+use Rattle.strip_mask.proofs.Below.{has_full, IsSet-full}
+use Rattle.strip_mask.proofs.Totals.{sum_over-without, sum_over_mono, value_le_sum_over, sum_over_le_sum}
 use Rattle.strip_pay.specs.Film.{FilmData}
 use Rattle.strip_film.specs.declared.limits.TheConstants.{MAX_DAY_SUM, MAX_RATE_SUM}
 use Rattle.strip_film.specs.Film.{IsFilm, all_scenes}
@@ -19,19 +17,6 @@ use Rattle.strip_film.proofs.Lists.{AllRemained}
 -- what all actors together get for a day at most, some for work and some for waiting
 abbrev pub most_a_day : ℕ
 most_a_day = MAX_RATE_SUM + MAX_RATE_SUM
-
--- the sum over a set is at most the whole sum
-pub sum_over_le_sum : (v : List ℕ) (set : ℕ) → length v ≤ 64 → sum_over v set ≤ sum v
-sum_over_le_sum v set few =
-    let split : sum_over v set ≡ sum_below 64 (λ i. cond (has set i) (slice_index v i) 0) = sum_over_within v set 64 (omega arith) few in
-    let more : sum_below 64 (λ i. cond (has set i) (slice_index v i) 0) ≤ sum_below 64 (slice_index v)
-    = sum_below_mono 64 (λ i. cond (has set i) (slice_index v i) 0) (slice_index v) (λ i lt. at_most (has set i) (slice_index v i)) in
-    let whole : sum_below 64 (slice_index v) ≡ sum v = sum_below-take v 64 ∙ ap sum (take_all 64 v few) in
-    omega (arith, split, more, whole)
-  where
-    at_most : (b : Bool) (x : ℕ) → cond b x 0 ≤ x
-    at_most true x = omega arith
-    at_most false x = omega arith
 
 -- whoever is paid, all together get at most this for a day
 pub rate_limit : (film : FilmData) (actors : ℕ) → IsFilm film → sum_over film.rates actors ≤ MAX_RATE_SUM
@@ -97,5 +82,5 @@ step_monotone film scene few many within =
     let waiting : sum_over film.holds (minus few cast) ≤ sum_over film.holds (minus many cast)
     = sum_over_mono film.holds (minus few cast) (minus many cast) (λ actor member.
     let parts = has_from_minus few cast actor member in
-    has-minus many cast actor ∙ and_true (has many actor) (not (has cast actor)) (within actor parts.0) (ap not parts.1)) in
+    has-minus many cast actor ∙ and_from (has many actor) (not (has cast actor)) (within actor parts.0) (ap not parts.1)) in
     mul-le-mul_left (slice_index film.days scene) (omega (arith, waiting))

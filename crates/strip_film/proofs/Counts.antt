@@ -1,50 +1,28 @@
 -- How many scenes of a set an actor works in, and who is on location by these numbers.
-use Rattle.std.proofs.Common.{◌≡◌, ℕ, zero, suc, ◌+◌, ◌≤◌, Bool, true, false, cond, not, eqb, ◌&&◌, ◌||◌, List, [], ◌∷◌, filter, length, slice_index, refl, sym, ap, ◌∙◌, arith, count_by, sum_by, inl, inr}
+use Rattle.std.proofs.Common.{◌≡◌, ℕ, ◌+◌, ◌≤◌, Bool, true, false, cond, not, eqb, ◌&&◌, ◌||◌, List, [], ◌∷◌, length, slice_index, refl, sym, ap, ◌∙◌, arith, count_by, inl, inr}
 use Rattle.std.specs.List.{list_any}
-use Rattle.std.proofs.lemmas.Bool.{and_right, cond-true, cond-false}
+use Rattle.std.proofs.lemmas.Bool.{and_right, and_from}
 use Rattle.std.proofs.lemmas.Bool.Decides.{nat_tests, eqb_tells}
-use Rattle.std.proofs.lemmas.List.Sums.{sum_by-append, sum_by-cons, count_by-le-length}
-use Rattle.strip_mask.specs.Set.{IsSet, has, union, meet, minus, without, numbers_below, members}
+use Rattle.std.proofs.lemmas.List.Sums.{sum_by-cons, count_by-le-length}
+use Rattle.strip_mask.specs.Set.{IsSet, has, union, meet, minus, without, members}
 use Rattle.strip_mask.specs.Sums.{sum_below}
-use Rattle.strip_mask.proofs.ByMembers.{has-union, has-meet, has-minus, has-without_same, has-without_other, below_64, same_has, meet_swap, IsSet-minus}
-use Rattle.strip_mask.proofs.Below.{and_true, has_full, IsSet-full, is_set_below}
-use Rattle.strip_mask.proofs.Sums.{sum_below-zero, sum_below-suc, sum_below-point}
-use Rattle.strip_mask.proofs.Members.{kept-more, members_is}
-use Rattle.strip_mask.proofs.Sizes.{length-members, size-le}
+use Rattle.strip_mask.proofs.ByMembers.{has-union, has-meet, has-minus, has-without_same, has-without_other, same_has, meet_swap, IsSet-minus}
+use Rattle.strip_mask.proofs.Below.{has_full, IsSet-full, is_set_below}
+use Rattle.strip_mask.proofs.Sizes.{length-members, size-le, mark}
 use Rattle.strip_pay.specs.Film.{FilmData}
 use Rattle.strip_pay.specs.Pay.{works}
 use Rattle.strip_film.specs.Film.{IsFilm, LiesIn, all_scenes}
 use Rattle.strip_film.specs.Shoot.{cast_of, on_location}
 use Rattle.strip_film.specs.Running.{scenes_with}
 use Rattle.strip_film.proofs.Casts.{has-cast_of}
-
--- one for a number that passes, else none
-abbrev pub mark : Bool → ℕ
-mark b = cond {A = ℕ} b 1 0
-
-count_kept : (p q : ℕ → Bool) (n : ℕ) → count_by p (filter q (numbers_below n)) ≡ sum_below n (λ i. cond {A = ℕ} (q i) (mark (p i)) 0)
-unfolding numbers_below
-count_kept p q zero = sym (sum_below-zero (λ i. cond {A = ℕ} (q i) (mark (p i)) 0))
-count_kept p q (suc n) =
-    ap (count_by p) (kept-more q n) ∙ sum_by-append (λ i. mark (p i)) (filter q (numbers_below n)) (cond (q n) (n ∷ []) [])
-    ∙ rw (count_kept p q n, sum_below-suc n (λ i. cond {A = ℕ} (q i) (mark (p i)) 0)) (ap (λ (x : ℕ). sum_below n (λ i. cond {A = ℕ} (q i) (mark (p i)) 0) + x) (one (q n)))
-  where
-    one : (b : Bool) → sum_by (λ i. mark (p i)) (cond b (n ∷ []) []) ≡ cond {A = ℕ} b (mark (p n)) 0
-    one true = omega arith
-    one false = refl
+use Rattle.strip_mask.proofs.Totals.{sum_members, sum_members-without}
 
 pub count_members : (p : ℕ → Bool) (a : ℕ) → count_by p (members a) ≡ sum_below 64 (λ i. cond {A = ℕ} (has a i) (mark (p i)) 0)
-count_members p a = ap (count_by p) (members_is a) ∙ count_kept p (has a) 64
+count_members p a = sum_members (λ i. mark (p i)) a
 
 -- without a member its mark is gone
 count-without : (p : ℕ → Bool) (a i : ℕ) → IsSet a → has a i ≡ true → count_by p (members (without a i)) + mark (p i) ≡ count_by p (members a)
-count-without p a i small member =
-    let value : ℕ → ℕ → ℕ = λ b j. cond {A = ℕ} (has b j) (mark (p j)) 0 in
-    let apart = sum_below-point 64 i (value a) (value (without a i)) (below_64 a i small member)
-    (λ j _ other. ap (λ (b : Bool). cond {A = ℕ} b (mark (p j)) 0) (sym (has-without_other a i j other))) in
-    let here : value a i ≡ mark (p i) = cond-true (has a i) (mark (p i)) 0 member in
-    let there : value (without a i) i ≡ 0 = cond-false (has (without a i) i) (mark (p i)) 0 (has-without_same a i) in
-    rw (count_members p a, count_members p (without a i)) (omega (arith, apart, here, there))
+count-without p a i small member = omega (arith, sum_members-without (λ j. mark (p j)) a i small member)
 
 pub count-le : (p : ℕ → Bool) (a : ℕ) → count_by p (members a) ≤ 64
 count-le p a = omega (arith, count_by-le-length p (members a), length-members a, size-le a)
@@ -102,7 +80,7 @@ module _ (film : FilmData) (set s : ℕ) (is : IsFilm film) (lies : LiesIn film 
 
   shot_then : has (minus (all_scenes film) (without set s)) s ≡ true
   shot_then = has-minus (all_scenes film) (without set s) s
-      ∙ and_true (has (all_scenes film) s) (not (has (without set s) s)) (has_full (length film.casts) s (lies s there)) (ap not (has-without_same set s))
+      ∙ and_from (has (all_scenes film) s) (not (has (without set s) s)) (has_full (length film.casts) s (lies s there)) (ap not (has-without_same set s))
 
   shot_before : without (minus (all_scenes film) (without set s)) s ≡ minus (all_scenes film) set
   shot_before = same_has (without (minus (all_scenes film) (without set s)) s) (minus (all_scenes film) set) (λ j. elim (eqb_tells s j) [

@@ -6,7 +6,7 @@ use Rattle.strip_mask.proofs.ByMembers.{IsSet-minus, IsSet-without}
 use Rattle.strip_mask.proofs.Members.{Contains-members, has_from_members}
 use Rattle.strip_mask.proofs.Sizes.{size-without, size-empty, empty_from_size}
 use Rattle.strip_pay.specs.Film.{FilmData}
-use Rattle.strip_pay.proofs.Lists.{contains_cases, contains_here, contains_later, contains_none}
+use Rattle.strip_mask.proofs.Lists.{contains_here, contains_later, contains_cases, contains_none}
 use Rattle.strip_film.specs.Film.{IsFilm}
 use Rattle.strip_film.specs.Shoot.{behind, ready, step_cost}
 use Rattle.strip_film.specs.Finish.{EachOnce, steps_cost, IsAtMostFinish, IsFinish, BeginsLeast}

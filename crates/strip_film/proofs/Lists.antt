@@ -6,7 +6,7 @@ use Rattle.strip_mask.proofs.ByMembers.{has-empty, has_from_minus, has_from_with
 use Rattle.strip_mask.proofs.Below.{LiesBelow-without}
 use Rattle.strip_mask.proofs.Sizes.{size-without}
 use Rattle.strip_pay.specs.Film.{FilmData}
-use Rattle.strip_pay.proofs.Lists.{contains_cases, contains_here, contains_later, contains_none}
+use Rattle.strip_mask.proofs.Lists.{contains_here, contains_later, contains_cases, contains_none}
 use Rattle.strip_film.specs.Film.{LiesIn}
 use Rattle.strip_film.specs.Shoot.{behind, ready, step_cost}
 use Rattle.strip_film.specs.Finish.{AreFirsts, Remained, rest_after, EachOnce, steps_cost}

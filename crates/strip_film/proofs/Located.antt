@@ -2,7 +2,8 @@
 use Rattle.std.proofs.Common.{◌≡◌, ◌↔◌, ℕ, true, length, ◌∙◌}
 use Rattle.strip_mask.specs.Set.{IsSet, LiesBelow, has, minus}
 use Rattle.strip_mask.proofs.ByMembers.{has-meet, has_from_meet}
-use Rattle.strip_mask.proofs.Below.{and_true, is_set_below, LiesBelow-minus}
+use Rattle.std.proofs.lemmas.Bool.{and_from}
+use Rattle.strip_mask.proofs.Below.{is_set_below, LiesBelow-minus}
 use Rattle.strip_pay.specs.Film.{FilmData}
 use Rattle.strip_film.specs.Film.{IsFilm, LiesIn, all_scenes}
 use Rattle.strip_film.specs.Shoot.{cast_of, on_location}
@@ -19,7 +20,7 @@ location_by_scenes film set actor is lies = (
   λ member. (let parts = has_from_meet (cast_of film set) (cast_of film (minus (all_scenes film) set)) actor member in
       (cast_has film set actor parts.0, called_is film set actor parts.1)),
   λ both. has-meet (cast_of film set) (cast_of film (minus (all_scenes film) set)) actor
-      ∙ and_true (has (cast_of film set) actor) (has (cast_of film (minus (all_scenes film) set)) actor)
+      ∙ and_from (has (cast_of film set) actor) (has (cast_of film (minus (all_scenes film) set)) actor)
       (has_cast film set actor (is_set_below (length film.casts) set is.scene_count.1 lies) both.0)
       (is_called film set actor is both.1),
 )

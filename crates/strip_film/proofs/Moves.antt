@@ -17,7 +17,8 @@ use Rattle.strip_film.specs.Running.{RunningData, IsRunning, scenes_with}
 use Rattle.strip_film.proofs.Lists.{AllRemained, AllRemained-from_ready, ready_there, rest_after-append}
 use Rattle.strip_film.proofs.Casts.{cast_lies}
 use Rattle.strip_film.proofs.Paths.{rest_lies, IsPath-extended}
-use Rattle.strip_film.proofs.Counts.{mark, count-le, left_moves, done_moves, located_taken, located_back}
+use Rattle.strip_mask.proofs.Sizes.{mark}
+use Rattle.strip_film.proofs.Counts.{count-le, left_moves, done_moves, located_taken, located_back}
 
 -- the list but for its last scene, and that scene
 pub AreFirsts-split : (firsts : ℕ → ℕ) (set s : ℕ) (scenes : List ℕ) → AreFirsts firsts set (scenes ++ s ∷ [])

@@ -1,11 +1,10 @@
 -- A running state at the start, and along a path.
 use Rattle.std.proofs.Common.{◌≡◌, ◌↔◌, ℕ, ◌+◌, ◌<◌, Bool, true, false, not, eqb, ◌&&◌, List, [], ◌∷◌, ◌++◌, length, take, drop, replicate, slice_index, count_by, inl, inr, refl, sym, ap, ◌∙◌, subst, arith}
-use Rattle.std.proofs.lemmas.Bool.{and_parts, and_right, cases_lt, ne_eqb}
+use Rattle.std.proofs.lemmas.Bool.{and_parts, and_right, ne_eqb, and_from}
 use Rattle.std.proofs.lemmas.Bool.Decides.{eqb_tells}
-use Rattle.std.proofs.lemmas.List.{get_or-replicate, get_or_past, length-replicate, take_more, take-append-drop}
+use Rattle.std.proofs.lemmas.List.{take_more, take-append-drop}
 use Rattle.strip_mask.specs.Set.{has, minus, without}
 use Rattle.strip_mask.proofs.ByMembers.{has-minus, empty_from}
-use Rattle.strip_mask.proofs.Below.{and_true}
 use Rattle.strip_mask.proofs.Members.{members-empty}
 use Rattle.strip_pay.specs.Film.{FilmData}
 use Rattle.strip_pay.specs.Pay.{works}
@@ -16,12 +15,7 @@ use Rattle.strip_film.specs.Path.{PathData, IsPath}
 use Rattle.strip_film.specs.Running.{RunningData, IsRunning, scenes_with}
 use Rattle.strip_film.proofs.Counts.{located_by_counts}
 use Rattle.strip_film.proofs.Moves.{AreFirsts-split}
-
-zeros : (n i : ℕ) → slice_index (replicate n 0) i ≡ 0
-zeros n i = elim (cases_lt i n) [
-  | inl within ↦ get_or-replicate n i 0 0 within
-  | inr past ↦ get_or_past (replicate n 0) i 0 (omega (arith, past, length-replicate {A = ℕ} n 0))
-]
+use Rattle.strip_mask.proofs.Lists.{zeros}
 
 none_shot : (film : FilmData) → minus (all_scenes film) (all_scenes film) ≡ 0
 none_shot film = empty_from (minus (all_scenes film) (all_scenes film)) (λ j. has-minus (all_scenes film) (all_scenes film) j ∙ apart (has (all_scenes film) j))
@@ -101,6 +95,6 @@ counts_tell film state actor running of_film =
     ∙ rw (running.left actor of_film, running.done actor of_film) (located_by_counts film state.path.rest actor) in (
       λ member. (let parts = and_parts (not (eqb (slice_index state.left actor) 0)) (not (eqb (slice_index state.done actor) 0)) (sym located ∙ member) in
           (above (slice_index state.done actor) parts.1, above (slice_index state.left actor) parts.0)),
-      λ some. located ∙ and_true (not (eqb (slice_index state.left actor) 0)) (not (eqb (slice_index state.done actor) 0))
+      λ some. located ∙ and_from (not (eqb (slice_index state.left actor) 0)) (not (eqb (slice_index state.done actor) 0))
           (above_is (slice_index state.left actor) some.1) (above_is (slice_index state.done actor) some.0),
     )

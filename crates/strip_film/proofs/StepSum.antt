@@ -11,7 +11,9 @@ use Rattle.strip_mask.proofs.Sums.{sum_below-none, sum_below-ext, sum_below-add,
 use Rattle.strip_mask.proofs.Totals.{sum_over_below}
 use Rattle.strip_pay.specs.Film.{FilmData}
 use Rattle.strip_pay.specs.Pay.{works, day_pay, pay_of}
-use Rattle.strip_pay.proofs.Lists.{any_from, any_is, or_true, same_test}
+use Rattle.strip_mask.proofs.Agree.{same_test}
+use Rattle.std.proofs.Math.Bool.{or-true}
+use Rattle.strip_pay.proofs.Lists.{any_from, any_is}
 use Rattle.strip_film.specs.Film.{IsFilm, LiesIn, all_scenes}
 use Rattle.strip_film.specs.Shoot.{cast_of, on_location, step_cost}
 use Rattle.strip_film.specs.Finish.{steps_cost}
@@ -52,7 +54,7 @@ module _ (film : FilmData) (is : IsFilm film) where
     where
       onward : WorksOutside film (without set s) actor → (called set actor || works film actor s) ≡ true
       onward (x, known, gone, working) = elim (eqb_tells s x) [
-        | inl same ↦ rw (subst (λ (i : ℕ). works film actor i ≡ true) (sym same.1) working) (or_true (called set actor))
+        | inl same ↦ rw (subst (λ (i : ℕ). works film actor i ≡ true) (sym same.1) working) (or-true (called set actor))
         | inr other ↦ (let earlier : called set actor ≡ true = is_called film set actor is (x, known, sym (has-without_other set s x other.1) ∙ gone, working) in
             rw earlier refl)
       ]

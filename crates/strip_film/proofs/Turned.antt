@@ -1,4 +1,5 @@
 -- The turns of a `for` over a cast.
+use Rattle.std.proofs.Math.Bool.{or-false}
 use Rattle.std.proofs.Common.{◌≡◌, ◌≢◌, Contains, ℕ, ◌+◌, ◌<◌, ◌≤◌, Bool, true, false, cond, eqb, ◌&&◌, ◌||◌, List, [], ◌∷◌, ◌++◌, length, set, slice_index, count_by, inl, inr, refl, sym, ap, ◌∙◌, subst, arith}
 use Rattle.std.specs.List.{list_any}
 use Rattle.std.proofs.lemmas.Bool.{cases_lt, eq-eqb, eqb-true, ne_eqb}
@@ -11,9 +12,11 @@ use Rattle.strip_mask.specs.Sums.{sum_below}
 use Rattle.strip_mask.proofs.ByMembers.{has-empty, has-past, has-with_same, has-with_other}
 use Rattle.strip_mask.proofs.Sums.{sum_below-none, sum_below-point}
 use Rattle.strip_mask.proofs.Members.{has_from_members, Contains-members}
-use Rattle.strip_pay.proofs.Lists.{any_from, any_is, same_test}
+use Rattle.strip_mask.proofs.Agree.{same_test}
+use Rattle.strip_pay.proofs.Lists.{any_from, any_is}
 use Rattle.strip_pay.proofs.Counts.{count, count-cons, tie-same, tie-other}
-use Rattle.strip_film.proofs.Counts.{mark, count_members, count-le}
+use Rattle.strip_mask.proofs.Sizes.{mark}
+use Rattle.strip_film.proofs.Counts.{count_members, count-le}
 
 -- a set's list has each of its numbers once
 pub count_once : (a j : ℕ) → IsSet a → count j (members a) ≡ mark (has a j)
@@ -76,11 +79,7 @@ found_none test j = has-empty j
 
 pushed : (test : ℕ → Bool) (done : List ℕ) (i j : ℕ) (b : Bool) → eqb j i ≡ b
     → (list_any (eqb j) (done ++ i ∷ []) && test j) ≡ ((list_any (eqb j) done || b) && test j)
-pushed test done i j b is = ap (λ (c : Bool). c && test j) (list_any-append (eqb j) done (i ∷ []) ∙ ap (λ (c : Bool). list_any (eqb j) done || c) (alone (eqb j i) ∙ is))
-  where
-    alone : (b : Bool) → (b || false) ≡ b
-    alone true = refl
-    alone false = refl
+pushed test done i j b is = ap (λ (c : Bool). c && test j) (list_any-append (eqb j) done (i ∷ []) ∙ ap (λ (c : Bool). list_any (eqb j) done || c) (or-false (eqb j i) ∙ is))
 
 or_false : (a b : Bool) → (a && b) ≡ ((a || false) && b)
 or_false true b = refl
@@ -132,11 +131,3 @@ turn_count p a i done rest left all here =
     let whole : count_by p (members a) ≡ count_by p done + count_by p (i ∷ left)
     = ap (count_by p) (sym all ∙ ap (λ (xs : List ℕ). done ++ xs) here) ∙ sum_by-append (λ j. mark (p j)) done (i ∷ left) in
     omega (arith, whole, sum_by-cons (λ j. mark (p j)) i left, count-le p a)
-
--- a table with one value more
-pub filled_more : (f : ℕ → ℕ) (table : List ℕ) (i x : ℕ) → i < length table → x ≡ f i
-    → ((j : ℕ) → j < i → slice_index table j ≡ f j) → (j : ℕ) → j < i + 1 → slice_index (set table i x) j ≡ f j
-filled_more f table i x within is are j below = elim (eqb_tells i j) [
-  | inl same ↦ subst (λ (k : ℕ). slice_index (set table i x) k ≡ f k) same.1 (get_or-set_same table i x 0 within ∙ is)
-  | inr other ↦ get_or-set_other table i j x 0 (λ same. other.1 (sym same)) ∙ are j (omega (arith, below, other.1))
-]

@@ -1,5 +1,6 @@
 -- Which names are held, and with what bytes, after a name was put.
-use Rattle.std.proofs.Common.{◌≡◌, ◌≢◌, ℕ, ◌+◌, ◌<◌, Some, ◌↔◌, Bool, true, false, ◌||◌, List, [], ◌∷◌, ◌++◌, length, get_or, take, map, string_bytes, String, Global, IsTrue, inl, inr, refl, sym, ◌∙◌, ap, subst}
+use Rattle.std.proofs.Math.Bool.{or-true}
+use Rattle.std.proofs.Common.{◌≡◌, ◌≢◌, ℕ, ◌+◌, ◌<◌, Some, ◌↔◌, ◌||◌, List, [], ◌∷◌, ◌++◌, length, get_or, take, map, string_bytes, String, Global, IsTrue, inl, inr, refl, sym, ◌∙◌, ap, subst}
 use Rattle.std.specs.List.{Contains}
 use Rattle.std.specs.Option.{option_map, unwrap_or}
 use Rattle.std.specs.Str.{bytes_eq}
@@ -8,10 +9,6 @@ use Rattle.std.proofs.lemmas.List.{map_more}
 use Rattle.std.proofs.lemmas.List.Elements.{Contains-append_left, Contains-push, Contains-push_cases}
 use Rattle.std.proofs.lemmas.Slice.Eq.{bytes_eq-Decides}
 use Rattle.strip_io.specs.Held.{HeldFile, found, is_held, bytes_of, faults_of, came_of, put}
-
-or_true : (b : Bool) → (b || true) ≡ true
-or_true true = refl
-or_true false = refl
 
 -- the put name is held, and the others as before
 pub held_put : (files : List HeldFile) (word bytes name : List ℕ) → is_held (put files word bytes) name ≡ (bytes_eq word name || is_held files name)
@@ -27,7 +24,7 @@ held_put (file ∷ files) word bytes name = elim (cases_Bool (bytes_eq file.name
         | inr other ↦ rw other refl
       ])
   | inr apart ↦ rw apart (elim (cases_Bool (bytes_eq file.name name)) [
-    | inl here ↦ rw here (sym (or_true (bytes_eq word name)))
+    | inl here ↦ rw here (sym (or-true (bytes_eq word name)))
     | inr other ↦ rw other (held_put files word bytes name)
   ])
 ]
@@ -66,7 +63,7 @@ held_more files seen word bytes held name =
         | inr was ↦ Contains-append_left seen (word ∷ []) name ((held name).0 was)
       ],
       λ among. after ∙ elim (Contains-push_cases seen word name among) [
-        | inl was ↦ rw ((held name).1 was) (or_true (bytes_eq word name))
+        | inl was ↦ rw ((held name).1 was) (or-true (bytes_eq word name))
         | inr same ↦ rw ((bytes_eq-Decides word name).1 same) refl
       ],
     )

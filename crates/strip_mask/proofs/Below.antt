@@ -1,13 +1,12 @@
 -- All numbers below a limit, and sets of such numbers.
 use Rattle.std.proofs.Common.{◌≡◌, ◌↔◌, ℕ, zero, suc, ◌+◌, ◌<◌, ◌≤◌, Bool, true, false, not, ◌&&◌, ltb, inl, inr, refl, sym, ap, ◌∙◌, subst, arith, add-one}
+pub use Rattle.std.proofs.lemmas.Bool.{and_from as and_true}
 use Rattle.std.proofs.lemmas.Bool.{cases_lt, le-ltb, lt-ltb, ltb-true}
 use Rattle.std.proofs.lemmas.Bool.Decides.{nat_tests}
 use Rattle.strip_mask.specs.Set.{IsSet, has, with, without, meet, minus, size, full, LiesBelow}
 use Rattle.strip_mask.proofs.ByMembers.{has-with, has-meet, has-minus, has-empty, has_from_minus, has_from_without, empty_from, IsSet-empty, IsSet-with, IsSet-meet_right, same_has}
 use Rattle.strip_mask.proofs.Sizes.{size-empty, size-with}
-
-pub and_true : (a b : Bool) → a ≡ true → b ≡ true → (a && b) ≡ true
-and_true a b p q = rw (p, q) refl
+use Rattle.strip_mask.proofs.Agree.{and_implied}
 
 pub full-zero : full 0 ≡ 0
 unfolding full
@@ -38,15 +37,11 @@ IsSet-full (suc n) small = rw (full-suc n) (IsSet-with (full n) n (IsSet-full n 
 -- a set of numbers below 64 is a mask of 64 bits
 pub is_set_below : (n set : ℕ) → n ≤ 64 → LiesBelow n set → IsSet set
 is_set_below n set small lies =
-    subst IsSet (sym (same_has set (meet set (full 64)) (λ i. kept (has set i) (ltb i 64) (λ there. lt-ltb i 64 (below i there)) ∙ sym (has-meet set (full 64) i ∙ ap (λ (b : Bool). has set i && b) (has-full 64 i)))))
+    subst IsSet (sym (same_has set (meet set (full 64)) (λ i. and_implied (has set i) (ltb i 64) (λ there. lt-ltb i 64 (below i there)) ∙ sym (has-meet set (full 64) i ∙ ap (λ (b : Bool). has set i && b) (has-full 64 i)))))
     (IsSet-meet_right set (full 64) (IsSet-full 64 (omega arith)))
   where
     below : (i : ℕ) → has set i ≡ true → i < 64
     below i there = let limit : i < n = lies i there in omega (arith, small, limit)
-
-    kept : (a b : Bool) → (a ≡ true → b ≡ true) → a ≡ (a && b)
-    kept true b within = sym (within refl)
-    kept false b within = refl
 
 -- a set lies below n where nothing is left of it without the numbers below n
 pub lies_by_minus : (n set : ℕ) → (minus set (full n) ≡ 0) ↔ LiesBelow n set

@@ -1,12 +1,14 @@
 -- The laws of sets by their members: no proof above looks into a mask.
 use Rattle.std.proofs.Common.{◌≡◌, ◌≢◌, ℕ, ◌+◌, ◌-◌, ◌*◌, ◌/◌, ◌%◌, ◌^◌, ◌<◌, ◌≤◌, ◌⊎◌, Bool, true, false, not, ◌&&◌, ◌||◌, eqb, sym, ap, ◌∙◌, inl, inr, arith, refl, bit_and}
 use Rattle.std.specs.Int.{bit_at, bit_not, w64, trailing_zeros}
+use Rattle.std.proofs.Math.Bool.{and_comm, and_self, and-true, or_comm}
 use Rattle.std.proofs.Math.Nat.{mod_self}
 use Rattle.std.proofs.lemmas.Nat.{or_lt, xor_lt, and_le_l, and_le_r, and_block, and_mask, mod_below, pow_below, pow_pos, shr_split}
 use Rattle.std.proofs.lemmas.Nat.Bits.{bit_at_and, bit_at_or, bit_at_xor, bit_at-lt, bit_at-zero, bit_at_above, bit_at_cat_low, bit_at_cat_high, bit_at_not, bit_at-trailing_zeros, same_from_bits, same_from_bits_below}
 use Rattle.std.proofs.lemmas.Bool.{and_parts, and_right, cases_lt, eq-eqb, eqb-false, false≢true, ne_eqb, not-true, or_cases}
 use Rattle.std.proofs.lemmas.Bool.Decides.{eqb_tells}
 use Rattle.strip_mask.specs.Set.{IsSet, has, union, meet, minus, with, without}
+use Rattle.strip_mask.proofs.Agree.{and_turned}
 use Rattle.strip_mask.proofs.Bits.{or_test, and_test, minus_test, not_test, same_bit, has_is, has-pow, has_from_bit, has_not_from_bit}
 
 -- ---- what the made sets have
@@ -26,29 +28,15 @@ pub has-minus : (a b i : ℕ) → has (minus a b) i ≡ (has a i && not (has b i
 unfolding has minus
 has-minus a b i = rw (bit_at_xor a (bit_and a b) i, bit_at_and a b i) (minus_test (bit_at a i) (bit_at b i) (bit_at-lt a i) (bit_at-lt b i))
 
--- the order of `||` is free
-pub or_swapped : (x y : Bool) → (x || y) ≡ (y || x)
-or_swapped true true = refl
-or_swapped true false = refl
-or_swapped false true = refl
-or_swapped false false = refl
-
--- and that of `&&`
-and_swapped : (x y : Bool) → (x && y) ≡ (y && x)
-and_swapped true true = refl
-and_swapped true false = refl
-and_swapped false true = refl
-and_swapped false false = refl
-
 -- a set with i has i, and what it had
 pub has-with : (a i j : ℕ) → has (with a i) j ≡ (eqb i j || has a j)
 unfolding with
-has-with a i j = has-union a (2 ^ i) j ∙ rw (has-pow i j) (or_swapped (has a j) (eqb i j))
+has-with a i j = has-union a (2 ^ i) j ∙ rw (has-pow i j) (or_comm (has a j) (eqb i j))
 
 -- a set without i has what it had, but for i
 pub has-without : (a i j : ℕ) → has (without a i) j ≡ (not (eqb i j) && has a j)
 unfolding without
-has-without a i j = has-minus a (2 ^ i) j ∙ rw (has-pow i j) (and_swapped (has a j) (not (eqb i j)))
+has-without a i j = has-minus a (2 ^ i) j ∙ rw (has-pow i j) (and_comm (has a j) (not (eqb i j)))
 
 -- a number that was put in is there
 pub has-with_same : (a i : ℕ) → has (with a i) i ≡ true
@@ -89,6 +77,9 @@ has_from_minus a b i member = let both = and_parts (has a i) (not (has b i)) (sy
 -- the empty set has no number
 pub has-empty : (i : ℕ) → has 0 i ≡ false
 has-empty i = has_not_from_bit 0 i (bit_at-zero i)
+
+pub empty_has : (i : ℕ) → has 0 i ≡ true → ⊥
+empty_has i there = false≢true (sym (has-empty i) ∙ there)
 
 -- no set has a number from 64 on
 pub has-past : (a i : ℕ) → IsSet a → 64 ≤ i → has a i ≡ false
@@ -194,11 +185,26 @@ minus_and_meet a b = same_has (union (minus a b) (meet a b)) a (λ i. has-union 
 
 -- the order of a union is free
 pub union_swap : (a b : ℕ) → union a b ≡ union b a
-union_swap a b = same_has (union a b) (union b a) (λ i. has-union a b i ∙ or_swapped (has a i) (has b i) ∙ sym (has-union b a i))
+union_swap a b = same_has (union a b) (union b a) (λ i. has-union a b i ∙ or_comm (has a i) (has b i) ∙ sym (has-union b a i))
 
 -- and that of a meet
 pub meet_swap : (a b : ℕ) → meet a b ≡ meet b a
-meet_swap a b = same_has (meet a b) (meet b a) (λ i. has-meet a b i ∙ and_swapped (has a i) (has b i) ∙ sym (has-meet b a i))
+meet_swap a b = same_has (meet a b) (meet b a) (λ i. has-meet a b i ∙ and_comm (has a i) (has b i) ∙ sym (has-meet b a i))
+
+-- nothing is taken away
+pub minus_none : (a : ℕ) → minus a 0 ≡ a
+minus_none a = same_has (minus a 0) a (λ i. has-minus a 0 i ∙ ap (λ (b : Bool). has a i && not b) (has-empty i) ∙ and-true (has a i))
+
+-- two numbers taken out, in either order
+pub without_swap : (set i j : ℕ) → without (without set i) j ≡ without (without set j) i
+without_swap set i j = same_has (without (without set i) j) (without (without set j) i) (λ k. twice i j k ∙ and_turned (not (eqb j k)) (not (eqb i k)) (has set k) ∙ sym (twice j i k))
+  where
+    twice : (a b k : ℕ) → has (without (without set a) b) k ≡ (not (eqb b k) && (not (eqb a k) && has set k))
+    twice a b k = has-without (without set a) b k ∙ ap (λ (t : Bool). not (eqb b k) && t) (has-without set a k)
+
+-- what the set has not, it has not without another number
+pub still_out : (set x i : ℕ) → has set i ≡ false → has (without set x) i ≡ false
+still_out set x i out = has-without set x i ∙ and_right (not (eqb x i)) (has set i) out
 
 -- ---- the code's forms
 
@@ -223,11 +229,7 @@ some_member a small some = let lowest = lowest_is a (omega arith) small in (trai
 -- a mask and itself
 meet_itself : (a : ℕ) → bit_and a a ≡ a
 unfolding meet
-meet_itself a = same_has (bit_and a a) a (λ i. has-meet a a i ∙ one (has a i))
-  where
-    one : (x : Bool) → (x && x) ≡ x
-    one true = refl
-    one false = refl
+meet_itself a = same_has (bit_and a a) a (λ i. has-meet a a i ∙ and_self (has a i))
 
 -- above its least member, a set has a multiple of the next power of two
 low_part : (a i : ℕ) → has a i ≡ true → ((j : ℕ) → j < i → has a j ≡ false) → a % 2 ^ (i + 1) ≡ 2 ^ i

@@ -1,3 +1,6 @@
+pub mod Agree
+pub mod Lists
+pub mod Least
 pub mod Bits
 pub mod ByMembers
 pub mod Sums

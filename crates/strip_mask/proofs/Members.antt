@@ -1,10 +1,10 @@
 -- The list of a set's members.
-use Rattle.std.proofs.Common.{◌≡◌, ℕ, zero, suc, ◌+◌, ◌<◌, Bool, true, false, cond, not, ◌&&◌, eqb, [], ◌∷◌, ◌++◌, length, filter, All, Contains, sym, ap, ◌∙◌, inl, inr, arith, refl, get_or, length-append}
+use Rattle.std.proofs.Common.{◌≡◌, ℕ, zero, suc, ◌+◌, ◌<◌, Bool, true, false, cond, not, ◌&&◌, eqb, [], ◌∷◌, ◌++◌, length, filter, All, Contains, sym, ap, ◌∙◌, inl, inr, arith, refl, subst, get_or, length-append}
 use Rattle.std.proofs.Math.ListN.{get_or-append}
 use Rattle.std.proofs.Math.Seq.{get_or-append_seam}
 use Rattle.std.specs.List.Sorted.{IsStrictlyIncreasing}
 use Rattle.std.proofs.lemmas.Bool.{cases_eq, ne_eqb, and_left, and_right, not_from_true, eq-eqb}
-use Rattle.std.proofs.lemmas.List.Elements.{filter-append, filter_passes, All-filter, All-push, All-nil, All-weaker, All-contains, Contains-append_left, Contains-push}
+use Rattle.std.proofs.lemmas.List.Elements.{filter-append, filter_passes, All-filter, All-push, All-nil, All-weaker, All-contains, Contains-append_left, Contains-get_or, Contains-push}
 use Rattle.std.proofs.lemmas.List.Kept.{IsStrictlyIncreasing-filter}
 use Rattle.strip_mask.specs.Set.{IsSet, has, without, numbers_below, members}
 use Rattle.strip_mask.proofs.ByMembers.{has-without, has-empty, below_64}
@@ -77,8 +77,13 @@ number_at (suc n) k lt =
       | inr other ↦ get_or-append (numbers_below n) (n ∷ []) 0 k (omega arith) ∙ number_at n k (omega arith)
     ]
 
--- so they rise
-numbers_rise : (n : ℕ) → IsStrictlyIncreasing (numbers_below n)
+-- so each number below n is one of them
+pub contains_number : (n i : ℕ) → i < n → Contains (numbers_below n) i
+contains_number n i lt =
+    subst (λ k. Contains (numbers_below n) k) (number_at n i lt) (Contains-get_or (numbers_below n) i 0 (omega (arith, lt, length-numbers_below n)))
+
+-- they rise
+pub numbers_rise : (n : ℕ) → IsStrictlyIncreasing (numbers_below n)
 numbers_rise n k lt =
     let long : length (numbers_below n) ≡ n = length-numbers_below n in
     rw (number_at n k (omega arith), number_at n (k + 1) (omega arith)) (omega arith)

@@ -16,6 +16,10 @@ use Rattle.strip_mask.proofs.Members.{kept-more, members_is, members-empty, memb
 abbrev pub mark : Bool → ℕ
 mark b = cond b 1 0
 
+pub mark_le : (x y : Bool) → (x ≡ true → y ≡ true) → mark x ≤ mark y
+mark_le true y e = rw (e refl) (omega arith)
+mark_le false y e = omega arith
+
 -- how many numbers pass a test
 length_kept : (p : ℕ → Bool) (n : ℕ) → length (filter p (numbers_below n)) ≡ sum_below n (λ i. mark (p i))
 unfolding numbers_below
@@ -88,11 +92,7 @@ size-minus a b = sym (size-union (minus a b) (meet a b) (λ i alone. has-meet a 
 
 -- a set whose members are all in another is no larger
 pub size_mono : (a b : ℕ) → ((i : ℕ) → has a i ≡ true → has b i ≡ true) → size a ≤ size b
-size_mono a b each = rw (size_is a, size_is b) (sum_below_mono 64 (λ i. mark (has a i)) (λ i. mark (has b i)) (λ i _. no_more (has a i) (has b i) (each i)))
-  where
-    no_more : (x y : Bool) → (x ≡ true → y ≡ true) → mark x ≤ mark y
-    no_more true y e = rw (e refl) (omega arith)
-    no_more false y e = omega arith
+size_mono a b each = rw (size_is a, size_is b) (sum_below_mono 64 (λ i. mark (has a i)) (λ i. mark (has b i)) (λ i _. mark_le (has a i) (has b i) (each i)))
 
 -- a set of size 0 is the empty one
 pub empty_from_size : (a : ℕ) → IsSet a → size a ≡ 0 → a ≡ 0

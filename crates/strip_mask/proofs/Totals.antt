@@ -1,18 +1,18 @@
 -- The laws of the sum of a list's values at the members of a set.
-use Rattle.std.proofs.Common.{◌≡◌, ℕ, zero, suc, ◌+◌, ◌*◌, ◌<◌, ◌≤◌, Bool, true, false, cond, ◌||◌, List, [], ◌∷◌, length, filter, All, get_or, sum_by, slice_index, sym, ap, ◌∙◌, inl, inr, arith, refl}
+use Rattle.std.proofs.Common.{◌≡◌, ℕ, zero, suc, ◌+◌, ◌*◌, ◌<◌, ◌≤◌, Bool, true, false, cond, ◌||◌, List, [], ◌∷◌, length, filter, All, get_or, sum, sum_by, slice_index, sym, ap, ◌∙◌, inl, inr, arith, refl}
 use Rattle.std.proofs.lemmas.Bool.{and_right, cases_Bool, eq-eqb, ne_eqb, cases_lt, cond-true, cond-false}
-use Rattle.std.proofs.lemmas.List.Sums.{sum_by-append, sum_by-le}
+use Rattle.std.proofs.lemmas.List.Sums.{sum_by-append, sum_by-cons, sum_by-le}
 use Rattle.std.proofs.lemmas.List.{get_or_past}
 use Rattle.strip_mask.specs.Set.{IsSet, has, union, meet, minus, with, without, numbers_below, members, size, sum_over}
 use Rattle.strip_mask.specs.Sums.{sum_below}
-use Rattle.strip_mask.proofs.ByMembers.{has-union, has-meet, has_from_minus, minus_and_meet, has-with, has-without, below_64}
-use Rattle.strip_mask.proofs.Sums.{sum_below-zero, sum_below-suc, sum_below-ext, sum_below-add, sum_below_mono, sum_below-past, sum_below-point}
+use Rattle.strip_mask.proofs.ByMembers.{has-union, has-meet, has_from_minus, minus_and_meet, has-with, has-without, has-without_other, has-without_same, below_64}
+use Rattle.strip_mask.proofs.Sums.{sum_below-zero, sum_below-suc, sum_below-ext, sum_below-add, sum_below_mono, sum_below-past, sum_below-point, sum_below-slice}
 use Rattle.std.proofs.lemmas.Nat.{mul-le}
 use Rattle.strip_mask.proofs.Sizes.{size-le}
 use Rattle.strip_mask.proofs.Members.{kept-more, members_is, members-empty}
 
 -- the sum of the values at the numbers that pass a test
-sum_kept : (f : ℕ → ℕ) (p : ℕ → Bool) (n : ℕ) → sum_by f (filter p (numbers_below n)) ≡ sum_below n (λ i. cond (p i) (f i) 0)
+pub sum_kept : (f : ℕ → ℕ) (p : ℕ → Bool) (n : ℕ) → sum_by f (filter p (numbers_below n)) ≡ sum_below n (λ i. cond (p i) (f i) 0)
 unfolding numbers_below
 sum_kept f p zero = sym (sum_below-zero (λ i. cond (p i) (f i) 0))
 sum_kept f p (suc n) =
@@ -22,6 +22,45 @@ sum_kept f p (suc n) =
     one true = omega arith
     one false = refl
 
+-- the sum over those of a list that pass, as a sum over all
+pub sum_filter : (f : ℕ → ℕ) (p : ℕ → Bool) (xs : List ℕ) → sum_by f (filter p xs) ≡ sum_by (λ x. cond (p x) (f x) 0) xs
+sum_filter f p [] = refl
+sum_filter f p (x ∷ xs) =
+    by_test (p x) ∙ ap (λ (n : ℕ). cond (p x) (f x) 0 + n) (sum_filter f p xs) ∙ sym (sum_by-cons (λ x. cond (p x) (f x) 0) x xs)
+  where
+    by_test : (b : Bool) → sum_by f (cond b (x ∷ filter p xs) (filter p xs)) ≡ cond b (f x) 0 + sum_by f (filter p xs)
+    by_test true = sum_by-cons f x (filter p xs)
+    by_test false = omega arith
+
+-- the sum over the members of a set
+pub sum_members : (f : ℕ → ℕ) (a : ℕ) → sum_by f (members a) ≡ sum_below 64 (λ i. cond (has a i) (f i) 0)
+sum_members f a = ap (sum_by f) (members_is a) ∙ sum_kept f (has a) 64
+
+-- a member's value and the sum over the others
+pub sum_members-without : (f : ℕ → ℕ) (a i : ℕ) → IsSet a → has a i ≡ true → sum_by f (members a) ≡ f i + sum_by f (members (without a i))
+sum_members-without f a i small there =
+    let all : ℕ → ℕ = λ j. cond (has a j) (f j) 0 in
+    let others : ℕ → ℕ = λ j. cond (has (without a i) j) (f j) 0 in
+    let apart : sum_below 64 all + others i ≡ sum_below 64 others + all i
+    = sum_below-point 64 i all others (below_64 a i small there) (λ j _ other. ap (λ b. cond b (f j) 0) (sym (has-without_other a i j other))) in
+    let here : all i ≡ f i = ap (λ b. cond b (f i) 0) there in
+    let gone : others i ≡ 0 = ap (λ b. cond b (f i) 0) (has-without_same a i) in
+    omega (arith, apart, here, gone, sum_members f a, sum_members f (without a i))
+
+-- the sum over a list by a greater function
+pub sum_by_mono : (f g : ℕ → ℕ) (xs : List ℕ) → ((x : ℕ) → f x ≤ g x) → sum_by f xs ≤ sum_by g xs
+sum_by_mono f g [] le = omega arith
+sum_by_mono f g (x ∷ xs) le = omega (arith, sum_by_mono f g xs le, le x, sum_by-cons f x xs, sum_by-cons g x xs)
+
+-- a number that counts by a test
+pub cond_le : (b c : Bool) (n : ℕ) → (b ≡ true → c ≡ true) → cond b n 0 ≤ cond c n 0
+cond_le true c n more = rw (more refl) (omega arith)
+cond_le false c n more = omega arith
+
+pub cond_most : (b : Bool) (n : ℕ) → cond b n 0 ≤ n
+cond_most true n = omega arith
+cond_most false n = omega arith
+
 -- the value at a member, else 0
 abbrev pub part : List ℕ → ℕ → ℕ → ℕ
 part values set i = cond (has set i) (slice_index values i) 0
@@ -29,7 +68,7 @@ part values set i = cond (has set i) (slice_index values i) 0
 -- the sum over a set as a sum over the numbers below 64
 pub sum_over_is : (v : List ℕ) (a : ℕ) → sum_over v a ≡ sum_below 64 (λ i. cond (has a i) (slice_index v i) 0)
 unfolding sum_over
-sum_over_is v a = ap (sum_by (slice_index v)) (members_is a) ∙ sum_kept (slice_index v) (has a) 64
+sum_over_is v a = sum_members (slice_index v) a
 
 -- the same, where the members are below n
 pub sum_over_below : (v : List ℕ) (a n : ℕ) → n ≤ 64 → ((i : ℕ) → has a i ≡ true → i < n) → sum_over v a ≡ sum_below n (λ i. cond (has a i) (slice_index v i) 0)
@@ -97,11 +136,14 @@ sum_over-ext v w a same = sum_over_is v a ∙ sum_below-ext 64 (part v a) (part 
 
 -- no more over a part of a set
 pub sum_over_mono : (v : List ℕ) (a b : ℕ) → ((i : ℕ) → has a i ≡ true → has b i ≡ true) → sum_over v a ≤ sum_over v b
-sum_over_mono v a b each = rw (sum_over_is v a, sum_over_is v b) (sum_below_mono 64 (part v a) (part v b) (λ i _. no_more (has a i) (has b i) (slice_index v i) (each i)))
-  where
-    no_more : (x y : Bool) (n : ℕ) → (x ≡ true → y ≡ true) → cond x n 0 ≤ cond y n 0
-    no_more true y n e = rw (e refl) (omega arith)
-    no_more false y n e = omega arith
+sum_over_mono v a b each = rw (sum_over_is v a, sum_over_is v b) (sum_below_mono 64 (part v a) (part v b) (λ i _. cond_le (has a i) (has b i) (slice_index v i) (each i)))
+
+-- no more than the sum of all values
+pub sum_over_le_sum : (v : List ℕ) (a : ℕ) → length v ≤ 64 → sum_over v a ≤ sum v
+sum_over_le_sum v a few =
+    let less : sum_below (length v) (part v a) ≤ sum_below (length v) (slice_index v)
+    = sum_below_mono (length v) (part v a) (slice_index v) (λ i _. cond_most (has a i) (slice_index v i)) in
+    omega (arith, sum_over_within v a (length v) few (omega arith), less, sum_below-slice v)
 
 -- no more than the set's size times a bound on the values
 pub sum_over_le : (v : List ℕ) (a m : ℕ) → All (λ x. x ≤ m) v → sum_over v a ≤ size a * m

@@ -1,4 +1,5 @@
 pub mod Set
 pub mod Sums
+pub mod Least
 pub mod Iter
 pub mod Laws

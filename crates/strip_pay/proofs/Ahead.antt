@@ -5,7 +5,7 @@ use Rattle.std.proofs.lemmas.List.Elements.{All-contains}
 use Rattle.strip_pay.specs.declared.pair.Pair.{Pair}
 use Rattle.strip_pay.specs.Order.{IsOrder, StandsBefore, Keeps, KeepsPair}
 use Rattle.strip_pay.specs.Pairs.{IsChain, HasCycle}
-use Rattle.strip_pay.proofs.Lists.{contains_later}
+use Rattle.strip_mask.proofs.Lists.{contains_later}
 use Rattle.strip_pay.proofs.Counts.{count, tie, tie-same, count-cons, count-none, counted_contains}
 
 pub stands_from : (a b : ℕ) (xs : List ℕ) (i : ℕ) → i < length xs → get_or xs i 0 ≡ a → Contains (drop (suc i) xs) b → StandsBefore a b xs

@@ -11,7 +11,8 @@ use Rattle.strip_mask.specs.Sums.{sum_below}
 use Rattle.strip_mask.proofs.Sums.{sum_below-ext}
 use Rattle.strip_pay.specs.Film.{FilmData}
 use Rattle.strip_pay.specs.Pay.{works, from_first, to_last, day_pay, pay_of}
-use Rattle.strip_pay.proofs.Lists.{contains_here, contains_later, or_true}
+use Rattle.strip_mask.proofs.Lists.{contains_here, contains_later}
+use Rattle.std.proofs.Math.Bool.{or-true}
 use Rattle.strip_pay.proofs.Spans.{to_last-none, to_last-cons, All-from_first}
 use Rattle.strip_pay.proofs.Seams.{from_first-append_some, from_first-append_none, to_last-append_some, to_last-append_none, to_last-front, paid}
 
@@ -83,7 +84,7 @@ module _ (p q : ℕ → Bool) (e : ℕ → List ℕ) where
   blocks-to_last [] each = refl
   blocks-to_last (x ∷ xs) each = ap (to_last p) (flat_map-cons e x xs) ∙ elim (cases_Bool (list_any q xs)) [
     | inl some ↦ to_last-append_some p (e x) (flat_map e xs) (any_later ∙ some) ∙ ap (λ (ys : List ℕ). e x ++ ys) (blocks-to_last xs later)
-        ∙ sym (flat_map-cons e x (to_last q xs)) ∙ ap (flat_map e) (sym (to_last-front q x xs (ap (λ (b : Bool). q x || b) some ∙ or_true (q x))))
+        ∙ sym (flat_map-cons e x (to_last q xs)) ∙ ap (flat_map e) (sym (to_last-front q x xs (ap (λ (b : Bool). q x || b) some ∙ or-true (q x))))
     | inr none ↦ to_last-append_none p (e x) (flat_map e xs) (any_later ∙ none) ∙ last_block none (cases_Bool (q x))
   ]
     where

@@ -1,6 +1,6 @@
 -- How often numbers stand in a list.
-use Rattle.std.proofs.Common.{◌≡◌, ◌≢◌, ℕ, zero, suc, ◌+◌, ◌*◌, ◌<◌, ◌≤◌, cond, eqb, List, [], ◌∷◌, ◌++◌, length, refl, sym, ap, ◌∙◌, subst, arith, count_by, sum_by, All, Contains, inl, inr}
-use Rattle.std.proofs.lemmas.List.Sums.{sum_by-cons, sum_by-append}
+use Rattle.std.proofs.Common.{◌≡◌, ◌≢◌, ℕ, zero, suc, ◌+◌, ◌*◌, ◌<◌, ◌≤◌, cond, eqb, List, [], ◌∷◌, ◌++◌, length, refl, sym, ap, ◌∙◌, subst, arith, sum_by, All, Contains, inl, inr}
+use Rattle.std.proofs.lemmas.List.Sums.{sum_by-cons}
 use Rattle.std.proofs.lemmas.List.Elements.{All-head, All-tail}
 use Rattle.std.specs.List.Sorted.{IsPermutation}
 use Rattle.std.proofs.lemmas.List.Sorted.{IsPermutation-refl, IsPermutation-sym, IsPermutation-cons, IsPermutation-middle, IsPermutation-trans, All-permutation, sum_by-IsPermutation}
@@ -9,21 +9,12 @@ use Rattle.std.proofs.lemmas.Bool.{cases_lt}
 use Rattle.strip_mask.specs.Sums.{sum_below}
 use Rattle.strip_mask.proofs.Sums.{sum_below-zero, sum_below-suc, sum_below-ext, sum_below-add, sum_below-same, sum_below-none, sum_below-point}
 use Rattle.strip_pay.specs.Order.{IsOrder}
-use Rattle.strip_pay.proofs.Lists.{contains_here, contains_later}
-
--- how often a number stands in a list
-abbrev pub count : ℕ → List ℕ → ℕ
-count x xs = count_by (λ y. eqb y x) xs
+pub use Rattle.strip_mask.proofs.Lists.{count, count-append, count-cons}
+use Rattle.strip_mask.proofs.Lists.{contains_here, contains_later}
 
 -- one where the numbers are equal, and else none
 abbrev pub tie : ℕ → ℕ → ℕ
 tie x y = cond {A = ℕ} (eqb x y) 1 0
-
-pub count-cons : (x y : ℕ) (ys : List ℕ) → count x (y ∷ ys) ≡ tie y x + count x ys
-count-cons x y ys = sum_by-cons (λ z. tie z x) y ys
-
-pub count-append : (x : ℕ) (xs ys : List ℕ) → count x (xs ++ ys) ≡ count x xs + count x ys
-count-append x xs ys = sum_by-append (λ z. tie z x) xs ys
 
 pub tie-same : (x : ℕ) → tie x x ≡ 1
 tie-same x = grind (arith, nat_tests)

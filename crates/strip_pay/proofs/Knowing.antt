@@ -9,7 +9,8 @@ use Rattle.strip_pay.specs.declared.pair.Pair.{Pair}
 use Rattle.strip_pay.specs.declared.scene_set.SceneSet.{SceneSet}
 use Rattle.strip_pay.specs.Befores.{Knows, has_scene, no_scenes, stands_to, leads_to}
 use Rattle.strip_pay.specs.Pairs.{Precedes, Leads}
-use Rattle.strip_pay.proofs.Lists.{contains_none, or_true}
+use Rattle.strip_mask.proofs.Lists.{contains_none}
+use Rattle.std.proofs.Math.Bool.{or-false, or-true}
 use Rattle.strip_pay.proofs.Leads.{no_chain, Reaches, LeadsBy, leads-push, leads_by_known}
 
 -- the set at this place
@@ -47,7 +48,7 @@ knows_none none empty = record {
 or_holds : (a b : Bool) (A B : Type 0) → (a ≡ true) ↔ A → (b ≡ true) ↔ B → ((a || b) ≡ true) ↔ (A ⊎ B)
 or_holds a b A B one other = (
   λ yes. elim (or_cases a b yes) [ inl is ↦ inl (one.0 is) | inr is ↦ inr (other.0 is) ],
-  λ fact. elim fact [ inl is ↦ rw (one.1 is) refl | inr is ↦ rw (other.1 is) (or_true a) ],
+  λ fact. elim fact [ inl is ↦ rw (one.1 is) refl | inr is ↦ rw (other.1 is) (or-true a) ],
 )
 
 and_holds : (a b : Bool) (A B : Type 0) → (a ≡ true) ↔ A → (b ≡ true) ↔ B → ((a && b) ≡ true) ↔ (A × B)
@@ -142,10 +143,6 @@ module _ (pairs : List Pair) (pair : Pair) (before middle : Befores) (made : Sce
 
 -- ---- scene after scene
 
-or_false : (b : Bool) → (b || false) ≡ b
-or_false true = refl
-or_false false = refl
-
 or_twice : (a b d : Bool) → ((a || (b && d)) || d) ≡ (a || d)
 or_twice true b d = refl
 or_twice false true true = refl
@@ -177,7 +174,7 @@ module _ (turn first : ℕ) (later : SceneSet) (before now : List SceneSet) (in_
   led_on-same free = record {
     done = λ from to lt small. elim (cases_eq from turn) [
       | inl same ↦ rw same (rw (are.to_do turn (omega arith)) (let so : has_scene (set_at before turn) first ≡ false
-          = subst (λ (one : SceneSet). has_scene one first ≡ false) (are.to_do turn (omega arith)) free in rw so (sym (or_false (has_scene (set_at before turn) to)))))
+          = subst (λ (one : SceneSet). has_scene one first ≡ false) (are.to_do turn (omega arith)) free in rw so (sym (or-false (has_scene (set_at before turn) to)))))
       | inr other ↦ are.done from to (omega arith) small
     ];
     to_do = λ from le. are.to_do from (omega arith);

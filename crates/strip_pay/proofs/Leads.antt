@@ -3,7 +3,7 @@ use Rattle.std.proofs.Common.{◌≡◌, ◌≢◌, ◌↔◌, ℕ, ◌⊎◌, L
 use Rattle.std.proofs.lemmas.List.Elements.{Contains-append_left, Contains-push, Contains-push_cases}
 use Rattle.strip_pay.specs.declared.pair.Pair.{Pair}
 use Rattle.strip_pay.specs.Pairs.{Precedes, IsChain, HasCycle, Leads}
-use Rattle.strip_pay.proofs.Lists.{contains_none}
+use Rattle.strip_mask.proofs.Lists.{contains_none}
 
 -- the one scene is the other, or leads to it
 abbrev pub Reaches : List Pair → ℕ → ℕ → Type 0

@@ -1,24 +1,10 @@
--- Elements of lists, and tests of some element.
-use Rattle.std.proofs.Common.{◌≡◌, zero, suc, Bool, true, false, ◌||◌, List, [], ◌∷◌, Contains, ◌⊎◌, inl, inr, refl, sym, ap, ◌∙◌, arith}
+-- Tests of some element of a list, and what strip_mask says of lists.
+use Rattle.std.proofs.Common.{◌≡◌, Bool, true, List, [], ◌∷◌, Contains, inl, inr, refl, ap, ◌∙◌}
 use Rattle.std.specs.List.{list_any}
+pub use Rattle.std.proofs.Math.Bool.{or-true as or_true}
 use Rattle.std.proofs.lemmas.Bool.{or_cases}
-
-pub contains_here : {X : Type 0} (x : X) (xs : List X) → Contains (x ∷ xs) x
-contains_here x xs = (0, omega arith, refl)
-
-pub contains_later : {X : Type 0} (y : X) (xs : List X) (x : X) → Contains xs x → Contains (y ∷ xs) x
-contains_later y xs x (k, within, at) = (suc k, omega (arith, within), at)
-
-pub contains_cases : {X : Type 0} (y : X) (xs : List X) (x : X) → Contains (y ∷ xs) x → (y ≡ x) ⊎ Contains xs x
-contains_cases y xs x (zero, within, at) = inl at
-contains_cases y xs x (suc k, within, at) = inr (k, omega (arith, within), at)
-
-pub contains_none : {X : Type 0} (x : X) → Contains [] x → ⊥
-contains_none x (k, within, at) = omega (arith, within)
-
-pub or_true : (b : Bool) → (b || true) ≡ true
-or_true true = refl
-or_true false = refl
+pub use Rattle.strip_mask.proofs.Lists.{contains_cases, contains_here, contains_later, contains_none}
+pub use Rattle.strip_mask.proofs.Agree.{same_test}
 
 -- some element passes
 pub any_from : {X : Type 0} (p : X → Bool) (xs : List X) (x : X) → Contains xs x → p x ≡ true → list_any p xs ≡ true
@@ -34,9 +20,3 @@ any_is p (y ∷ ys) some = elim (or_cases (p y) (list_any p ys) some) [
   | inl here ↦ (y, contains_here y ys, here)
   | inr later ↦ (let found = any_is p ys later in (found.0, contains_later y ys found.0 found.1, found.2))
 ]
-
--- two tests agree where each implies the other
-pub same_test : (a b : Bool) → (a ≡ true → b ≡ true) → (b ≡ true → a ≡ true) → a ≡ b
-same_test true b there back = sym (there refl)
-same_test false true there back = back refl
-same_test false false there back = refl

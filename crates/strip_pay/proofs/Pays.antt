@@ -4,6 +4,7 @@ use Rattle.std.proofs.Math.Nat.{mul-le-mul}
 use Rattle.std.proofs.lemmas.List.Sums.{sum_by-cons}
 use Rattle.strip_mask.specs.Sums.{sum_below}
 use Rattle.strip_mask.proofs.Sums.{sum_below-ext, sum_below-scale, sum_below-add, sum_below_mono, sum_below-slice}
+use Rattle.strip_mask.proofs.Totals.{sum_by_mono}
 use Rattle.strip_pay.specs.Film.{FilmData}
 use Rattle.strip_pay.specs.Order.{IsOrder}
 use Rattle.strip_pay.specs.Pay.{works, day_pay, span, pay_of}
@@ -16,10 +17,6 @@ pay-reverse film order =
     (λ actor lt. sum-span_reverse (works film actor) (day_pay film actor) order)
 
 -- sums of lesser and of scaled values
-sum_by_mono : (f g : ℕ → ℕ) (xs : List ℕ) → ((x : ℕ) → f x ≤ g x) → sum_by f xs ≤ sum_by g xs
-sum_by_mono f g [] le = omega arith
-sum_by_mono f g (x ∷ xs) le = omega (arith, sum_by_mono f g xs le, le x, sum_by-cons f x xs, sum_by-cons g x xs)
-
 sum_by_scaled : (c : ℕ) (f : ℕ → ℕ) (xs : List ℕ) → sum_by (λ x. c * f x) xs ≡ c * sum_by f xs
 sum_by_scaled c f [] = omega arith
 sum_by_scaled c f (x ∷ xs) = sum_by-cons (λ y. c * f y) x xs ∙ rw (sum_by_scaled c f xs, sum_by-cons f x xs) (grind arith)

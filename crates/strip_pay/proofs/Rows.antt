@@ -7,7 +7,7 @@ use Rattle.strip_pay.specs.Film.{FilmData}
 use Rattle.strip_pay.specs.Order.{StandsBefore}
 use Rattle.strip_pay.specs.Pairs.{HasCycle, IsChain, Leads, Precedes}
 use Rattle.strip_pay.specs.Pay.{span, pay_of}
-use Rattle.strip_pay.proofs.Lists.{contains_cases, contains_none}
+use Rattle.strip_mask.proofs.Lists.{contains_cases, contains_none}
 
 -- three scenes of two actors each, one day each, at these rates
 abbrev triangle : List ℕ → List ℕ → FilmData

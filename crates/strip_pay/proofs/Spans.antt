@@ -1,29 +1,25 @@
 -- The part of a list from the first number that passes to the last one.
 use Rattle.std.proofs.Common.{◌≡◌, ℕ, ◌+◌, ◌<◌, ◌≤◌, Bool, true, false, cond, ◌||◌, List, [], ◌∷◌, ◌++◌, length, get_or, drop, reverse, sum_by, All, inl, inr, refl, sym, ap, ◌∙◌, arith}
 use Rattle.std.specs.List.{list_any}
-use Rattle.std.proofs.lemmas.Bool.{cases_Bool}
+use Rattle.std.proofs.lemmas.Bool.{cases_Bool, or_parts}
 use Rattle.std.proofs.lemmas.List.{reverse-append, reverse-reverse, drop_more}
 use Rattle.std.proofs.lemmas.List.Elements.{All-nil, All-tail}
 use Rattle.std.proofs.lemmas.List.Sorted.{IsPermutation-reverse, sum_by-IsPermutation}
 use Rattle.std.proofs.lemmas.List.Sums.{sum_by-cons}
-use Rattle.strip_mask.proofs.ByMembers.{or_swapped}
+use Rattle.std.proofs.Math.Bool.{or_assoc, or_comm}
 use Rattle.strip_pay.specs.Pay.{from_first, to_last}
 
 reverse-cons : (x : ℕ) (xs : List ℕ) → reverse (x ∷ xs) ≡ reverse xs ++ x ∷ []
 reverse-cons x xs = reverse-append (x ∷ []) xs
 
-any-push : (p : ℕ → Bool) (xs : List ℕ) (x : ℕ) → list_any p (xs ++ x ∷ []) ≡ (list_any p xs || p x)
-any-push p [] x = or_swapped (p x) false
-any-push p (y ∷ ys) x = ap (λ (b : Bool). p y || b) (any-push p ys x) ∙ sym (assoc (p y) (list_any p ys) (p x))
-  where
-    assoc : (a b c : Bool) → ((a || b) || c) ≡ (a || (b || c))
-    assoc true b c = refl
-    assoc false b c = refl
+pub any-push : (p : ℕ → Bool) (xs : List ℕ) (x : ℕ) → list_any p (xs ++ x ∷ []) ≡ (list_any p xs || p x)
+any-push p [] x = or_comm (p x) false
+any-push p (y ∷ ys) x = ap (λ (b : Bool). p y || b) (any-push p ys x) ∙ sym (or_assoc (p y) (list_any p ys) (p x))
 
 pub any-reverse : (p : ℕ → Bool) (xs : List ℕ) → list_any p (reverse xs) ≡ list_any p xs
 any-reverse p [] = refl
 any-reverse p (x ∷ xs) =
-    ap (list_any p) (reverse-cons x xs) ∙ any-push p (reverse xs) x ∙ ap (λ (b : Bool). b || p x) (any-reverse p xs) ∙ or_swapped (list_any p xs) (p x)
+    ap (list_any p) (reverse-cons x xs) ∙ any-push p (reverse xs) x ∙ ap (λ (b : Bool). b || p x) (any-reverse p xs) ∙ or_comm (list_any p xs) (p x)
 
 from_first-push : (p : ℕ → Bool) (ys : List ℕ) (x : ℕ)
     → from_first p (ys ++ x ∷ []) ≡ cond (list_any p ys) (from_first p ys ++ x ∷ []) (cond (p x) (x ∷ []) [])
@@ -37,12 +33,8 @@ from_first-push p (y ∷ ys) x =
 pub from_first-none : (p : ℕ → Bool) (xs : List ℕ) → list_any p xs ≡ false → from_first p xs ≡ []
 from_first-none p [] none = refl
 from_first-none p (x ∷ xs) none =
-    let parts : (p x ≡ false) × (list_any p xs ≡ false) = neither (p x) (list_any p xs) none in
+    let parts : (p x ≡ false) × (list_any p xs ≡ false) = or_parts (p x) (list_any p xs) none in
     rw parts.0 (from_first-none p xs parts.1)
-  where
-    neither : (a b : Bool) → (a || b) ≡ false → (a ≡ false) × (b ≡ false)
-    neither true b none = absurd (cc)
-    neither false b none = (refl, none)
 
 pub to_last-none : (p : ℕ → Bool) (xs : List ℕ) → list_any p xs ≡ false → to_last p xs ≡ []
 to_last-none p xs none = ap reverse (from_first-none p (reverse xs) (any-reverse p xs ∙ none))
@@ -105,7 +97,7 @@ length-from_first p (x ∷ xs) =
 
 -- ---- the list turned round
 
-reverse-sum : (f : ℕ → ℕ) (xs : List ℕ) → sum_by f (reverse xs) ≡ sum_by f xs
+pub reverse-sum : (f : ℕ → ℕ) (xs : List ℕ) → sum_by f (reverse xs) ≡ sum_by f xs
 reverse-sum f xs = sum_by-IsPermutation f xs (reverse xs) (IsPermutation-reverse xs)
 
 -- the first and the last that pass can be looked for in either order

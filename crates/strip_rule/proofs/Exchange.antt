@@ -1,11 +1,11 @@
 -- To shoot a scene that rules out another before it costs no more.
-use Rattle.std.proofs.Common.{◌≡◌, ◌≢◌, ℕ, ◌+◌, ◌*◌, ◌≤◌, ◌⊎◌, Bool, true, false, not, ◌&&◌, eqb, List, [], ◌∷◌, length, slice_index, inl, inr, refl, sym, ap, ◌∙◌, subst, arith}
+use Rattle.std.proofs.Common.{◌≡◌, ◌≢◌, ℕ, ◌+◌, ◌*◌, ◌≤◌, ◌⊎◌, true, false, not, List, [], ◌∷◌, length, slice_index, inl, inr, sym, ap, ◌∙◌, subst, arith}
 use Rattle.std.proofs.Math.Nat.{mul-le-mul_left}
-use Rattle.std.proofs.lemmas.Bool.{and_right, cases_Bool}
+use Rattle.std.proofs.lemmas.Bool.{cases_Bool, and_from}
 use Rattle.std.proofs.lemmas.Bool.Decides.{eqb_tells}
 use Rattle.strip_mask.specs.Set.{has, without, minus, sum_over}
-use Rattle.strip_mask.proofs.ByMembers.{has-empty, has-minus, has_from_minus, has-without, has-without_same, has-without_other, has_from_without, same_has, empty_from}
-use Rattle.strip_mask.proofs.Below.{and_true, LiesBelow-without}
+use Rattle.strip_mask.proofs.ByMembers.{has-empty, has-minus, has_from_minus, has-without_same, has-without_other, has_from_without, empty_from, without_swap, still_out}
+use Rattle.strip_mask.proofs.Below.{LiesBelow-without}
 use Rattle.strip_mask.proofs.Totals.{sum_over_mono, sum_over-empty}
 use Rattle.strip_pay.specs.Film.{FilmData}
 use Rattle.strip_pay.specs.Pay.{works}
@@ -18,21 +18,6 @@ use Rattle.strip_film.proofs.Lists.{ready_there}
 use Rattle.strip_film.proofs.Located.{location_by_scenes}
 use Rattle.strip_rule.specs.Rule.{rules_out}
 use Rattle.strip_rule.proofs.Fits.{Ruling, ruling_is}
-
-without_swap : (set x y : ℕ) → without (without set x) y ≡ without (without set y) x
-without_swap set x y = same_has (without (without set x) y) (without (without set y) x) (λ i.
-    twice x y i ∙ swapped (not (eqb y i)) (not (eqb x i)) (has set i) ∙ sym (twice y x i))
-  where
-    twice : (a b i : ℕ) → has (without (without set a) b) i ≡ (not (eqb b i) && (not (eqb a i) && has set i))
-    twice a b i = has-without (without set a) b i ∙ ap (λ (t : Bool). not (eqb b i) && t) (has-without set a i)
-
-    swapped : (a b c : Bool) → (a && (b && c)) ≡ (b && (a && c))
-    swapped true b c = refl
-    swapped false true c = refl
-    swapped false false c = refl
-
-still_out : (set x i : ℕ) → has set i ≡ false → has (without set x) i ≡ false
-still_out set x i out = has-without set x i ∙ and_right (not (eqb x i)) (has set i) out
 
 -- what a scene's own cast gets for its days
 abbrev own_cost : FilmData → ℕ → ℕ
@@ -63,7 +48,7 @@ step_le_step film few many scene within =
     let waiting : sum_over film.holds (minus (on_location film few) cast) ≤ sum_over film.holds (minus (on_location film many) cast)
     = sum_over_mono film.holds (minus (on_location film few) cast) (minus (on_location film many) cast) (λ actor member.
     let parts = has_from_minus (on_location film few) cast actor member in
-    has-minus (on_location film many) cast actor ∙ and_true (has (on_location film many) actor) (not (has cast actor)) (within actor parts.0 parts.1) (ap not parts.1)) in
+    has-minus (on_location film many) cast actor ∙ and_from (has (on_location film many) actor) (not (has cast actor)) (within actor parts.0 parts.1) (ap not parts.1)) in
     mul-le-mul_left (slice_index film.days scene) (omega (arith, waiting))
 
 -- a ready scene stays so when another is shot

@@ -1,19 +1,18 @@
 -- When a scene rules out another, by actors; and that this is an order.
 use Rattle.std.proofs.Common.{◌≡◌, ◌≢◌, ℕ, ◌<◌, ◌⊎◌, Bool, true, false, not, ◌&&◌, ◌||◌, eqb, slice_index, inl, inr, refl, sym, ap, ◌∙◌, subst, arith, ltb}
-use Rattle.std.proofs.lemmas.Bool.{and_parts, cases_Bool, eq-eqb, eqb-false, eqb-true, lt-ltb, ltb-true, ne_eqb, not-true}
+use Rattle.std.proofs.lemmas.Bool.{and_parts, cases_Bool, eq-eqb, eqb-false, eqb-true, lt-ltb, ltb-true, ne_eqb, not-true, and_from}
 use Rattle.strip_mask.specs.Set.{has, union, minus}
 use Rattle.strip_mask.proofs.ByMembers.{has-empty, has-minus, has-union, has_from_union, empty_from}
-use Rattle.strip_mask.proofs.Below.{and_true}
 use Rattle.strip_pay.specs.Film.{FilmData}
 use Rattle.strip_pay.specs.Pay.{works}
-use Rattle.strip_pay.proofs.Lists.{or_true}
+use Rattle.std.proofs.Math.Bool.{or-true}
 use Rattle.strip_film.specs.Shoot.{on_location, ready}
 use Rattle.strip_rule.specs.Rule.{is_part, fits_before, rules_out}
 
 part_is : (a b : ℕ) → is_part a b ≡ true → (i : ℕ) → has a i ≡ true → has b i ≡ true
 part_is a b part i member = elim (cases_Bool (has b i)) [
   | inl there ↦ there
-  | inr out ↦ absurd (let left : has (minus a b) i ≡ true = has-minus a b i ∙ and_true (has a i) (not (has b i)) member (ap not out) in
+  | inr out ↦ absurd (let left : has (minus a b) i ≡ true = has-minus a b i ∙ and_from (has a i) (not (has b i)) member (ap not out) in
       let none : has (minus a b) i ≡ false = subst (λ (q : ℕ). has q i ≡ false) (sym (eqb-true (minus a b) 0 part)) (has-empty i) in
       cc)
 ]
@@ -45,11 +44,11 @@ module _ (film : FilmData) (set : ℕ) where
       }
 
   is_fits : (a b : ℕ) → FitsBefore film set a b → fits_before film set a b ≡ true
-  is_fits a b fits = and_true (is_part on (cast_at a)) (is_part (cast_at a) (union on (cast_at b)))
+  is_fits a b fits = and_from (is_part on (cast_at a)) (is_part (cast_at a) (union on (cast_at b)))
       (is_part_from on (cast_at a) fits.located)
       (is_part_from (cast_at a) (union on (cast_at b)) (λ actor working. has-union on (cast_at b) actor ∙ elim (fits.cast actor working) [
         | inl waiting ↦ rw waiting refl
-        | inr later ↦ rw later (or_true (has on actor))
+        | inr later ↦ rw later (or-true (has on actor))
       ]))
 
   FitsBefore-chain : (a b c : ℕ) → FitsBefore film set a b → FitsBefore film set b c → FitsBefore film set a c
@@ -97,10 +96,10 @@ module _ (film : FilmData) (set : ℕ) where
 
   is_ruling : (a b : ℕ) → Ruling film set a b → rules_out film set a b ≡ true
   is_ruling a b ruling =
-      and_true (has (ready film set) a && has (ready film set) b) (not (eqb a b) && (fit a b && (not (fit b a) || ltb a b)))
-      (and_true (has (ready film set) a) (has (ready film set) b) ruling.first_ready ruling.second_ready)
-      (and_true (not (eqb a b)) (fit a b && (not (fit b a) || ltb a b)) (ap not (ne_eqb a b ruling.other))
-      (and_true (fit a b) (not (fit b a) || ltb a b) (is_fits film set a b ruling.fits) (tie_by a b (fit b a) refl ruling.lesser)))
+      and_from (has (ready film set) a && has (ready film set) b) (not (eqb a b) && (fit a b && (not (fit b a) || ltb a b)))
+      (and_from (has (ready film set) a) (has (ready film set) b) ruling.first_ready ruling.second_ready)
+      (and_from (not (eqb a b)) (fit a b && (not (fit b a) || ltb a b)) (ap not (ne_eqb a b ruling.other))
+      (and_from (fit a b) (not (fit b a) || ltb a b) (is_fits film set a b ruling.fits) (tie_by a b (fit b a) refl ruling.lesser)))
 
   never_both : (a b : ℕ) → rules_out film set a b ≡ true → rules_out film set b a ≡ false
   never_both a b rules = elim (cases_Bool (rules_out film set b a)) [

@@ -1,15 +1,14 @@
 -- What a test leaves of a set: the numbers that don't pass it.
 use Rattle.std.proofs.Common.{◌≡◌, ◌↔◌, ℕ, Bool, true, false, cond, not, ◌&&◌, ◌||◌, eqb, List, [], ◌∷◌, ◌++◌, fold, refl, sym, ap, ◌∙◌, subst}
 use Rattle.std.specs.List.{list_any}
-use Rattle.std.proofs.Math.Bool.{or_assoc, or_comm, or-false}
+use Rattle.std.proofs.Math.Bool.{or_assoc, or_comm, or-false, or-true}
 use Rattle.std.proofs.lemmas.List.Sums.{fold-append}
 use Rattle.std.proofs.lemmas.List.Folds.{list_any-append}
-use Rattle.std.proofs.lemmas.Bool.{and_parts, eqb-true, eq-eqb, not-true, not-false}
+use Rattle.std.proofs.lemmas.Bool.{and_parts, eqb-true, eq-eqb, not-true, not-false, and_from}
 use Rattle.strip_mask.specs.Set.{IsSet, has, with, members}
 use Rattle.strip_mask.proofs.ByMembers.{has-with, has-empty}
-use Rattle.strip_mask.proofs.Below.{and_true}
 use Rattle.strip_mask.proofs.Members.{Contains-members, has_from_members}
-use Rattle.strip_pay.proofs.Lists.{any_from, any_is, or_true}
+use Rattle.strip_pay.proofs.Lists.{any_from, any_is}
 
 abbrev leave : (ℕ → Bool) → ℕ → ℕ → ℕ
 leave test found scene = cond (test scene) found (with found scene)
@@ -50,7 +49,7 @@ left_is test set x member =
 pub is_left : (test : ℕ → Bool) (set x : ℕ) → IsSet set → has set x ≡ true → test x ≡ false → has (left_by test (members set)) x ≡ true
 is_left test set x is member out =
     has-left_by test x (members set) ∙ any_from (is_one test x) (members set) x (Contains-members set x is member)
-    (and_true (not (test x)) (eqb x x) (ap not out) (eq-eqb x x refl))
+    (and_from (not (test x)) (eqb x x) (ap not out) (eq-eqb x x refl))
 
 -- ---- in a loop over a set
 
@@ -60,7 +59,7 @@ pub any_at_turn : (test : ℕ → Bool) (set x : ℕ) (done rest later : List �
 any_at_turn test set x done rest later all here passes =
     ap (list_any test) (sym all ∙ ap (λ (xs : List ℕ). done ++ xs) here)
     ∙ list_any-append test done (x ∷ later)
-    ∙ rw passes (or_true (list_any test done))
+    ∙ rw passes (or-true (list_any test done))
 
 -- one number more
 pub left_by-keeps : (test : ℕ → Bool) (done : List ℕ) (x : ℕ) → test x ≡ false → left_by test (done ++ x ∷ []) ≡ with (left_by test done) x

@@ -6,7 +6,8 @@ use Rattle.strip_mask.proofs.ByMembers.{IsSet-minus}
 use Rattle.strip_mask.proofs.Below.{is_set_below}
 use Rattle.strip_mask.proofs.Members.{Contains-members}
 use Rattle.strip_pay.specs.Film.{FilmData}
-use Rattle.strip_pay.proofs.Lists.{any_from, any_is, contains_cases, contains_none}
+use Rattle.strip_mask.proofs.Lists.{contains_cases, contains_none}
+use Rattle.strip_pay.proofs.Lists.{any_from, any_is}
 use Rattle.strip_film.specs.Film.{IsFilm, LiesIn}
 use Rattle.strip_film.specs.Shoot.{behind, ready}
 use Rattle.strip_film.specs.Finish.{BeginsLeast}

@@ -5,10 +5,12 @@ use Rattle.std.proofs.Math.Bool.{or_assoc, or-false}
 use Rattle.std.proofs.lemmas.List.{take_more}
 use Rattle.strip_mask.specs.Set.{LiesBelow, has, union, meet}
 use Rattle.strip_mask.proofs.ByMembers.{has-union, has-meet, has-empty, has_from_meet, same_has}
-use Rattle.strip_mask.proofs.Below.{and_true, has_full, LiesBelow-full}
+use Rattle.std.proofs.lemmas.Bool.{and_from}
+use Rattle.strip_mask.proofs.Below.{has_full, LiesBelow-full}
 use Rattle.strip_pay.specs.Film.{FilmData}
 use Rattle.strip_pay.specs.Pay.{works}
-use Rattle.strip_pay.proofs.Lists.{any_from, any_is, same_test}
+use Rattle.strip_mask.proofs.Agree.{same_test}
+use Rattle.strip_pay.proofs.Lists.{any_from, any_is}
 use Rattle.strip_film.specs.Film.{IsFilm, all_scenes}
 use Rattle.strip_film.specs.Finish.{rest_after}
 use Rattle.strip_film.specs.Shoot.{on_location}
@@ -72,7 +74,7 @@ located_between film before behind is each =
     located actor member =
         let both : WorksInside film rest actor × WorksOutside film rest actor = (location_by_scenes film rest actor is lies).0 member in
         has-meet (cast_along film behind) (cast_along film before) actor
-        ∙ and_true (has (cast_along film behind) actor) (has (cast_along film before) actor)
+        ∙ and_from (has (cast_along film behind) actor) (has (cast_along film before) actor)
         (has-cast_along film behind actor ∙ any_from (works film actor) behind both.0.0 (list_has rest behind both.0.0 once both.0.1) both.0.2)
         (has-cast_along film before actor ∙ any_from (works film actor) before both.1.0
         (out_shot (all_scenes film) before both.1.0 (has_full (length film.casts) both.1.0 both.1.1) both.1.2) both.1.3)

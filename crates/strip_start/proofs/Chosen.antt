@@ -1,30 +1,18 @@
 -- The scene with the least step among those that were tried.
 use Rattle.std.proofs.Common.{◌≡◌, ℕ, ◌<◌, ◌≤◌, ◌⊎◌, nat_lt, Option, Some, None, MatchBool, MatchOption, List}
-use Rattle.std.proofs.Common.{[], ◌∷◌, ◌++◌, length, get_or, Contains, inl, inr, sym, ap, ◌∙◌, subst, arith}
-use Rattle.std.proofs.Math.ListN.{get_or-append}
-use Rattle.std.proofs.Math.Seq.{get_or-append_seam}
+use Rattle.std.proofs.Common.{[], ◌∷◌, ◌++◌, Contains, inl, inr, sym, ap, ◌∙◌, subst, arith}
 use Rattle.std.proofs.lemmas.Bool.{cases_eq, cases_lt, le-ltb, lt-ltb}
-use Rattle.std.proofs.lemmas.List.{length-append}
 use Rattle.std.proofs.lemmas.List.Elements.{Contains-append_left, Contains-push, Contains-push_cases}
-use Rattle.std.proofs.lemmas.List.Kept.{AllPairs-from_increasing}
 use Rattle.strip_mask.specs.Set.{IsSet, members}
-use Rattle.strip_mask.proofs.Members.{Contains-members, has_from_members, members_rise}
+use Rattle.strip_mask.proofs.Members.{Contains-members, has_from_members}
 use Rattle.strip_pay.specs.Film.{FilmData}
-use Rattle.strip_pay.proofs.Lists.{contains_none}
+use Rattle.strip_mask.proofs.Lists.{contains_none}
 use Rattle.strip_film.specs.Film.{IsFilm}
 use Rattle.strip_film.specs.Shoot.{ready, step_cost}
 use Rattle.strip_film.proofs.ByPairs.{some_ready}
 use Rattle.strip_start.specs.declared.choose.Choice.{Choice}
 use Rattle.strip_start.specs.Greedy.{IsLeastStep}
-
--- the scenes before a turn's scene are lesser, as the members of a set rise
-lesser_before : (set scene : ℕ) (tried left : List ℕ) → tried ++ scene ∷ left ≡ members set → (x : ℕ) → Contains tried x → x < scene
-lesser_before set scene tried left all x (place, within, at) =
-    let risen = subst (λ (xs : List ℕ). (i j d : ℕ) → i < j → j < length xs → get_or xs i d < get_or xs j d) (sym all)
-    (AllPairs-from_increasing (members set) (members_rise set)) in
-    let less : get_or (tried ++ scene ∷ left) place x < get_or (tried ++ scene ∷ left) (length tried) x
-    = risen place (length tried) x within (omega (arith, length-append tried (scene ∷ left))) in
-    omega (arith, less, get_or-append tried (scene ∷ left) x place within, at, get_or-append_seam tried scene left x)
+use Rattle.strip_mask.proofs.Turns.{lesser_before}
 
 -- the step of the first scene is less, or it is equal and its number is not greater
 abbrev pub NoMore : FilmData → ℕ → ℕ → ℕ → Type 0

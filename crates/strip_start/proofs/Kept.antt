@@ -2,7 +2,7 @@
 use Rattle.std.proofs.Common.{◌≡◌, ◌≢◌, ℕ, true, false, List, ◌∷◌, ◌++◌, Contains, inl, inr, sym, ◌∙◌, subst}
 use Rattle.std.proofs.lemmas.Bool.Decides.{eqb_tells}
 use Rattle.strip_mask.specs.Set.{has, without}
-use Rattle.strip_mask.proofs.ByMembers.{has-without_other, has_from_without}
+use Rattle.strip_mask.proofs.ByMembers.{has-without_other, has_from_without, without_swap, still_out}
 use Rattle.strip_pay.specs.Film.{FilmData}
 use Rattle.strip_pay.specs.Pairs.{Precedes}
 use Rattle.strip_film.specs.Film.{all_scenes}
@@ -10,7 +10,7 @@ use Rattle.strip_film.specs.Finish.{EachOnce, Remained, rest_after}
 use Rattle.strip_film.specs.Shoot.{ready}
 use Rattle.strip_film.proofs.ByPairs.{ready_is, is_ready}
 use Rattle.strip_film.proofs.Lists.{AllRemained-from_ready, has_from_list}
-use Rattle.strip_start.proofs.Parts.{AreFirsts-parts, AreFirsts-joined, rest_after-parts, still_out, without_swap}
+use Rattle.strip_start.proofs.Parts.{AreFirsts-parts, AreFirsts-joined, rest_after-parts}
 
 -- neighbours that begin a list can change places unless a pair puts the first before the second
 turned_first : (film : FilmData) (set first second : ℕ) (behind : List ℕ) → ¬ Precedes film.pairs first second

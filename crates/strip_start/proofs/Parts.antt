@@ -1,11 +1,10 @@
 -- Lists in two parts.
-use Rattle.std.proofs.Common.{◌≡◌, ℕ, ◌+◌, Bool, true, false, not, ◌&&◌, eqb, List, [], ◌∷◌, ◌++◌, Contains, inl, inr, refl, sym, ap, ◌∙◌, subst, arith}
-use Rattle.std.proofs.lemmas.Bool.{and_right}
+use Rattle.std.proofs.Common.{◌≡◌, ℕ, ◌+◌, true, false, List, [], ◌∷◌, ◌++◌, Contains, inl, inr, refl, sym, ◌∙◌, subst, arith}
 use Rattle.std.proofs.lemmas.Bool.Decides.{eqb_tells}
 use Rattle.strip_mask.specs.Set.{has, without}
-use Rattle.strip_mask.proofs.ByMembers.{has-without, has-without_same, has-without_other, same_has}
+use Rattle.strip_mask.proofs.ByMembers.{has-without_same, has-without_other, still_out}
 use Rattle.strip_pay.specs.Film.{FilmData}
-use Rattle.strip_pay.proofs.Lists.{contains_cases, contains_here, contains_later, contains_none}
+use Rattle.strip_mask.proofs.Lists.{contains_here, contains_later, contains_cases, contains_none}
 use Rattle.strip_film.specs.Finish.{AreFirsts, rest_after, steps_cost}
 use Rattle.strip_film.proofs.Lists.{AllOnce}
 
@@ -38,21 +37,6 @@ pub AllOnce-behind : (set : ℕ) (xs ys : List ℕ) → AllOnce set (xs ++ ys) �
 AllOnce-behind set xs ys each = ((AreFirsts-parts (λ (q : ℕ). q) set xs ys each.0).1, sym (rest_after-parts set xs ys) ∙ each.1)
 
 -- ---- what the first part leaves
-
-pub without_swap : (set x y : ℕ) → without (without set x) y ≡ without (without set y) x
-without_swap set x y = same_has (without (without set x) y) (without (without set y) x) (λ i.
-    twice x y i ∙ swapped (not (eqb y i)) (not (eqb x i)) (has set i) ∙ sym (twice y x i))
-  where
-    twice : (a b i : ℕ) → has (without (without set a) b) i ≡ (not (eqb b i) && (not (eqb a i) && has set i))
-    twice a b i = has-without (without set a) b i ∙ ap (λ (t : Bool). not (eqb b i) && t) (has-without set a i)
-
-    swapped : (a b c : Bool) → (a && (b && c)) ≡ (b && (a && c))
-    swapped true b c = refl
-    swapped false true c = refl
-    swapped false false c = refl
-
-pub still_out : (set x i : ℕ) → has set i ≡ false → has (without set x) i ≡ false
-still_out set x i out = has-without set x i ∙ and_right (not (eqb x i)) (has set i) out
 
 out_after : (set : ℕ) (xs : List ℕ) (i : ℕ) → has set i ≡ false → has (rest_after set xs) i ≡ false
 out_after set [] i out = out

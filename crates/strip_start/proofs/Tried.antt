@@ -8,7 +8,7 @@ use Rattle.std.proofs.lemmas.List.Elements.{All-contains_itself, Contains-append
 use Rattle.strip_mask.proofs.Below.{IsSet-full}
 use Rattle.strip_pay.specs.Film.{FilmData}
 use Rattle.strip_pay.specs.Pairs.{Precedes}
-use Rattle.strip_pay.proofs.Lists.{contains_here}
+use Rattle.strip_mask.proofs.Lists.{contains_here}
 use Rattle.strip_film.specs.declared.limits.TheConstants.{MAX_DAY_SUM}
 use Rattle.strip_film.specs.Film.{IsFilm, all_scenes}
 use Rattle.strip_film.specs.Finish.{EachOnce, Remained, steps_cost}

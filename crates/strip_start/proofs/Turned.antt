@@ -3,7 +3,7 @@ use Rattle.std.proofs.Common.{◌≡◌, ℕ, ◌+◌, ◌*◌, Bool, true, fals
 use Rattle.std.proofs.Math.Nat.{mul-add}
 use Rattle.std.proofs.Math.Bool.{and-false}
 use Rattle.strip_mask.specs.Set.{has, union, meet, minus, without, sum_over}
-use Rattle.strip_mask.proofs.ByMembers.{has-union, has-meet, has-minus, has_from_meet, has_from_minus, same_has}
+use Rattle.strip_mask.proofs.ByMembers.{has-union, has-meet, has-minus, has_from_meet, has_from_minus, same_has, without_swap}
 use Rattle.strip_mask.proofs.Totals.{sum_over-union}
 use Rattle.strip_pay.specs.Film.{FilmData}
 use Rattle.strip_film.specs.Film.{IsFilm, all_scenes}
@@ -11,7 +11,7 @@ use Rattle.strip_film.specs.Finish.{rest_after, steps_cost}
 use Rattle.strip_film.specs.Shoot.{on_location, step_cost}
 use Rattle.strip_film.proofs.Lists.{AllOnce, rest_after-append}
 use Rattle.strip_start.specs.Sides.{cast_along, wait_cost, turn_cost}
-use Rattle.strip_start.proofs.Parts.{steps_cost-parts, without_swap}
+use Rattle.strip_start.proofs.Parts.{steps_cost-parts}
 use Rattle.strip_start.proofs.Along.{cast_along-append, located_between}
 
 -- who waits in any order, and who waits only where this scene is shot first: `cast` has it, `other` comes next

@@ -2,7 +2,7 @@ use Rattle.std.proofs.Common.{◌≡◌, ℕ, ◌+◌, ◌++◌, length, slice_i
 use Rattle.strip_mask.specs.Set.{has, members}
 use Rattle.strip_mask.specs.Iter.{rest_of}
 use Rattle.strip_pay.proofs.Counts.{count}
-use Rattle.strip_film.proofs.Counts.{mark}
+use Rattle.strip_mask.proofs.Sizes.{mark}
 use Rattle.strip_film.proofs.running.move_counts.Given as goal
 
 -- who is still to come has his scene where it was, and who has come has it in the other count

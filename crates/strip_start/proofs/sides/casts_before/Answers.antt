@@ -1,6 +1,6 @@
 use Rattle.std.proofs.Common.{◌<◌, length, ◌∙◌, sym, take, arith}
 use Rattle.std.proofs.Math.ListN.{length-set}
-use Rattle.strip_film.proofs.Turned.{filled_more}
+use Rattle.strip_mask.proofs.Lists.{written}
 use Rattle.strip_start.specs.Sides.{cast_along}
 use Rattle.strip_start.proofs.Along.{cast_along-more}
 use Rattle.strip_start.proofs.sides.casts_before.Goals as goal
@@ -12,6 +12,6 @@ loop-place-preserved c =
       size = length-set c.loop-place.before c.loop-place.place c.loop-place.cast.0 ∙ c.loop-place.invariant.size;
       cast = rw (c.union-cast.ensures, c.loop-place.invariant.cast, c.casts-casts.ensures)
           (sym (cast_along-more c.args.film.now c.args.scenes.now c.loop-place.place c.loop-place-test.true));
-      each = filled_more (λ place. cast_along c.args.film.now (take place c.args.scenes.now)) c.loop-place.before c.loop-place.place c.loop-place.cast.0
-          within c.loop-place.invariant.cast c.loop-place.invariant.each;
+      each = written c.loop-place.before c.loop-place.place c.loop-place.cast.0 (λ place. cast_along c.args.film.now (take place c.args.scenes.now)) within
+          c.loop-place.invariant.each c.loop-place.invariant.cast;
     }

@@ -2,7 +2,7 @@ use Rattle.std.proofs.Common.{◌≡◌, ℕ, ◌+◌, ◌-◌, eqb, ◌&&◌, L
 use Rattle.strip_mask.specs.Set.{has}
 use Rattle.strip_film.specs.Shown.{path_data, running_data}
 use Rattle.strip_film.proofs.Casts.{cast_lies}
-use Rattle.strip_film.proofs.Counts.{mark}
+use Rattle.strip_mask.proofs.Sizes.{mark}
 use Rattle.strip_film.proofs.Moves.{scenes_known, last_known, some_done, few_left, IsRunning-back}
 use Rattle.strip_film.proofs.running.Running.back.Goals as goal
 

@@ -4,7 +4,7 @@ use Rattle.strip_film.specs.Shown.{path_data, running_data}
 use Rattle.strip_film.proofs.Casts.{cast_lies}
 use Rattle.strip_film.proofs.Lists.{ready_there}
 use Rattle.strip_film.proofs.Paths.{rest_lies, few_scenes, paid_limit}
-use Rattle.strip_film.proofs.Counts.{mark}
+use Rattle.strip_mask.proofs.Sizes.{mark}
 use Rattle.strip_film.proofs.Moves.{some_left, few_done, IsRunning-taken}
 use Rattle.strip_film.proofs.running.Running.take.Goals as goal
 
