@@ -1,30 +1,30 @@
 -- Where nobody is still to come, the value is the extra of the group: what is charged as the group leaves in an order is what its actors
 -- are paid in that order.
-use Rattle.std.proofs.Common.{◌≡◌, ℕ, ◌+◌, ◌*◌, Bool, true, false, not, ◌&&◌, ◌||◌, cond, List, [], ◌∷◌, filter, map, slice_index, refl, sym, ap, ◌∙◌, arith}
+use Rattle.std.proofs.Common.{◌≡◌, ℕ, ◌+◌, ◌*◌, Bool, true, false, not, ◌&&◌, cond, List, [], ◌∷◌, filter, map, slice_index, refl, sym, ap, ◌∙◌, arith}
 use Rattle.std.proofs.lemmas.Bool.{and_right, false_from_ne_true}
 use Rattle.strip_mask.specs.Set.{IsSet, has, meet, minus, numbers_below, sum_over, union, with}
 use Rattle.strip_mask.specs.Sums.{sum_below}
-use Rattle.strip_mask.proofs.ByMembers.{below_64, empty_from, has-empty, has-minus, has-union, has-with_same, has-with_other, has_from_meet, has_from_minus, IsSet-minus, same_has}
+use Rattle.strip_mask.proofs.ByMembers.{below_64, empty_from, has-empty, has-minus, has-union, has-with_same, has-with_other, has_from_meet, has_from_minus, IsSet-minus, same_has, empty_has}
 use Rattle.strip_mask.proofs.Sums.{sum_below-add, sum_below-ext, sum_below-none, sum_below-point, sum_below-scale, sum_below-swap}
 use Rattle.strip_mask.proofs.Totals.{sum_over-empty, sum_over_is}
 use Rattle.strip_group.specs.Group.{GroupData, group_extra, is_waited, leaving_pay, waited_days}
 use Rattle.strip_group.proofs.Least.{extra_is_least}
 use Rattle.strip_arrivals.specs.Arrivals.{actors_of, arrivals_value, can_have_come, charge, is_open, is_without, leaves, mates, paid_where, price, total}
-use Rattle.strip_arrivals.proofs.Lists.{contains_filter, contains_none, contains_number, least_over_le, sum_passing}
-use Rattle.strip_arrivals.proofs.Casts.{is_none, mates_has, nobody, without_one}
+use Rattle.strip_mask.proofs.Lists.{contains_none}
+use Rattle.strip_mask.proofs.Members.{contains_number}
+use Rattle.strip_mask.proofs.Least.{least_over_le}
+use Rattle.strip_arrivals.proofs.Lists.{contains_filter, sum_passing}
+use Rattle.strip_arrivals.proofs.Casts.{is_none, mates_has, without_one}
 use Rattle.strip_arrivals.proofs.Orders.{Leave, after_leaving, leaves_order, order_leaves, order_of, run_of}
 use Rattle.strip_arrivals.proofs.Runs as Runs
+use Rattle.std.proofs.Math.Bool.{or-false}
 
 cond_sum : (b : Bool) (n : ℕ) (f : ℕ → ℕ) → cond {A = ℕ} b (sum_below n f) 0 ≡ sum_below n (λ i. cond {A = ℕ} b (f i) 0)
 cond_sum true n f = refl
 cond_sum false n f = sym (sum_below-none n (λ _. 0) (λ i _. refl))
 
 union-none : (a : ℕ) → union a 0 ≡ a
-union-none a = same_has (union a 0) a (λ i. has-union a 0 i ∙ rw (has-empty i) (same (has a i)))
-  where
-    same : (b : Bool) → (b || false) ≡ b
-    same true = refl
-    same false = refl
+union-none a = same_has (union a 0) a (λ i. has-union a 0 i ∙ rw (has-empty i) (or-false (has a i)))
 
 -- a term of the charge, by scene and by actor
 same_term : (member closed stays works : Bool) (days hold : ℕ) → cond {A = ℕ} (member && closed) (days * cond {A = ℕ} (stays && not works) hold 0) 0
@@ -78,7 +78,7 @@ module _ (film : GroupData) (set group : ℕ) where
   price_alone left scene =
       let nobody_came : minus (actors_of []) (slice_index film.casts scene) ≡ 0
       = empty_from (minus 0 (slice_index film.casts scene)) (λ i. false_from_ne_true (has (minus 0 (slice_index film.casts scene)) i) (λ there.
-      nobody i (has_from_minus 0 (slice_index film.casts scene) i there).0)) in
+      empty_has i (has_from_minus 0 (slice_index film.casts scene) i there).0)) in
       let nobody_later : meet left (mates film set (actors_of [])) ≡ 0
       = empty_from (meet left (mates film set (actors_of []))) (λ i. false_from_ne_true (has (meet left (mates film set (actors_of []))) i) (λ there.
       let found = (mates_has film set [] i (has_from_meet left (mates film set (actors_of [])) i there).1).3 in contains_none found.0 found.1)) in
@@ -86,7 +86,7 @@ module _ (film : GroupData) (set group : ℕ) where
       = ap (λ (s : ℕ). sum_over film.holds s + sum_over film.holds (meet left (mates film set (actors_of [])))) nobody_came
       ∙ ap (λ (s : ℕ). sum_over film.holds 0 + sum_over film.holds s) nobody_later
       ∙ ap (λ (n : ℕ). n + n) (sum_over-empty film.holds) in
-      let possible : can_have_come film (after_leaving left) scene 0 ≡ true = is_none film 0 scene (λ i works there. nobody i there) in
+      let possible : can_have_come film (after_leaving left) scene 0 ≡ true = is_none film 0 scene (λ i works there. empty_has i there) in
       let fewest = least_over_le (paid_where film set (after_leaving left) scene) (filter (can_have_come film (after_leaving left) scene) (numbers_below 1)) 0
       (contains_filter (can_have_come film (after_leaving left) scene) (numbers_below 1) 0 (contains_number 1 0 (omega arith)) possible) in
       omega (arith, none, fewest)
@@ -190,7 +190,7 @@ module _ (film : GroupData) (set group : ℕ) where
       = λ actor. sum_passing (slice_index film.days) (is_waited film 0 actor) set
       ∙ sum_below-none 64 (λ scene. cond {A = ℕ} (has set scene && is_waited film 0 actor scene) (slice_index film.days scene) 0) (λ scene _.
       ap (λ b. cond {A = ℕ} (has set scene && (not b && not (has (slice_index film.casts scene) actor))) (slice_index film.days scene) 0)
-      (is_none film 0 scene (λ i works there. nobody i there))
+      (is_none film 0 scene (λ i works there. empty_has i there))
       ∙ ap (λ b. cond {A = ℕ} b (slice_index film.days scene) 0) (and_right (has set scene) false refl)) in
       sum_below-none 64 (λ actor. cond {A = ℕ} (stays 0 actor) (slice_index film.holds actor * waited_days film set 0 actor) 0) (λ actor _.
       ap (λ (n : ℕ). cond {A = ℕ} (stays 0 actor) (slice_index film.holds actor * n) 0) (none_gone actor)

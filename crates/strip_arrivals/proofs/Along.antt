@@ -2,19 +2,20 @@
 -- still waited at open scenes and at those to come.
 use Rattle.std.proofs.Common.{◌≡◌, ℕ, zero, suc, ◌+◌, ◌*◌, ◌≤◌, ◌⊎◌, Bool, true, false, not, ◌&&◌, cond, List, [], ◌∷◌, ◌++◌, Contains, filter, map, length, slice_index, refl, sym, ap, ◌∙◌, subst, inl, inr, arith}
 use Rattle.std.specs.List.{list_all}
-use Rattle.std.proofs.lemmas.Bool.{false≢true, and_parts, eq-eqb, ne_eqb, false_from_ne_true, not-true, not-false}
+use Rattle.std.proofs.lemmas.Bool.{false≢true, and_parts, eq-eqb, ne_eqb, false_from_ne_true, not-true, not-false, and_from}
 use Rattle.std.proofs.lemmas.List.Elements.{All-contains_itself, All-weaker, Contains-append_left, Contains-append_right}
 use Rattle.std.proofs.lemmas.List.Sums.{list_all-from_AllPass}
 use Rattle.strip_mask.specs.Set.{IsSet, has, members, minus, sum_over, union, without}
-use Rattle.strip_mask.proofs.ByMembers.{IsSet-minus, IsSet-without, has-empty, has-minus, has_from_minus}
-use Rattle.strip_mask.proofs.Below.{and_true}
+use Rattle.strip_mask.proofs.ByMembers.{IsSet-minus, IsSet-without, has-empty, has-minus, has_from_minus, empty_has}
 use Rattle.strip_mask.proofs.Members.{Contains-members, has_from_members}
 use Rattle.strip_mask.proofs.Sums.{sum_below-none}
-use Rattle.strip_group.specs.Group.{GroupData, least_over}
+use Rattle.strip_mask.specs.Least.{least_over}
+use Rattle.strip_group.specs.Group.{GroupData}
 use Rattle.strip_arrivals.specs.Arrivals.{Event, StateData, after, allowed, arrivals_value, at_first, cast_of, charge, comes, events, events_left, goes, is_allowed, is_open, is_without, least_total, leaves, open_scenes, price}
 use Rattle.strip_arrivals.specs.Along.{HasEach, waiting_at, waiting_from, waiting}
-use Rattle.strip_arrivals.proofs.Lists.{contains_filter, contains_from_filter, contains_map, least_over_le, none_there, some_or_none}
-use Rattle.strip_arrivals.proofs.Casts.{each_cast, is_none, listed_has, nobody}
+use Rattle.strip_mask.proofs.Least.{least_over_le}
+use Rattle.strip_arrivals.proofs.Lists.{contains_filter, contains_from_filter, contains_map, none_there, some_or_none}
+use Rattle.strip_arrivals.proofs.Casts.{each_cast, is_none, listed_has}
 use Rattle.strip_arrivals.proofs.Price.{price_le}
 use Rattle.strip_arrivals.proofs.Open.{charge_le, is_unpaid, open_after_going, open_after_leaving, pay_at, shoot_le, unpaid}
 use Rattle.strip_arrivals.proofs.Prefix.{IsOnTheWay, coming, going, leaving, shooting, waiters_with}
@@ -142,12 +143,12 @@ module _ (film : GroupData) (set group : ℕ) where
           | inr needed ↦ elim (some_or_none (λ _. true) (members state.coming)) [
             | inl found ↦ (let expected = has_from_members state.coming found.0 found.1 in
                 come_step waiters came rest [] state way found.0 n fits expected (goes_on (after state (comes found.0))
-                (coming film set group newcomers waiters came rest [] state way found.0 small_set expected (λ due. absurd (nobody found.0 due)))
+                (coming film set group newcomers waiters came rest [] state way found.0 small_set expected (λ due. absurd (empty_has found.0 due)))
                 (IsSet-without state.coming found.0 fits)))
             | inr none ↦ (let over : least_total film set group (suc n) state ≡ 0 = when_over (suc n) state (no_events group state
                 (none_there (members state.coming) (λ i there. false≢true (sym (none i there))))
-                (none_there (members (minus group state.left)) (λ i there. nobody i (needed.all_stay i there)))
-                (none_there state.here (λ i there. nobody i (needed.all_due i there)))) in
+                (none_there (members (minus group state.left)) (λ i there. empty_has i (needed.all_stay i there)))
+                (none_there state.here (λ i there. empty_has i (needed.all_due i there)))) in
                 omega (arith, over))
           ]
         ]
@@ -172,7 +173,7 @@ module _ (film : GroupData) (set group : ℕ) where
                 let new : ℕ → ℕ = waiters_with film set group newcomers waiters came scene later in
                 let paid = shoots new (union came (slice_index film.casts scene)) (shooting film set group newcomers waiters came rest scene later state way
                 (λ i member stays. needed.all_stay i (Contains-members (minus group state.left) i (IsSet-minus group state.left small)
-                (has-minus group state.left i ∙ and_true (has group i) (not (has state.left i)) member (ap not stays))))
+                (has-minus group state.left i ∙ and_from (has group i) (not (has state.left i)) member (ap not stays))))
                 (λ i here. needed.all_due i (listed_has state.here i here))
                 (λ i expected. none i (Contains-members state.coming i fits expected))) in
                 let here : pay_at film set group new scene ≡ slice_index film.days scene * sum_over film.holds (waiting_at film group newcomers came scene later)
@@ -201,10 +202,10 @@ module _ (film : GroupData) (set group : ℕ) where
         (λ scene _. none_yet (has set scene) (is_open film (at_first newcomers) scene) (pay_at film set group (λ _. 0) scene)) in
         let paid = on_the_way (n + length scenes) n (λ _. 0) 0 set scenes (at_first newcomers) (omega arith) small_set fits (record {
           each = each;
-          left_group = λ i there. absurd (nobody i there);
+          left_group = λ i there. absurd (empty_has i there);
           are_coming = λ i there. (there, has-empty i);
-          are_here = λ i there. absurd (nobody i there);
-          have_come = λ i there. absurd (nobody i there);
+          are_here = λ i there. absurd (empty_has i there);
+          have_come = λ i there. absurd (empty_has i there);
           worked = λ scene i shot. absurd (false≢true (sym shot.1 ∙ shot.0));
           wait = λ scene i shot. absurd (false≢true (sym shot.1 ∙ shot.0));
           priced = λ scene shot. absurd (false≢true (sym shot.1 ∙ shot.0));

@@ -1,13 +1,13 @@
 -- Sets of those who are here, where one or two are.
 use Rattle.std.proofs.Common.{◌≡◌, ◌≢◌, ℕ, zero, suc, ◌+◌, ◌<◌, ◌⊎◌, Bool, true, false, not, ◌&&◌, cond, eqb, List, [], ◌∷◌, refl, sym, ap, ◌∙◌, subst, inl, inr, arith}
 use Rattle.std.specs.List.{list_all}
-use Rattle.std.proofs.lemmas.Bool.{eq-eqb, eqb-true, false≢true}
+use Rattle.std.proofs.lemmas.Bool.{eq-eqb, eqb-true, false≢true, cases_Bool}
 use Rattle.strip_mask.specs.Set.{has, with}
-use Rattle.strip_mask.proofs.ByMembers.{has-empty, has-with_other, has-with_same, has_from_with, same_has}
+use Rattle.strip_mask.proofs.ByMembers.{has-empty, has-with_other, has-with_same, has_from_with, same_has, empty_has}
 use Rattle.strip_arrivals.specs.Arrivals.{actors_of}
-use Rattle.strip_arrivals.proofs.Lists.{contains_here, contains_later}
-use Rattle.strip_group.proofs.Places.{by_bit, same_test}
-use Rattle.strip_arrivals.proofs.Casts.{has_listed, listed_has, nobody}
+use Rattle.strip_mask.proofs.Lists.{contains_here, contains_later}
+use Rattle.strip_mask.proofs.Agree.{same_test}
+use Rattle.strip_arrivals.proofs.Casts.{has_listed, listed_has}
 use Rattle.strip_arrivals.proofs.Chosen.{passes_all, all_passes}
 
 -- a set of these
@@ -25,7 +25,7 @@ pub alike_in : (here : List ℕ) (first second : ℕ) → IsAmong here first →
 alike_in here first second among also = same_test (eqb first second) (list_all (λ actor. agrees (has first actor) (has second actor)) here)
     (λ same. passes_all (λ actor. agrees (has first actor) (has second actor)) here (λ actor _.
     ap (λ (s : ℕ). agrees (has first actor) (has s actor)) (sym (eqb-true first second same)) ∙ itself (has first actor)))
-    (λ all. eq-eqb first second (same_has first second (λ actor. elim (by_bit (has (actors_of here) actor)) [
+    (λ all. eq-eqb first second (same_has first second (λ actor. elim (cases_Bool (has (actors_of here) actor)) [
       | inl there ↦ told (has first actor) (has second actor)
           (all_passes (λ other. agrees (has first other) (has second other)) here actor all (listed_has here actor there))
       | inr missing ↦ same_test (has first actor) (has second actor) (λ there. absurd (false≢true (sym missing ∙ among actor there)))
@@ -43,7 +43,7 @@ alike_in here first second among also = same_test (eqb first second) (list_all (
 
 -- the empty set is one of them
 pub among_none : (here : List ℕ) → IsAmong here 0
-among_none here actor there = absurd (nobody actor there)
+among_none here actor there = absurd (empty_has actor there)
 
 -- a set with one more of them
 pub among_with : (here : List ℕ) (these one : ℕ) → IsAmong here these → has (actors_of here) one ≡ true → IsAmong here (with these one)
@@ -94,7 +94,7 @@ for_two P first second (suc (suc kind)) below = absurd (omega (arith, below))
 pub one_of_two : (one other actor : ℕ) → has (with (with 0 one) other) actor ≡ true → (one ≡ actor) ⊎ (other ≡ actor)
 one_of_two one other actor there = elim (has_from_with (with 0 one) other actor there) [
   | inl second ↦ inr second
-  | inr before ↦ elim (has_from_with 0 one actor before) [ inl first ↦ inl first | inr none ↦ absurd (nobody actor none) ]
+  | inr before ↦ elim (has_from_with 0 one actor before) [ inl first ↦ inl first | inr none ↦ absurd (empty_has actor none) ]
 ]
 
 -- the newcomers of a scene of one of two are he alone or both

@@ -1,16 +1,16 @@
 -- The least by what happens next to newcomers, stage by stage.
 use Rattle.std.proofs.Common.{◌≡◌, ◌≢◌, ℕ, ◌+◌, ◌^◌, ◌<◌, ◌≤◌, ◌⊎◌, Bool, true, false, not, ◌&&◌, ◌||◌, cond, eqb, min, List, [], ◌∷◌, Contains, filter, refl, sym, ap, ◌∙◌, subst, inl, inr, arith}
-use Rattle.std.proofs.lemmas.Bool.{cases_eq, eq-eqb, false≢true, false_from_ne_true, ne_eqb}
+use Rattle.std.proofs.lemmas.Bool.{cases_eq, eq-eqb, false≢true, false_from_ne_true, ne_eqb, cases_Bool}
 use Rattle.strip_mask.specs.Set.{IsSet, has, minus, size, with, without}
-use Rattle.strip_mask.proofs.ByMembers.{IsSet-empty, IsSet-with, below_width, empty_from, has-empty, has-minus, has-with, has-with_other, has-with_same, has-without, has_from_with, same_has}
+use Rattle.strip_mask.proofs.ByMembers.{IsSet-empty, IsSet-with, below_width, empty_from, has-empty, has-minus, has-with, has-with_other, has-with_same, has-without, has_from_with, same_has, empty_has}
 use Rattle.strip_group.specs.Group.{GroupData}
 use Rattle.strip_group.specs.Places.{actor_at, pick}
 use Rattle.strip_arrivals.specs.Arrivals.{Event, IsOver, StateData, after, allowed, comes, events, goes, is_allowed, leaves}
 use Rattle.strip_arrivals.specs.Company.{IsBegun, IsCompany, OfNewcomers, staying}
 use Rattle.strip_arrivals.specs.Gross.{IsBest, IsGross, gross_charge}
-use Rattle.strip_arrivals.proofs.Lists.{contains_cases, contains_from_filter, contains_here, contains_later, contains_none}
-use Rattle.strip_arrivals.proofs.Casts.{nobody}
-use Rattle.strip_group.proofs.Places.{actor_there, by_bit, has_pick, pick-empty}
+use Rattle.strip_mask.proofs.Lists.{contains_here, contains_later, contains_cases, contains_none}
+use Rattle.strip_arrivals.proofs.Lists.{contains_from_filter}
+use Rattle.strip_group.proofs.Places.{actor_there, has_pick, pick-empty}
 use Rattle.strip_arrivals.proofs.Along.{can_come, can_go}
 use Rattle.strip_arrivals.proofs.Runs.{all_fine, by_kind, may}
 use Rattle.strip_arrivals.proofs.Gross.{comes_free, first_tried, none_more, none_tried, one_skipped, one_tried}
@@ -73,7 +73,7 @@ none_leaves actor (newcomer, inr is) = false≢true (sym (ap is_leaving is))
 
 -- no set with somebody in it is empty
 to_come : (others actor : ℕ) → with others actor ≡ 0 → ⊥
-to_come others actor same = nobody actor (ap (λ (s : ℕ). has s actor) (sym same) ∙ has-with_same others actor)
+to_come others actor same = empty_has actor (ap (λ (s : ℕ). has s actor) (sym same) ∙ has-with_same others actor)
 
 module _ (film : GroupData) (set group : ℕ) where
   -- either of two events
@@ -126,13 +126,13 @@ module _ (film : GroupData) (set group newcomers never : ℕ) (known : IsCompany
         | inl empty ↦ inr (all_left empty, refl, refl)
         | inr some ↦ inl (others places lt some)
       ]))
-      (next_ones film set group known.small state (λ _. ⊥) (λ actor expected. nobody actor expected) (λ actor is_here. contains_none actor is_here))
+      (next_ones film set group known.small state (λ _. ⊥) (λ actor expected. empty_has actor expected) (λ actor is_here. contains_none actor is_here))
     where
       none_stay : IsOver group (staying group 0 [] gone places) → places ≡ 0
       none_stay over = empty_from places (λ place. false_from_ne_true (has places place) (λ there.
           let within : place < size group = below_width places (size group) place lt there in
           let actor : ℕ = actor_at group place in
-          nobody actor (ap (λ (s : ℕ). has s actor) (sym over.0)
+          empty_has actor (ap (λ (s : ℕ). has s actor) (sym over.0)
           ∙ has-minus group (minus group (pick group places)) actor
           ∙ ap (λ b. has group actor && not b) (has-minus group (pick group places) actor)
           ∙ stays (has group actor) (has (pick group places) actor) (actor_there group place within) (has_pick group places place within there))))
@@ -167,7 +167,7 @@ module _ (film : GroupData) (set group newcomers never : ℕ) (known : IsCompany
       (may_go film set group known.small state one refl (contains_here one [])) then in
       none_more film set group never (λ event. goes one ≡ event) OfNewcomers state (first places)
       (subst (λ (n : ℕ). IsBest film set group never state (λ event. goes one ≡ event) n) paid began)
-      (next_ones film set group known.small state (λ event. goes one ≡ event) (λ actor expected. absurd (nobody actor expected))
+      (next_ones film set group known.small state (λ event. goes one ≡ event) (λ actor expected. absurd (empty_has actor expected))
       (λ actor is_here. elim (contains_cases one [] actor is_here) [
         | inl same ↦ ap goes same
         | inr none ↦ absurd (contains_none actor none)
@@ -191,7 +191,7 @@ module _ (film : GroupData) (set group newcomers never : ℕ) (known : IsCompany
       (next_ones film set group known.small state (λ event. comes one ≡ event)
       (λ actor expected. elim (has_from_with 0 one actor expected) [
         | inl same ↦ ap comes same
-        | inr none ↦ absurd (nobody actor none)
+        | inr none ↦ absurd (empty_has actor none)
       ])
       (λ actor is_here. absurd (contains_none actor is_here)))
 
@@ -216,7 +216,7 @@ module _ (film : GroupData) (set group newcomers never : ℕ) (known : IsCompany
       either film set group never state (goes one) (goes other) (later_one places) (later_other places) (first places) (λ over. some_here one (other ∷ []) over.2)
       (may_go film set group known.small state one refl (contains_here one (other ∷ []))) one_goes
       (may_go film set group known.small state other refl (contains_later one (other ∷ []) other (contains_here other []))) other_goes paid
-      (next_ones film set group known.small state (λ event. (goes one ≡ event) ⊎ (goes other ≡ event)) (λ actor expected. absurd (nobody actor expected))
+      (next_ones film set group known.small state (λ event. (goes one ≡ event) ⊎ (goes other ≡ event)) (λ actor expected. absurd (empty_has actor expected))
       (λ actor is_here. elim (contains_cases one (other ∷ []) actor is_here) [
         | inl same ↦ inl (ap goes same)
         | inr later ↦ elim (contains_cases other [] actor later) [
@@ -251,13 +251,13 @@ module _ (film : GroupData) (set group newcomers never : ℕ) (known : IsCompany
       = next_ones film set group known.small state (λ event. (comes other ≡ event) ⊎ (goes one ≡ event))
       (λ actor expected. elim (has_from_with 0 other actor expected) [
         | inl same ↦ inl (ap comes same)
-        | inr none ↦ absurd (nobody actor none)
+        | inr none ↦ absurd (empty_has actor none)
       ])
       (λ actor is_here. elim (contains_cases one [] actor is_here) [
         | inl same ↦ inr (ap goes same)
         | inr none ↦ absurd (contains_none actor none)
       ]) in
-      elim (by_bit (fine places)) [
+      elim (cases_Bool (fine places)) [
         | inl allows ↦ (
             let lower : first places ≡ min (later_both places) (later_gone places + charge places)
             = is places lt ∙ ap (λ b. cond {A = ℕ} b (min (later_both places) (later_gone places + charge places)) (later_both places)) allows in
@@ -300,7 +300,7 @@ module _ (film : GroupData) (set group newcomers never : ℕ) (known : IsCompany
         | inl same ↦ inr (ap comes same)
         | inr first_one ↦ elim (has_from_with 0 one actor first_one) [
           | inl same ↦ inl (ap comes same)
-          | inr none ↦ absurd (nobody actor none)
+          | inr none ↦ absurd (empty_has actor none)
         ]
       ])
       (λ actor is_here. absurd (contains_none actor is_here)))

@@ -1,10 +1,10 @@
 -- A group by the places of its actors: what they get, and who of them works in a scene.
 use Rattle.std.proofs.Common.{◌≡◌, ◌≢◌, ℕ, zero, suc, ◌+◌, ◌^◌, ◌<◌, ◌≤◌, ◌==◌, ◌⊎◌, Bool, true, false, not, ◌&&◌, cond, eqb, List, [], ◌∷◌, ◌++◌, Contains, set, get_or-set_same, get_or-set_other, length, slice_index, refl, sym, ap, ◌∙◌, subst, inl, inr, arith}
-use Rattle.std.proofs.lemmas.Bool.{cases_eq, eq-eqb, eqb-true, false≢true, false_from_ne_true, or_right}
+use Rattle.std.proofs.lemmas.Bool.{cases_eq, eq-eqb, eqb-true, false≢true, false_from_ne_true, or_right, and_from, cases_Bool}
 use Rattle.strip_mask.specs.Set.{IsSet, LiesBelow, full, has, meet, minus, size, sum_over, with}
 use Rattle.strip_mask.specs.Sums.{sum_below}
-use Rattle.strip_mask.proofs.ByMembers.{below_64, below_width, empty_from, has-meet, has-minus, has-with, has-with_other, has-with_same, has_from_meet, has_from_minus, has_from_with, same_has, with_there}
-use Rattle.strip_mask.proofs.Below.{and_true, has_full}
+use Rattle.strip_mask.proofs.ByMembers.{below_64, below_width, empty_from, has-meet, has-minus, has-with, has-with_other, has-with_same, has_from_meet, has_from_minus, has_from_with, same_has, with_there, empty_has}
+use Rattle.strip_mask.proofs.Below.{has_full}
 use Rattle.strip_mask.proofs.Sizes.{size-le}
 use Rattle.strip_mask.proofs.Sums.{sum_below-ext, sum_below-past, sum_below-suc, sum_below-zero}
 use Rattle.strip_mask.proofs.Totals.{sum_over-empty, sum_over-minus, sum_over-with, sum_over_is, sum_over_mono}
@@ -13,9 +13,11 @@ use Rattle.strip_group.specs.Places.{actor_at, pick, picked}
 use Rattle.strip_arrivals.specs.Arrivals.{actors_of, is_without, mates}
 use Rattle.strip_arrivals.specs.Company.{IsCrew}
 use Rattle.strip_arrivals.specs.declared.crew.Crew.{Crew}
-use Rattle.strip_arrivals.proofs.Casts.{has_listed, has_mates, is_none, listed_has, mates_has, nobody, none_works, some_works}
+use Rattle.strip_arrivals.proofs.Casts.{has_listed, has_mates, is_none, listed_has, mates_has, none_works, some_works}
 use Rattle.strip_arrivals.proofs.Newcomers.{actors_more}
-use Rattle.strip_group.proofs.Places.{actor_there, by_bit, has_from_pick, has_from_picked, has_pick, lies_small, picked_past, picked_with, place_of, places_apart, same_test}
+use Rattle.strip_mask.proofs.Agree.{same_test}
+use Rattle.strip_sets.proofs.Sets.{lies_small}
+use Rattle.strip_group.proofs.Places.{actor_there, has_from_pick, has_from_picked, has_pick, picked_past, picked_with, place_of, places_apart}
 
 -- ---- numbers that are written one by one
 
@@ -60,7 +62,7 @@ module _ (group : ℕ) (small : IsSet group) (film_holds holds : List ℕ) (told
       let before = sum_picked places n (omega (arith, within)) in
       let lt : n < size group = omega (arith, within) in
       let step = sum_below-suc n (λ place. cond {A = ℕ} (has places place) (slice_index holds place) 0) in
-      elim (by_bit (has places n)) [
+      elim (cases_Bool (has places n)) [
         | inl there ↦ (
             let absent : has (picked group places n) (actor_at group n) ≡ false
             = false_from_ne_true (has (picked group places n) (actor_at group n)) (λ member. (let found = has_from_picked group places n (actor_at group n) member in
@@ -153,9 +155,9 @@ module _ {S : Type 0} (value : S → ℕ → ℕ) (count : ℕ) (film : GroupDat
       let parts = has_from_minus group (pick group places) i left in
       let found = place_of group i small parts.0 in
       let in_cast : has cast found.0 ≡ true = known.casts scene found.0 there found.1 ∙ subst (λ (k : ℕ). has (slice_index film.casts scene) k ≡ true) (sym found.2) works in
-      elim (by_bit (has places found.0)) [
+      elim (cases_Bool (has places found.0)) [
         | inl here ↦ false≢true (sym parts.1 ∙ subst (λ (k : ℕ). has (pick group places) k ≡ true) found.2 (has_pick group places found.0 found.1 here))
-        | inr missing ↦ nobody found.0 (ap (λ (s : ℕ). has s found.0) (sym (eqb-true (minus cast places) 0 lies)) ∙ has-minus cast places found.0
+        | inr missing ↦ empty_has found.0 (ap (λ (s : ℕ). has s found.0) (sym (eqb-true (minus cast places) 0 lies)) ∙ has-minus cast places found.0
             ∙ (λ k. in_cast k && not (missing k)))
       ])))
       (λ none. eq-eqb (minus cast places) 0 (empty_from (minus cast places) (λ place. false_from_ne_true (has (minus cast places) place) (λ left. (
@@ -224,7 +226,7 @@ module _ {S : Type 0} (value : S → ℕ → ℕ) (count : ℕ) (film : GroupDat
         let one = some_works film actors scene.0 both.1 in
         let works : has (slice_index film.casts scene.0) (actor_at group found.0) ≡ true = sym (known.casts scene.0 found.0 both.0 found.1) ∙ scene.2 in
         subst (λ (k : ℕ). has (meet out others) k ≡ true) found.3
-        (has-meet out others (actor_at group found.0) ∙ and_true (has out (actor_at group found.0)) (has others (actor_at group found.0))
+        (has-meet out others (actor_at group found.0) ∙ and_from (has out (actor_at group found.0)) (has others (actor_at group found.0))
         (left_out places found.0 found.1 missing)
         (has_mates film set actors scene.0 one.0 (actor_at group found.0) set_small both.0 one.1 one.2 works))))
         (λ there. (
@@ -241,7 +243,7 @@ module _ {S : Type 0} (value : S → ℕ → ℕ) (count : ℕ) (film : GroupDat
         let missing : has places found.0 ≡ false = false_from_ne_true (has places found.0) (λ at. false≢true (sym outside.1
         ∙ subst (λ (k : ℕ). has (pick group places) k ≡ true) found.2 (has_pick group places found.0 found.1 at))) in
         subst (λ (k : ℕ). has (pick group left) k ≡ true) found.2 (has_pick group left found.0 found.1
-        (has-meet with_some (minus (full count) places) found.0 ∙ and_true (has with_some found.0) (has (minus (full count) places) found.0) member
+        (has-meet with_some (minus (full count) places) found.0 ∙ and_from (has with_some found.0) (has (minus (full count) places) found.0) member
         (has-minus (full count) places found.0 ∙ (λ k. has_full count found.0 (omega (arith, found.1, known.fits)) k && not (missing k))))))))
       where
         parted : (a b : Bool) → (a && not b) ≡ true → (a ≡ true) × (b ≡ false)

@@ -1,19 +1,16 @@
 -- Who works in some scenes, and with whom.
-use Rattle.std.proofs.Common.{◌≡◌, ℕ, Bool, true, false, not, ◌&&◌, eqb, List, [], ◌∷◌, Contains, filter, slice_index, sym, ap, ◌∙◌, subst, inl, inr, refl}
-use Rattle.std.proofs.lemmas.Bool.{false≢true, and_parts, eqb-true, eq-eqb, or_left, or_right, false_from_ne_true, not-true}
+use Rattle.std.proofs.Common.{◌≡◌, ℕ, Bool, true, false, not, ◌&&◌, eqb, List, [], ◌∷◌, Contains, filter, slice_index, sym, ap, ◌∙◌, subst, inl, inr}
+use Rattle.std.proofs.lemmas.Bool.{false≢true, and_parts, eqb-true, eq-eqb, or_left, or_right, false_from_ne_true, not-true, and_from}
 use Rattle.std.proofs.lemmas.Bool.Decides.{eqb_tells}
 use Rattle.strip_mask.specs.Set.{IsSet, has, with, without, meet, members}
-use Rattle.strip_mask.proofs.ByMembers.{has-empty, has-union, has-meet, has-with_same, has-with, has-without_other, has_from_meet, has_from_union, has_from_with, empty_from}
-use Rattle.strip_mask.proofs.Below.{and_true}
+use Rattle.strip_mask.proofs.ByMembers.{has-union, has-meet, has-with_same, has-with, has-without_other, has_from_meet, has_from_union, has_from_with, empty_from, empty_has}
 use Rattle.strip_mask.proofs.Members.{Contains-members, has_from_members}
 use Rattle.strip_group.specs.Group.{GroupData}
 use Rattle.strip_arrivals.specs.Arrivals.{cast_of, actors_of, is_without, mates}
 use Rattle.strip_arrivals.specs.Along.{HasEach}
-use Rattle.strip_arrivals.proofs.Lists.{contains_cases, contains_here, contains_later, contains_none, contains_filter, contains_from_filter, some_or_none}
-
--- the empty set has nobody
-pub nobody : (i : ℕ) → has 0 i ≡ true → ⊥
-nobody i there = false≢true (sym (has-empty i) ∙ there)
+use Rattle.strip_mask.proofs.Lists.{contains_here, contains_later, contains_cases, contains_none}
+use Rattle.strip_arrivals.proofs.Lists.{contains_filter, contains_from_filter, some_or_none}
+use Rattle.strip_mask.proofs.Agree.{same_test}
 
 -- who works in a scene works in one of its list
 pub has_cast : (film : GroupData) (scenes : List ℕ) (scene actor : ℕ) → Contains scenes scene → has (slice_index film.casts scene) actor ≡ true
@@ -28,7 +25,7 @@ has_cast film (s ∷ scenes) scene actor there works =
 -- and the other way
 pub cast_has : (film : GroupData) (scenes : List ℕ) (actor : ℕ) → has (cast_of film scenes) actor ≡ true
     → (scene : ℕ) × Contains scenes scene × (has (slice_index film.casts scene) actor ≡ true)
-cast_has film [] actor there = absurd (nobody actor there)
+cast_has film [] actor there = absurd (empty_has actor there)
 cast_has film (s ∷ scenes) actor there = elim (has_from_union (slice_index film.casts s) (cast_of film scenes) actor there) [
   | inl works ↦ (s, contains_here s scenes, works)
   | inr later ↦ (let found = cast_has film scenes actor later in (found.0, contains_later s scenes found.0 found.1, found.2))
@@ -37,7 +34,7 @@ cast_has film (s ∷ scenes) actor there = elim (has_from_union (slice_index fil
 -- who works in a scene of a set works in one of a list that has each
 pub each_cast : (film : GroupData) (set : ℕ) (scenes : List ℕ) (scene actor : ℕ) → HasEach set scenes → has set scene ≡ true
     → has (slice_index film.casts scene) actor ≡ true → has (cast_of film scenes) actor ≡ true
-each_cast film set [] scene actor each there works = absurd (nobody scene (subst (λ k. has k scene ≡ true) each there))
+each_cast film set [] scene actor each there works = absurd (empty_has scene (subst (λ k. has k scene ≡ true) each there))
 each_cast film set (s ∷ scenes) scene actor (first, later) there works =
     has-union (slice_index film.casts s) (cast_of film scenes) actor ∙ elim (eqb_tells s scene) [
       | inl same ↦ or_left (has (slice_index film.casts s) actor) (has (cast_of film scenes) actor) (subst (λ k. has (slice_index film.casts k) actor ≡ true) (sym same.1) works)
@@ -54,7 +51,7 @@ has_listed (a ∷ actors) actor there = elim (contains_cases a actors actor ther
 ]
 
 pub listed_has : (actors : List ℕ) (actor : ℕ) → has (actors_of actors) actor ≡ true → Contains actors actor
-listed_has [] actor there = absurd (nobody actor there)
+listed_has [] actor there = absurd (empty_has actor there)
 listed_has (a ∷ actors) actor there = elim (has_from_with (actors_of actors) a actor there) [
   | inl same ↦ subst (λ k. Contains (a ∷ actors) k) same (contains_here a actors)
   | inr later ↦ contains_later a actors actor (listed_has actors actor later)
@@ -73,20 +70,14 @@ is_none film actors scene none = eq-eqb (meet (slice_index film.casts scene) act
 
 pub none_works : (film : GroupData) (actors scene i : ℕ) → is_without film actors scene ≡ true → has (slice_index film.casts scene) i ≡ true → has actors i ≡ true → ⊥
 none_works film actors scene i none works there =
-    nobody i (ap (λ k. has k i) (sym (eqb-true (meet (slice_index film.casts scene) actors) 0 none))
-    ∙ has-meet (slice_index film.casts scene) actors i ∙ and_true (has (slice_index film.casts scene) i) (has actors i) works there)
-
--- two tests agree where each implies the other
-pub same_test : (a b : Bool) → (a ≡ true → b ≡ true) → (b ≡ true → a ≡ true) → a ≡ b
-same_test true b there back = sym (there refl)
-same_test false true there back = back refl
-same_test false false there back = refl
+    empty_has i (ap (λ k. has k i) (sym (eqb-true (meet (slice_index film.casts scene) actors) 0 none))
+    ∙ has-meet (slice_index film.casts scene) actors i ∙ and_from (has (slice_index film.casts scene) i) (has actors i) works there)
 
 -- nobody of a set and one more works in a scene
 pub without_one : (film : GroupData) (left one scene : ℕ) → is_without film (with left one) scene
     ≡ (is_without film left scene && not (has (slice_index film.casts scene) one))
 without_one film left one scene = same_test (is_without film (with left one) scene) (is_without film left scene && not (has (slice_index film.casts scene) one))
-    (λ none. and_true (is_without film left scene) (not (has (slice_index film.casts scene) one))
+    (λ none. and_from (is_without film left scene) (not (has (slice_index film.casts scene) one))
     (is_none film left scene (λ i works there. none_works film (with left one) scene i none works (has-with left one i ∙ or_right (eqb one i) (has left i) there)))
     (ap not (false_from_ne_true (has (slice_index film.casts scene) one) (λ works. none_works film (with left one) scene one none works (has-with_same left one)))))
     (λ both. let parts = and_parts (is_without film left scene) (not (has (slice_index film.casts scene) one)) both in

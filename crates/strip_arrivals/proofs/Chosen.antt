@@ -1,24 +1,26 @@
 -- Scenes of a set that are chosen by a test, and days of them by who of the newcomers works there.
-use Rattle.std.proofs.Common.{◌≡◌, ℕ, ◌+◌, ◌*◌, ◌<◌, ◌≤◌, Bool, true, false, ◌&&◌, ◌||◌, cond, eqb, List, [], ◌∷◌, Contains, filter, slice_index, refl, sym, ap, ◌∙◌, subst, inl, inr, arith}
+use Rattle.std.proofs.Common.{◌≡◌, ℕ, ◌+◌, ◌*◌, ◌<◌, ◌≤◌, Bool, true, false, ◌&&◌, ◌||◌, cond, eqb, List, [], ◌∷◌, Contains, filter, slice_index, sym, ap, ◌∙◌, subst, inl, inr, arith}
 use Rattle.std.specs.List.{list_all}
-use Rattle.std.proofs.lemmas.Bool.{and_parts, cases_eq, eq-eqb, eqb-true}
+use Rattle.std.proofs.lemmas.Bool.{and_parts, cases_eq, eq-eqb, eqb-true, and_from, cases_Bool}
 use Rattle.std.proofs.lemmas.List.Elements.{All-contains_itself, All-weaker}
 use Rattle.std.proofs.lemmas.List.Sums.{list_all-from_AllPass}
-use Rattle.strip_mask.specs.Set.{IsSet, has, meet, members, sum_over, union}
+use Rattle.strip_mask.specs.Set.{IsSet, has, meet, members, sum_over, union, numbers_below}
 use Rattle.strip_mask.specs.Sums.{sum_below}
-use Rattle.strip_mask.proofs.ByMembers.{has-meet, has-union, has_from_meet, has_from_union}
-use Rattle.strip_mask.proofs.Below.{and_true, is_set_below}
-use Rattle.strip_mask.proofs.Members.{Contains-members, below_from_members, has_from_members}
+use Rattle.strip_mask.proofs.ByMembers.{has-meet, has-union, has_from_meet, has_from_union, below_64}
+use Rattle.strip_mask.proofs.Below.{is_set_below}
+use Rattle.strip_mask.proofs.Members.{Contains-members, below_from_members, has_from_members, contains_number, members_is}
 use Rattle.strip_mask.proofs.Sums.{sum_below-ext, sum_below-none, sum_below-scale, sum_below-suc, sum_below-swap, sum_below-zero, sum_below_mono}
 use Rattle.strip_mask.proofs.Totals.{sum_over_is}
 use Rattle.strip_group.specs.Group.{GroupData}
 use Rattle.strip_arrivals.specs.Arrivals.{StateData, is_open, is_without, open_scenes}
 use Rattle.strip_arrivals.specs.Company.{just, scenes_where}
 use Rattle.strip_arrivals.specs.Gross.{weighted}
-use Rattle.strip_arrivals.proofs.Lists.{contains_cases, contains_filter, contains_from_filter, contains_none}
+use Rattle.strip_mask.proofs.Lists.{contains_cases, contains_none}
+use Rattle.strip_arrivals.proofs.Lists.{contains_filter, contains_from_filter}
 use Rattle.strip_arrivals.proofs.Casts.{has_listed, is_none, listed_has, none_works}
-use Rattle.strip_group.proofs.Places.{by_bit, same_test}
+use Rattle.strip_mask.proofs.Agree.{same_test}
 use Rattle.strip_arrivals.proofs.Gross.{weighted_alike}
+use Rattle.std.proofs.Math.Bool.{or-true}
 
 -- ---- lists, and short sums
 
@@ -71,10 +73,16 @@ scenes_mono first second set scene also there =
     has_listed (filter second (members set)) scene (contains_filter second (members set) scene parts.0 (also parts.1))
 
 -- what a set of scenes has that is chosen by a test
+pub has_chosen : (test : ℕ → Bool) (set scene : ℕ) → (has set scene ≡ true → scene < 64) → has (scenes_where test set) scene ≡ (has set scene && test scene)
+has_chosen test set scene small = same_test (has (scenes_where test set) scene) (has set scene && test scene)
+    (λ there. let parts = from_scenes test set scene there in and_from (has set scene) (test scene) parts.0 parts.1)
+    (λ both. let parts = and_parts (has set scene) (test scene) both in
+    let member : Contains (members set) scene
+    = subst (λ (xs : List ℕ). Contains xs scene) (sym (members_is set)) (contains_filter (has set) (numbers_below 64) scene (contains_number 64 scene (small parts.0)) parts.0) in
+    has_listed (filter test (members set)) scene (contains_filter test (members set) scene member parts.1))
+
 pub has_where : (test : ℕ → Bool) (set scene : ℕ) → IsSet set → has (scenes_where test set) scene ≡ (has set scene && test scene)
-has_where test set scene small = same_test (has (scenes_where test set) scene) (has set scene && test scene)
-    (λ there. let parts = from_scenes test set scene there in and_true (has set scene) (test scene) parts.0 parts.1)
-    (λ both. let parts = and_parts (has set scene) (test scene) both in has_scenes test set scene small parts.0 parts.1)
+has_where test set scene small = has_chosen test set scene (below_64 set scene small)
 
 -- the scenes that are chosen are a set
 pub scenes_small : (test : ℕ → Bool) (set : ℕ) → IsSet (scenes_where test set)
@@ -88,12 +96,8 @@ pub open_parts : (film : GroupData) (left gone scene : ℕ) → is_without film 
     → (is_without film left scene ≡ true) × (is_without film gone scene ≡ true)
 open_parts film left gone scene none = (
   is_none film left scene (λ i works off. none_works film (union left gone) scene i none works (has-union left gone i ∙ ap (λ b. b || has gone i) off)),
-  is_none film gone scene (λ i works off. none_works film (union left gone) scene i none works (has-union left gone i ∙ ap (λ b. has left i || b) off ∙ last (has left i))),
+  is_none film gone scene (λ i works off. none_works film (union left gone) scene i none works (has-union left gone i ∙ ap (λ b. has left i || b) off ∙ or-true (has left i))),
 )
-  where
-    last : (b : Bool) → (b || true) ≡ true
-    last true = refl
-    last false = refl
 
 -- and one is open where nobody off works
 pub open_from : (film : GroupData) (left gone scene : ℕ) → is_without film left scene ≡ true → is_without film gone scene ≡ true
@@ -117,7 +121,7 @@ module _ (film : GroupData) (set : ℕ) (state : StateData) (actor : ℕ) where
       → is_open film state scene ≡ true → has (slice_index film.casts scene) actor ≡ true → is_without film state.coming scene ≡ true
   if_fine small fine scene there unpaid works = all_passes (is_without film state.coming) (open_scenes film set state actor) scene fine
       (contains_filter (λ s. is_open film state s && has (slice_index film.casts s) actor) (members set) scene (Contains-members set scene small there)
-      (and_true (is_open film state scene) (has (slice_index film.casts scene) actor) unpaid works))
+      (and_from (is_open film state scene) (has (slice_index film.casts scene) actor) unpaid works))
 
 -- ---- days by class
 
@@ -171,7 +175,7 @@ module _ (film : GroupData) (set newcomers chosen : ℕ) (small : IsSet set) (in
       ∙ sum_below-swap classes 64 (λ kind scene. cond {A = ℕ} (has (class (kinds kind)) scene) (slice_index film.days scene * f scene) 0)
       ∙ sum_below-ext 64 (λ scene. sum_below classes (λ kind. cond {A = ℕ} (has (class (kinds kind)) scene) (slice_index film.days scene * f scene) 0))
       (λ scene. cond {A = ℕ} (has chosen scene) (slice_index film.days scene * f scene) 0)
-      (λ scene _. elim (by_bit (has chosen scene)) [
+      (λ scene _. elim (cases_Bool (has chosen scene)) [
         | inl there ↦ one_kind classes kinds scene (slice_index film.days scene * f scene) there
             ∙ ap (λ (n : ℕ). slice_index film.days scene * f scene * n) (once scene there) ∙ by_one (slice_index film.days scene * f scene)
             ∙ sym (ap (λ b. cond {A = ℕ} b (slice_index film.days scene * f scene) 0) there)
@@ -192,7 +196,7 @@ module _ (film : GroupData) (set newcomers chosen : ℕ) (small : IsSet set) (in
       = sum_below-ext classes (λ kind. sum_over film.days (class (kinds kind))) (λ kind. sum_below 64 (at kind)) (λ kind _. sum_over_is film.days (class (kinds kind)))
       ∙ sum_below-swap classes 64 at in
       let within : sum_below 64 (λ scene. sum_below classes (λ kind. at kind scene)) ≤ sum_below 64 all
-      = sum_below_mono 64 (λ scene. sum_below classes (λ kind. at kind scene)) all (λ scene _. elim (by_bit (has chosen scene)) [
+      = sum_below_mono 64 (λ scene. sum_below classes (λ kind. at kind scene)) all (λ scene _. elim (cases_Bool (has chosen scene)) [
         | inl there ↦ (let told : ℕ = sum_below classes (λ kind. cond {A = ℕ} (eqb (kinds kind) (meet (slice_index film.casts scene) newcomers)) 1 0) in
             let here : all scene ≡ slice_index film.days scene = ap (λ b. cond {A = ℕ} b (slice_index film.days scene) 0) there in
             let low : slice_index film.days scene * told ≤ slice_index film.days scene

@@ -1,12 +1,11 @@
 -- What is charged when someone leaves or goes, class by class of scenes: those in which of the newcomers just the same work.
 use Rattle.std.proofs.Common.{◌≡◌, ◌≢◌, ℕ, zero, suc, ◌+◌, ◌*◌, ◌-◌, ◌^◌, ◌<◌, ◌≤◌, ◌==◌, ◌⊎◌, Bool, true, false, not, ◌&&◌, ◌||◌, cond, eqb, List, [], ◌∷◌, Contains, length, slice_index, refl, sym, ap, ◌∙◌, subst, inl, inr, arith}
 use Rattle.std.proofs.Math.Pow.{pow_mono}
-use Rattle.std.proofs.lemmas.Bool.{and_parts, cases_lt, eq-eqb, eqb-true, false≢true, false_from_ne_true, or_right}
+use Rattle.std.proofs.lemmas.Bool.{and_parts, cases_lt, eq-eqb, eqb-true, false≢true, false_from_ne_true, or_right, and_from, cases_Bool}
 use Rattle.std.proofs.lemmas.List.{get_or_past}
 use Rattle.strip_mask.specs.Set.{IsSet, has, meet, minus, size, sum_over, with, without}
 use Rattle.strip_mask.specs.Sums.{sum_below}
-use Rattle.strip_mask.proofs.ByMembers.{below_width, empty_from, has-empty, has-meet, has-minus, has-with, has-with_same, has_from_meet, has_from_minus, has_from_with, same_has, IsSet-minus}
-use Rattle.strip_mask.proofs.Below.{and_true}
+use Rattle.strip_mask.proofs.ByMembers.{below_width, empty_from, has-empty, has-meet, has-minus, has-with, has-with_same, has_from_meet, has_from_minus, has_from_with, same_has, IsSet-minus, empty_has}
 use Rattle.strip_mask.proofs.Members.{Contains-members}
 use Rattle.strip_mask.proofs.Sums.{sum_below-ext, sum_below-none}
 use Rattle.strip_mask.proofs.Totals.{sum_over-empty, sum_over_mono, value_le_sum_over}
@@ -14,21 +13,20 @@ use Rattle.strip_sets.specs.Pass.{cost}
 use Rattle.strip_group.specs.Group.{GroupData}
 use Rattle.strip_group.specs.Places.{actor_at, pick}
 use Rattle.strip_arrivals.specs.Arrivals.{StateData, actors_of, allowed, events, goes, is_allowed, is_open, is_without, leaves}
-use Rattle.strip_arrivals.specs.Company.{AreCounted, AreLeaving, ArePrices, IsCompany, IsStage, awaiting, just, open_with, scenes_where, staying}
+use Rattle.strip_arrivals.specs.Company.{AreCounted, AreLeaving, ArePrices, IsCompany, IsStage, awaiting, just, open_with, staying}
 use Rattle.strip_arrivals.specs.Gross.{gross_charge}
-use Rattle.strip_arrivals.proofs.Lists.{contains_from_filter, contains_here}
-use Rattle.strip_group.proofs.Places.{by_bit, has_pick, same_test, without_most}
-use Rattle.strip_arrivals.proofs.Casts.{is_none, nobody, none_works}
+use Rattle.strip_mask.proofs.Lists.{contains_here}
+use Rattle.strip_arrivals.proofs.Lists.{contains_from_filter}
+use Rattle.strip_mask.proofs.Agree.{same_test}
+use Rattle.strip_sets.proofs.Sets.{without_most}
+use Rattle.strip_group.proofs.Places.{has_pick}
+use Rattle.strip_arrivals.proofs.Casts.{is_none, none_works}
 use Rattle.strip_arrivals.proofs.Along.{can_go, can_leave}
 use Rattle.strip_arrivals.proofs.Runs.{all_fine, may}
 use Rattle.strip_arrivals.proofs.Prices.{still_picked}
 use Rattle.strip_arrivals.proofs.Chosen.{days_most, fine_if, from_scenes, has_scenes, has_where, if_fine, open_from, open_parts, scenes_small, sum_four, sum_one, sum_two}
 use Rattle.strip_arrivals.proofs.Among.{IsAmong, agrees, alike_in, alike_two, among_both, among_none, among_with, either_once, either_one, first_listed, first_of_two, for_two, lacks, one_of_two, second_listed}
 use Rattle.strip_arrivals.proofs.Closing.{among_closed, charge_by, class_has, closed, closing, in_closed, left_at, of_here, open_class, open_fewer, parted}
-
--- what a set of scenes has that is chosen by a test
-pub has-scenes_where : (test : ℕ → Bool) (set scene : ℕ) → IsSet set → has (scenes_where test set) scene ≡ (has set scene && test scene)
-has-scenes_where test set scene small = has_where test set scene small
 
 -- ---- the sets of those who are here
 
@@ -43,7 +41,7 @@ pub record AreKinds (here : List ℕ) (count : ℕ) (kinds : ℕ → ℕ) : Type
 pub kinds_none : AreKinds [] 1 (slice_index (0 ∷ []))
 kinds_none = record {
   few = omega arith;
-  within = λ kind actor below there. absurd (nobody actor (first kind actor below there));
+  within = λ kind actor below there. absurd (empty_has actor (first kind actor below there));
   each = λ these among. sum_one (λ kind. cond {A = ℕ} (eqb (slice_index (0 ∷ []) kind) these) 1 0)
       ∙ ap (λ b. cond {A = ℕ} b 1 0) (alike_in [] 0 these (among_none []) among);
 }
@@ -68,7 +66,7 @@ kinds_one one = record {
     less = omega arith
 
     among_one : (kind actor : ℕ) → kind < 2 → has (slice_index (0 ∷ with 0 one ∷ []) kind) actor ≡ true → has (actors_of (one ∷ [])) actor ≡ true
-    among_one zero actor below there = absurd (nobody actor there)
+    among_one zero actor below there = absurd (empty_has actor there)
     among_one (suc zero) actor below there = there
     among_one (suc (suc kind)) actor below there = absurd (omega (arith, below))
 
@@ -93,7 +91,7 @@ kinds_two one other apart = record {
   where
     among_two : (kind actor : ℕ) → kind < 4 → has (slice_index (0 ∷ with 0 one ∷ with 0 other ∷ with (with 0 one) other ∷ []) kind) actor ≡ true
         → has (actors_of (one ∷ other ∷ [])) actor ≡ true
-    among_two zero actor below there = absurd (nobody actor there)
+    among_two zero actor below there = absurd (empty_has actor there)
     among_two (suc zero) actor below there = among_with (one ∷ other ∷ []) 0 one (among_none (one ∷ other ∷ [])) (first_listed one other) actor there
     among_two (suc (suc zero)) actor below there = among_with (one ∷ other ∷ []) 0 other (among_none (one ∷ other ∷ [])) (second_listed one other) actor there
     among_two (suc (suc (suc zero))) actor below there = among_both one other actor there
@@ -129,7 +127,7 @@ counted_most film group count numbers scenes sums counted places lt =
 
 -- each set of newcomers is at most one of them
 kinds_most : (here : List ℕ) (classes : ℕ) (kinds : ℕ → ℕ) → AreKinds here classes kinds → (these : ℕ) → sum_below classes (λ kind. cond {A = ℕ} (eqb (kinds kind) these) 1 0) ≤ 1
-kinds_most here classes kinds are_kinds these = elim (by_bit (eqb (minus these (actors_of here)) 0)) [
+kinds_most here classes kinds are_kinds these = elim (cases_Bool (eqb (minus these (actors_of here)) 0)) [
   | inl inside ↦ (let one : sum_below classes (λ kind. cond {A = ℕ} (eqb (kinds kind) these) 1 0) ≡ 1
       = are_kinds.each these (λ actor there. among (has these actor) (has (actors_of here) actor) there
       (sym (has-minus these (actors_of here) actor) ∙ ap (λ (s : ℕ). has s actor) (eqb-true (minus these (actors_of here)) 0 inside) ∙ has-empty actor)) in
@@ -157,7 +155,7 @@ module _ (film : GroupData) (set group newcomers : ℕ) (known : IsCompany film 
   has_days : (scene actor : ℕ) → has (slice_index film.casts scene) actor ≡ true → 0 < slice_index film.days scene
   has_days scene actor works = elim (cases_lt scene (length film.casts)) [
     | inl lt ↦ known.some_days scene 0 (omega (arith, lt, known.limits.day_count))
-    | inr past ↦ absurd (nobody actor (sym (ap (λ (cast : ℕ). has cast actor) (get_or_past film.casts scene 0 past)) ∙ works))
+    | inr past ↦ absurd (empty_has actor (sym (ap (λ (cast : ℕ). has cast actor) (get_or_past film.casts scene 0 past)) ∙ works))
   ]
 
   -- the classes of a stage have no more days than the set
@@ -243,7 +241,7 @@ module _ (film : GroupData) (set group newcomers : ℕ) (known : IsCompany film 
             (all_fine film set group known.small (staying group coming here gone places) (leaves (actor_at group place)) nobody_comes);
         only = λ _. refl;
         charged = λ _. leaving_cost places place lt there (λ scene _ _ _. is_none film coming scene (λ i works expected.
-            nobody i (subst (λ (s : ℕ). has s i ≡ true) nobody_comes expected)));
+            empty_has i (subst (λ (s : ℕ). has s i ≡ true) nobody_comes expected)));
       }
 
       -- else one may leave who works in none of the scenes that await someone
@@ -265,16 +263,16 @@ module _ (film : GroupData) (set group newcomers : ℕ) (known : IsCompany film 
           = omega (arith, counted places below, counted (without places place) less, parted film group places place scenes place_within small film.days) in
           let free : blocked (without places place) ≡ blocked places → (scene : ℕ) → has set scene ≡ true → is_open film state scene ≡ true
           → has (slice_index film.casts scene) actor ≡ true → is_without film coming scene ≡ true
-          = λ same scene inside unpaid works. elim (by_bit (is_without film coming scene)) [
+          = λ same scene inside unpaid works. elim (cases_Bool (is_without film coming scene)) [
             | inl fine ↦ fine
             | inr expected ↦ (
                 let parts = open_parts film (left_at film group places) gone scene unpaid in
                 let awaited : has scenes scene ≡ true
-                = has_scenes test set scene known.small_set inside (and_true (not (is_without film coming scene)) (is_without film gone scene) (ap not expected) parts.1) in
+                = has_scenes test set scene known.small_set inside (and_from (not (is_without film coming scene)) (is_without film gone scene) (ap not expected) parts.1) in
                 let is_shut : has shut scene ≡ true
-                = closing film group places place scenes place_within small scene ∙ and_true (has scenes scene)
+                = closing film group places place scenes place_within small scene ∙ and_from (has scenes scene)
                 (is_without film (left_at film group places) scene && has (slice_index film.casts scene) actor) awaited
-                (and_true (is_without film (left_at film group places) scene) (has (slice_index film.casts scene) actor) parts.0 works) in
+                (and_from (is_without film (left_at film group places) scene) (has (slice_index film.casts scene) actor) parts.0 works) in
                 let some = has_days scene actor works in
                 let at_least = value_le_sum_over film.days shut scene shut_small is_shut in
                 absurd (omega (arith, some, at_least, split, same)))
@@ -343,7 +341,7 @@ module _ (film : GroupData) (set group newcomers : ℕ) (known : IsCompany film 
       = among_closed film set group newcomers coming (one ∷ []) gone stage known.small_set places one free scene there in
       let works : has these one ≡ true
       = has-meet (slice_index film.casts scene) newcomers one
-      ∙ and_true (has (slice_index film.casts scene) one) (has newcomers one) parts.2 (of_here newcomers coming (one ∷ []) gone stage one (has-with_same 0 one)) in
+      ∙ and_from (has (slice_index film.casts scene) one) (has newcomers one) parts.2 (of_here newcomers coming (one ∷ []) gone stage one (has-with_same 0 one)) in
       sum_one (λ _. cond {A = ℕ} (eqb (with 0 one) these) 1 0)
       ∙ ap (λ b. cond {A = ℕ} b 1 0) (alike_in (one ∷ []) (with 0 one) these (λ who inside. inside) among
       ∙ (λ i. agrees (has-with_same 0 one i) (works i) && true)))
@@ -354,7 +352,7 @@ module _ (film : GroupData) (set group newcomers : ℕ) (known : IsCompany film 
       → (places : ℕ) → places < 2 ^ size group
       → price places * days places ≡ gross_charge film set group (staying group 0 (one ∷ []) gone places) (goes one)
   alone_goes one gone price days stage priced are_days places lt =
-      one_goes 0 one gone price days stage priced are_days places lt (λ scene _ _ _. is_none film 0 scene (λ i works expected. nobody i expected))
+      one_goes 0 one gone price days stage priced are_days places lt (λ scene _ _ _. is_none film 0 scene (λ i works expected. empty_has i expected))
 
   -- one of the two who are here goes
   pub either_goes : (one other actor : ℕ) (price days price_both days_both : ℕ → ℕ) → IsStage newcomers 0 (one ∷ other ∷ []) 0
@@ -379,10 +377,10 @@ module _ (film : GroupData) (set group newcomers : ℕ) (known : IsCompany film 
       let these : ℕ = meet (slice_index film.casts scene) newcomers in
       let parts = in_closed film set group newcomers 0 here 0 stage known.small_set places actor scene inside in
       let among : IsAmong here these
-      = among_closed film set group newcomers 0 here 0 stage known.small_set places actor (λ s _ _ _. is_none film 0 s (λ i works expected. nobody i expected)) scene inside in
+      = among_closed film set group newcomers 0 here 0 stage known.small_set places actor (λ s _ _ _. is_none film 0 s (λ i works expected. empty_has i expected)) scene inside in
       let works : has these actor ≡ true
       = has-meet (slice_index film.casts scene) newcomers actor
-      ∙ and_true (has (slice_index film.casts scene) actor) (has newcomers actor) parts.2 (of_here newcomers 0 here 0 stage actor is_here) in
+      ∙ and_from (has (slice_index film.casts scene) actor) (has newcomers actor) parts.2 (of_here newcomers 0 here 0 stage actor is_here) in
       sum_two (λ kind. cond {A = ℕ} (eqb (kinds kind) these) 1 0) ∙ either_once one other actor these apart which among works)
 
   module _ (one other : ℕ) (stage : IsStage newcomers (with 0 other) (one ∷ []) 0)
@@ -405,10 +403,10 @@ module _ (film : GroupData) (set group newcomers : ℕ) (known : IsCompany film 
         (sym (stage.whole i) ∙ (has_from_meet (slice_index film.casts scene) newcomers i there).1))
         (λ there. elim (one_of_two one other i there) [
           | inl is ↦ subst (λ (who : ℕ). has (meet (slice_index film.casts scene) newcomers) who ≡ true) is
-              (has-meet (slice_index film.casts scene) newcomers one ∙ and_true (has (slice_index film.casts scene) one) (has newcomers one) works
+              (has-meet (slice_index film.casts scene) newcomers one ∙ and_from (has (slice_index film.casts scene) one) (has newcomers one) works
               (of_here newcomers (with 0 other) (one ∷ []) 0 stage one (has-with_same 0 one)))
           | inr is ↦ subst (λ (who : ℕ). has (meet (slice_index film.casts scene) newcomers) who ≡ true) is
-              (has-meet (slice_index film.casts scene) newcomers other ∙ and_true (has (slice_index film.casts scene) other) (has newcomers other) works_too
+              (has-meet (slice_index film.casts scene) newcomers other ∙ and_from (has (slice_index film.casts scene) other) (has newcomers other) works_too
               (stage.whole other ∙ ap (λ b. b || (has (with 0 one) other || has 0 other)) (has-with_same 0 other)))
         ]))
       where
@@ -424,7 +422,7 @@ module _ (film : GroupData) (set group newcomers : ℕ) (known : IsCompany film 
     none_expected : both places ≡ 0 → (scene : ℕ) → has set scene ≡ true → is_open film (staying group (with 0 other) (one ∷ []) 0 places) scene ≡ true
         → has (slice_index film.casts scene) one ≡ true → is_without film (with 0 other) scene ≡ true
     none_expected none scene inside unpaid works = is_none film (with 0 other) scene (λ i works_too expected.
-        let is : other ≡ i = elim (has_from_with 0 other i expected) [ inl same ↦ same | inr no_one ↦ absurd (nobody i no_one) ] in
+        let is : other ≡ i = elim (has_from_with 0 other i expected) [ inl same ↦ same | inr no_one ↦ absurd (empty_has i no_one) ] in
         let test : ℕ → Bool = λ s. eqb (meet (slice_index film.casts s) newcomers) (with (with 0 one) other) in
         let free : ℕ → Bool = is_without film (minus group (pick group places)) in
         let same = are_both scene works (ap (has (slice_index film.casts scene)) is ∙ works_too) in
@@ -460,7 +458,7 @@ module _ (film : GroupData) (set group newcomers : ℕ) (known : IsCompany film 
         ∙ or_right (eqb other one) (has (with 0 one) one) (has-with_same 0 one))).0 in
         let works_too : has (slice_index film.casts scene) other ≡ true
         = (has_from_meet (slice_index film.casts scene) newcomers other (ap (λ (s : ℕ). has s other) same ∙ has-with_same (with 0 one) other)).0 in
-        let unpaid = open_from film (minus group (pick group places)) 0 scene outer.1 (is_none film 0 scene (λ i at_work expected. nobody i expected)) in
+        let unpaid = open_from film (minus group (pick group places)) 0 scene outer.1 (is_none film 0 scene (λ i at_work expected. empty_has i expected)) in
         none_works film (with 0 other) scene other (if_fine film set state one known.small_set fine scene inner.0 unpaid works) works_too (has-with_same 0 other))) in
         counted places below_all ∙ ap (sum_over film.days) empty ∙ sum_over-empty film.days
 

@@ -1,21 +1,22 @@
 -- The open scenes that are closed when someone leaves or goes, and what they cost.
 use Rattle.std.proofs.Common.{◌≡◌, ℕ, ◌+◌, ◌*◌, ◌<◌, Bool, true, false, not, ◌&&◌, ◌||◌, cond, eqb, List, slice_index, refl, sym, ap, ◌∙◌}
-use Rattle.std.proofs.lemmas.Bool.{and_parts, eqb-true, false≢true, false_from_ne_true}
+use Rattle.std.proofs.lemmas.Bool.{and_parts, eqb-true, false≢true, false_from_ne_true, and_from}
 use Rattle.strip_mask.specs.Set.{IsSet, has, meet, minus, size, sum_over, with, without}
 use Rattle.strip_mask.specs.Sums.{sum_below}
 use Rattle.strip_mask.proofs.ByMembers.{has-meet, has-minus, has-with, has-without, has_from_meet, has_from_minus, has_from_without, same_has}
-use Rattle.strip_mask.proofs.Below.{and_true}
 use Rattle.strip_mask.proofs.Totals.{sum_over-minus}
 use Rattle.strip_group.specs.Group.{GroupData}
 use Rattle.strip_group.specs.Places.{actor_at, pick}
 use Rattle.strip_arrivals.specs.Arrivals.{actors_of, is_open, is_without, leaves}
 use Rattle.strip_arrivals.specs.Company.{IsStage, just, open_with, scenes_where, staying}
 use Rattle.strip_arrivals.specs.Gross.{gross_charge, gross_price, weighted}
-use Rattle.strip_group.proofs.Places.{actor_there, has_from_pick, has_pick, pick-without, same_test}
+use Rattle.strip_mask.proofs.Agree.{same_test}
+use Rattle.strip_group.proofs.Places.{actor_there, has_from_pick, has_pick, pick-without}
 use Rattle.strip_arrivals.proofs.Casts.{is_none, none_works, without_one}
 use Rattle.strip_arrivals.proofs.Waits.{least_alike}
 use Rattle.strip_arrivals.proofs.Chosen.{by_classes, from_scenes, has_where, open_from, open_parts, scenes_small, scenes_mono}
 use Rattle.strip_arrivals.proofs.Among.{IsAmong}
+use Rattle.std.proofs.Math.Bool.{and-true}
 
 -- ---- open scenes by places
 
@@ -50,7 +51,7 @@ module _ (film : GroupData) (group : ℕ) where
       still i has_left =
           let parts = has_from_minus group (pick group places) i has_left in
           has-minus group (pick group (without places place)) i
-          ∙ and_true (has group i) (not (has (pick group (without places place)) i)) parts.0
+          ∙ and_from (has group i) (not (has (pick group (without places place)) i)) parts.0
           (ap not (false_from_ne_true (has (pick group (without places place)) i) (λ stays.
           let found = has_from_pick group (without places place) i stays in
           let before = has_from_without places place found.0 found.2 in
@@ -152,7 +153,7 @@ module _ (film : GroupData) (set group newcomers coming : ℕ) (here : List ℕ)
   none_gone these scene among is = is_none film gone scene (λ actor works is_gone.
       let newcomer : has newcomers actor ≡ true = stage.whole actor ∙ gone_one (has coming actor) (has (actors_of here) actor) (has gone actor) is_gone in
       let inside : has these actor ≡ true = ap (λ (s : ℕ). has s actor) (sym is) ∙ has-meet (slice_index film.casts scene) newcomers actor
-      ∙ and_true (has (slice_index film.casts scene) actor) (has newcomers actor) works newcomer in
+      ∙ and_from (has (slice_index film.casts scene) actor) (has newcomers actor) works newcomer in
       false≢true (sym (stage.not_gone actor (among actor inside)) ∙ is_gone))
     where
       gone_one : (c h g : Bool) → g ≡ true → (c || (h || g)) ≡ true
@@ -176,11 +177,7 @@ module _ (film : GroupData) (set group newcomers coming : ℕ) (here : List ℕ)
       (least_alike film set (staying group coming here gone places) (slice_index film.casts scene) these (λ actor is_here.
       let newcomer : has newcomers actor ≡ true = of_here newcomers coming here gone stage actor is_here in
       sym (ap (λ (s : ℕ). has s actor) (sym is) ∙ has-meet (slice_index film.casts scene) newcomers actor
-      ∙ ap (λ b. has (slice_index film.casts scene) actor && b) newcomer ∙ and_one (has (slice_index film.casts scene) actor))))
-    where
-      and_one : (b : Bool) → (b && true) ≡ b
-      and_one true = refl
-      and_one false = refl
+      ∙ ap (λ b. has (slice_index film.casts scene) actor && b) newcomer ∙ and-true (has (slice_index film.casts scene) actor))))
 
   -- the scenes that are closed by one
   abbrev pub closed : ℕ → ℕ

@@ -1,13 +1,13 @@
 -- Numbers of scenes, counted at the places of who works in them and summed up below each set of places.
-use Rattle.std.proofs.Common.{◌≡◌, ℕ, zero, suc, ◌+◌, ◌^◌, ◌<◌, ◌≤◌, ◌==◌, Bool, true, false, ◌&&◌, cond, List, [], ◌∷◌, ◌++◌, Contains, filter, sum_by, slice_index, refl, sym, ap, ◌∙◌, subst, arith}
-use Rattle.std.proofs.lemmas.Bool.{and_parts, eq-eqb, eqb-true, false≢true, false_from_ne_true}
+use Rattle.std.proofs.Common.{◌≡◌, ℕ, zero, suc, ◌+◌, ◌^◌, ◌<◌, ◌≤◌, ◌==◌, Bool, true, false, ◌&&◌, cond, List, [], ◌∷◌, ◌++◌, sum_by, slice_index, refl, sym, ap, ◌∙◌, arith}
+use Rattle.std.proofs.lemmas.Bool.{eq-eqb, eqb-true, false≢true, false_from_ne_true}
 use Rattle.std.proofs.lemmas.List.Sums.{sum_by-append, sum_by-cons, sum_by-le-sum_by}
-use Rattle.strip_mask.specs.Set.{IsSet, full, has, members, minus, numbers_below, sum_over, with}
+use Rattle.strip_mask.specs.Set.{IsSet, full, has, members, minus, sum_over, with}
 use Rattle.strip_mask.proofs.ByMembers.{below_width, empty_from, has_from_minus}
-use Rattle.strip_mask.proofs.Below.{and_true, has_full}
-use Rattle.strip_mask.proofs.Members.{has_from_members, members_is}
+use Rattle.strip_mask.proofs.Below.{has_full}
+use Rattle.strip_mask.proofs.Members.{members_is}
 use Rattle.strip_mask.proofs.Sums.{sum_below-ext}
-use Rattle.strip_mask.proofs.Totals.{sum_over_is}
+use Rattle.strip_mask.proofs.Totals.{sum_over_is, sum_kept}
 use Rattle.strip_mask.proofs.Turns.{turn_fits, turns_sum}
 use Rattle.strip_group.specs.Group.{GroupData}
 use Rattle.strip_group.specs.Places.{pick}
@@ -15,35 +15,22 @@ use Rattle.strip_sets.specs.Laws.{MoreInEachAbove}
 use Rattle.strip_sets.specs.Numbers.{sum_within}
 use Rattle.strip_sets.specs.Pass.{counted}
 use Rattle.strip_arrivals.specs.Arrivals.{is_without}
-use Rattle.strip_arrivals.specs.Company.{IsCrew, open_with, scenes_where}
+use Rattle.strip_arrivals.specs.Company.{IsCrew, open_with}
 use Rattle.strip_arrivals.specs.declared.crew.Crew.{Crew}
 use Rattle.strip_arrivals.proofs.ByPlace.{lies_in}
-use Rattle.strip_arrivals.proofs.Casts.{has_listed, listed_has}
-use Rattle.strip_arrivals.proofs.Lists.{contains_filter, contains_from_filter, contains_number, sum_kept}
-use Rattle.strip_group.proofs.Places.{lies_small, same_test, with_small}
+use Rattle.strip_sets.proofs.Sets.{with_small, wider_top}
+use Rattle.strip_sets.proofs.Parts.{within_agree}
+use Rattle.strip_arrivals.proofs.Chosen.{has_chosen}
 
 -- ---- sums over subsets
-
--- a set below is one of more places too
-wider : (n set : ℕ) → set < 2 ^ n → set < 2 ^ suc n
-wider n set lt = lies_small (suc n) set (λ i there. (let below : i < n = below_width set n i lt there in omega (arith, below)))
-
--- of numbers that agree
-within_same : (n : ℕ) (f g : ℕ → ℕ) (set : ℕ) → ((s : ℕ) → s < 2 ^ n → f s ≡ g s) → sum_within n f set ≡ sum_within n g set
-within_same zero f g set same = same 0 (omega arith)
-within_same (suc n) f g set same =
-    let low : sum_within n f set ≡ sum_within n g set = within_same n f g set (λ s lt. same s (wider n s lt)) in
-    let high : sum_within n (λ part. f (with part n)) set ≡ sum_within n (λ part. g (with part n)) set
-    = within_same n (λ part. f (with part n)) (λ part. g (with part n)) set (λ s lt. same (with s n) (with_small (suc n) s n (wider n s lt) (omega arith))) in
-    λ i. low i + cond {A = ℕ} (has set n) (high i) 0
 
 -- of nothing
 pub within_none : (n : ℕ) (f : ℕ → ℕ) (set : ℕ) → ((s : ℕ) → s < 2 ^ n → f s ≡ 0) → sum_within n f set ≡ 0
 within_none zero f set none = none 0 (omega arith)
 within_none (suc n) f set none =
-    let low : sum_within n f set ≡ 0 = within_none n f set (λ s lt. none s (wider n s lt)) in
+    let low : sum_within n f set ≡ 0 = within_none n f set (λ s lt. none s (wider_top n s lt)) in
     let high : sum_within n (λ part. f (with part n)) set ≡ 0
-    = within_none n (λ part. f (with part n)) set (λ s lt. none (with s n) (with_small (suc n) s n (wider n s lt) (omega arith))) in
+    = within_none n (λ part. f (with part n)) set (λ s lt. none (with s n) (with_small (suc n) s n (wider_top n s lt) (omega arith))) in
     (λ i. low i + cond {A = ℕ} (has set n) (high i) 0) ∙ nothing (has set n)
   where
     nothing : (b : Bool) → 0 + cond {A = ℕ} b 0 0 ≡ 0
@@ -55,7 +42,7 @@ within_full : MoreInEachAbove → (n : ℕ) (f : ℕ → ℕ) (set : ℕ) → se
 within_full law n f set lt =
     let others : ℕ → ℕ = λ other. cond {A = ℕ} (other == set) 0 (f other) in
     let same : sum_within n f (full n) ≡ sum_within n (λ other. others other + counted (other == set) (f set)) (full n)
-    = within_same n f (λ other. others other + counted (other == set) (f set)) (full n) (λ other _. split (other == set) other (λ is. eqb-true other set is)) in
+    = within_agree n f (λ other. others other + counted (other == set) (f set)) (full n) (λ other _. split (other == set) other (λ is. eqb-true other set is)) in
     let part : (minus set (full n) == 0) ≡ true = eq-eqb (minus set (full n)) 0 (empty_from (minus set (full n)) (λ i. false_from_ne_true (has (minus set (full n)) i) (λ there. (
     let parts = has_from_minus set (full n) i there in
     false≢true (sym parts.1 ∙ has_full n i (below_width set n i lt parts.0)))))) in
@@ -102,7 +89,7 @@ module _ (casts numbers : List ℕ) where
         let one : sum_by (part_of places) (scene ∷ []) ≡ part_of places scene = sum_by-cons (part_of places) scene [] ∙ last (part_of places scene) in
         omega (
           arith,
-          within_same count more added places is,
+          within_agree count more added places is,
           law count sums (slice_index casts scene) (slice_index numbers scene) places (small scene),
           so_far places,
           sum_by-append (part_of places) done (scene ∷ []),
@@ -118,16 +105,6 @@ module _ (casts numbers : List ℕ) where
 
 -- ---- a crew
 
--- what a set of scenes has that is chosen by a test
-pub has_where : (test : ℕ → Bool) (set scene : ℕ) → scene < 64 → has (scenes_where test set) scene ≡ (has set scene && test scene)
-has_where test set scene lt = same_test (has (scenes_where test set) scene) (has set scene && test scene)
-    (λ there. (let parts = contains_from_filter test (members set) scene (listed_has (filter test (members set)) scene there) in
-    and_true (has set scene) (test scene) (has_from_members set scene parts.0) parts.1))
-    (λ both. (let parts = and_parts (has set scene) (test scene) both in
-    let member : Contains (members set) scene
-    = subst (λ (xs : List ℕ). Contains xs scene) (sym (members_is set)) (contains_filter (has set) (numbers_below 64) scene (contains_number 64 scene lt) parts.0) in
-    has_listed (filter test (members set)) scene (contains_filter test (members set) scene member parts.1)))
-
 module _ {S : Type 0} (value : S → ℕ → ℕ) (count : ℕ) (film : GroupData) (crew : Crew S) (known : IsCrew value count film crew) (small : IsSet crew.group.0) where
   -- all scenes of a set are counted
   pub counts_are : (numbers : List ℕ) (scenes : ℕ) (done : List ℕ) → done ≡ members scenes → ((scene : ℕ) → has scenes scene ≡ true → has crew.set.0 scene ≡ true)
@@ -140,7 +117,7 @@ module _ {S : Type 0} (value : S → ℕ → ℕ) (count : ℕ) (film : GroupDat
       (λ scene. cond {A = ℕ} (has (open_with film crew.group.0 places scenes) scene) (slice_index numbers scene) 0) (λ scene lt.
       one (has scenes scene) (minus (slice_index crew.casts scene) places == 0) (is_without film out scene) (slice_index numbers scene)
       (λ there. lies_in value count film crew known small scene places (within scene there))
-      ∙ ap (λ (b : Bool). cond {A = ℕ} b (slice_index numbers scene) 0) (sym (has_where (is_without film out) scenes scene lt)))
+      ∙ ap (λ (b : Bool). cond {A = ℕ} b (slice_index numbers scene) 0) (sym (has_chosen (is_without film out) scenes scene (λ _. lt))))
       ∙ sym (sum_over_is numbers (open_with film crew.group.0 places scenes))
     where
       one : (a b c : Bool) (n : ℕ) → (a ≡ true → b ≡ c) → cond {A = ℕ} a (counted b n) 0 ≡ cond {A = ℕ} (a && c) n 0

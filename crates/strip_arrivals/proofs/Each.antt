@@ -5,11 +5,11 @@ use Rattle.std.proofs.lemmas.Bool.Decides.{eqb_tells}
 use Rattle.std.proofs.lemmas.List.Sums.{sum_by-cons}
 use Rattle.strip_mask.specs.Set.{IsSet, has, minus, size, without}
 use Rattle.strip_mask.specs.Sums.{sum_below}
-use Rattle.strip_mask.proofs.ByMembers.{IsSet-without, below_64, has-empty, has-minus, has-without, has-without_other, has-without_same, has_from_minus, has_from_without, same_has, some_member}
+use Rattle.strip_mask.proofs.ByMembers.{IsSet-without, below_64, has-empty, has-minus, has-without, has-without_other, has-without_same, has_from_minus, has_from_without, same_has, some_member, minus_none}
 use Rattle.strip_mask.proofs.Sizes.{empty_from_size, size-empty, size-without}
 use Rattle.strip_mask.proofs.Sums.{sum_below-none, sum_below-point}
 use Rattle.strip_arrivals.specs.Along.{HasEach}
-use Rattle.strip_arrivals.proofs.Lists.{contains_cases, contains_none}
+use Rattle.strip_mask.proofs.Lists.{contains_cases, contains_none}
 
 -- each number of such a list is of the set
 pub each_member : (set : ℕ) (xs : List ℕ) (x : ℕ) → HasEach set xs → Contains xs x → has set x ≡ true
@@ -43,13 +43,6 @@ each_listed (suc n) set small more =
 pub list_of : (set : ℕ) → IsSet set → (xs : List ℕ) × HasEach set xs
 list_of set small = each_listed (size set) set small refl
 
-minus-none : (set : ℕ) → minus set 0 ≡ set
-minus-none set = same_has (minus set 0) set (λ i. has-minus set 0 i ∙ rw (has-empty i) (same (has set i)))
-  where
-    same : (b : Bool) → (b && not false) ≡ b
-    same true = refl
-    same false = refl
-
 -- one that both have taken out of both
 minus-without : (set part x : ℕ) → has part x ≡ true → minus set part ≡ minus (without set x) (without part x)
 minus-without set part x there = same_has (minus set part) (minus (without set x) (without part x)) (λ i.
@@ -78,7 +71,7 @@ without-minus set part x = same_has (without (minus set part) x) (minus (without
 
 -- a list of a part, and one of the others behind it
 pub each_append : (set part : ℕ) (xs ys : List ℕ) → ((i : ℕ) → has part i ≡ true → has set i ≡ true) → HasEach part xs → HasEach (minus set part) ys → HasEach set (xs ++ ys)
-each_append set part [] ys within none each = subst (λ s. HasEach s ys) (ap (minus set) none ∙ minus-none set) each
+each_append set part [] ys within none each = subst (λ s. HasEach s ys) (ap (minus set) none ∙ minus_none set) each
 each_append set part (x ∷ xs) ys within (first, later) each = (
   within x first,
   each_append (without set x) (without part x) xs ys

@@ -3,18 +3,21 @@ use Rattle.std.proofs.Common.{◌≡◌, ℕ, suc, ◌+◌, ◌<◌, ◌≤◌, 
 use Rattle.std.proofs.Math.Seq.{take-append_seam, drop-append_seam, drop-length}
 use Rattle.std.proofs.lemmas.List.{take-append-drop}
 use Rattle.std.proofs.lemmas.List.Elements.{Contains-append_cases, filter-append}
-use Rattle.std.proofs.lemmas.Bool.{false≢true, or_left, false_from_ne_true, not_from_false, not-true}
+use Rattle.std.proofs.lemmas.Bool.{false≢true, or_left, false_from_ne_true, not_from_false, not-true, and_from}
 use Rattle.std.proofs.lemmas.Bool.Decides.{eqb_tells}
 use Rattle.strip_mask.specs.Set.{has, meet, members, minus, numbers_below, sum_over, union, with}
 use Rattle.strip_mask.specs.Sums.{sum_below}
-use Rattle.strip_mask.proofs.ByMembers.{has-meet, has-minus, has-union, has-with, has_from_meet, has_from_minus}
-use Rattle.strip_mask.proofs.Below.{and_true}
+use Rattle.strip_mask.proofs.ByMembers.{has-meet, has-minus, has-union, has-with, has_from_meet, has_from_minus, empty_has}
 use Rattle.strip_mask.proofs.Sums.{sum_below-add, sum_below_mono}
 use Rattle.strip_mask.proofs.Totals.{sum_over_is, sum_over_mono}
-use Rattle.strip_group.specs.Group.{GroupData, least_over}
+use Rattle.strip_mask.specs.Least.{least_over}
+use Rattle.strip_group.specs.Group.{GroupData}
 use Rattle.strip_arrivals.specs.Arrivals.{StateData, actors_of, after, can_have_come, comes, is_open, is_without, leaves, mates, paid_where, price}
-use Rattle.strip_arrivals.proofs.Lists.{contains_cases, contains_filter, contains_from_filter, contains_none, contains_number, least_over_attained, least_over_le}
-use Rattle.strip_arrivals.proofs.Casts.{cast_has, has_cast, has_listed, is_none, listed_filter, listed_has, nobody, none_works, some_works}
+use Rattle.strip_mask.proofs.Lists.{contains_cases, contains_none}
+use Rattle.strip_mask.proofs.Members.{contains_number}
+use Rattle.strip_mask.proofs.Least.{least_over_le, least_over_attained}
+use Rattle.strip_arrivals.proofs.Lists.{contains_filter, contains_from_filter}
+use Rattle.strip_arrivals.proofs.Casts.{cast_has, has_cast, has_listed, is_none, listed_filter, listed_has, none_works, some_works}
 
 -- ---- sums over two sets
 
@@ -136,7 +139,7 @@ module _ (film : GroupData) (set : ℕ) where
     cheapest state scene =
         let n : ℕ = length state.here in
         let all_came : can_have_come film state scene n ≡ true
-        = ap (λ (xs : List ℕ). is_without film (actors_of xs) scene) (drop-length state.here) ∙ is_none film 0 scene (λ i works there. nobody i there) in
+        = ap (λ (xs : List ℕ). is_without film (actors_of xs) scene) (drop-length state.here) ∙ is_none film 0 scene (λ i works there. empty_has i there) in
         let found = least_over_attained (paid_where film set state scene) (numbers state scene) n
         (contains_filter (can_have_come film state scene) (numbers_below (suc n)) n (contains_number (suc n) n (omega arith)) all_came) in record {
           early = take found.0 state.here;
@@ -183,12 +186,12 @@ module _ (film : GroupData) (set : ℕ) where
         = sum_over_mono film.holds (came first scene) (came best.early scene) (λ i there.
         let parts = has_from_minus (actors_of first) cast i there in
         has-minus (actors_of best.early) cast i
-        ∙ and_true (has (actors_of best.early) i) (not (has cast i)) (listed_filter kept best.early i parts.0) (not_from_false (has cast i) parts.1)) in
+        ∙ and_from (has (actors_of best.early) i) (not (has cast i)) (listed_filter kept best.early i parts.0) (not_from_false (has cast i) parts.1)) in
         let fewer_held : sum_over film.holds (held state.left last) ≤ sum_over film.holds (held state.left best.later)
         = sum_over_mono film.holds (held state.left last) (held state.left best.later) (λ i there.
         let parts = has_from_meet state.left (mates film set (actors_of last)) i there in
         has-meet state.left (mates film set (actors_of best.later)) i
-        ∙ and_true (has state.left i) (has (mates film set (actors_of best.later)) i) parts.0 (mates_of_fewer kept best.later i parts.1)) in
+        ∙ and_from (has state.left i) (has (mates film set (actors_of best.later)) i) parts.0 (mates_of_fewer kept best.later i parts.1)) in
         omega (arith, most, alike, fewer_came, fewer_held, best.reached)
 
     -- one of the group leaves who doesn't work in the scene
@@ -261,7 +264,7 @@ module _ (film : GroupData) (set : ℕ) where
         let parts = has_from_meet state.left (mates film set (actors_of last)) i there in
         let found = mates_share last i parts.1 in
         has-meet state.left (mates film set (actors_of best.later)) i
-        ∙ and_true (has state.left i) (has (mates film set (actors_of best.later)) i) parts.0 (elim (either found.one found.listed) [
+        ∙ and_from (has state.left i) (has (mates film set (actors_of best.later)) i) parts.0 (elim (either found.one found.listed) [
           | inl before ↦ share_mates best.later i found.scene found.one found.of_set found.works before found.one_works
           | inr same ↦ absurd (none_works film (union state.left state.gone) found.scene i
               (awaited found.scene actor found.of_set (subst (λ k. has (slice_index film.casts found.scene) k ≡ true) (sym same) found.one_works) expected)

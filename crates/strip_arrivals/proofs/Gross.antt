@@ -1,7 +1,7 @@
 -- Totals with what those who work in a scene of the group get for its days beside.
-use Rattle.std.proofs.Common.{◌≡◌, ℕ, ◌+◌, ◌*◌, ◌<◌, ◌≤◌, ◌⊎◌, Bool, true, false, not, ◌&&◌, ◌||◌, cond, min, List, [], ◌∷◌, Contains, slice_index, refl, sym, ap, ◌∙◌, subst, inl, inr, arith}
+use Rattle.std.proofs.Common.{◌≡◌, ℕ, ◌+◌, ◌*◌, ◌<◌, ◌≤◌, ◌⊎◌, Bool, true, false, not, ◌&&◌, cond, min, List, [], ◌∷◌, Contains, slice_index, refl, sym, ap, ◌∙◌, subst, inl, inr, arith}
 use Rattle.std.proofs.Math.Nat.{min-le_left, min-le_right, min-eq_left, min-eq_right}
-use Rattle.std.proofs.lemmas.Bool.{cases_lt, false≢true}
+use Rattle.std.proofs.lemmas.Bool.{cases_lt, false≢true, or_left}
 use Rattle.strip_mask.specs.Set.{has, meet, minus, sum_over}
 use Rattle.strip_mask.specs.Sums.{sum_below}
 use Rattle.strip_mask.proofs.ByMembers.{has-empty, has-meet, has-minus, has-union, same_has}
@@ -58,14 +58,10 @@ module _ (film : GroupData) (set group : ℕ) where
       let here : meet (minus group state.left) cast ≡ meet cast group
       = same_has (meet (minus group state.left) cast) (meet cast group) (λ i.
       has-meet (minus group state.left) cast i ∙ ap (λ b. b && has cast i) (has-minus group state.left i)
-      ∙ none_left (has group i) (has state.left i) (has cast i) (λ works left. none_works film _ scene i unpaid works (has-union state.left state.gone i ∙ or_first (has state.left i) (has state.gone i) left))
+      ∙ none_left (has group i) (has state.left i) (has cast i) (λ works left. none_works film _ scene i unpaid works (has-union state.left state.gone i ∙ or_left (has state.left i) (has state.gone i) left))
       ∙ sym (has-meet cast group i)) in
       omega (arith, sum_over-minus film.holds (minus group state.left) cast, ap (sum_over film.holds) here)
     where
-      or_first : (a b : Bool) → a ≡ true → (a || b) ≡ true
-      or_first true b is = refl
-      or_first false b is = absurd (false≢true is)
-
       none_left : (g l c : Bool) → (c ≡ true → l ≡ true → ⊥) → ((g && not l) && c) ≡ (c && g)
       none_left true true true none = absurd (none refl refl)
       none_left true true false none = refl
@@ -131,7 +127,7 @@ module _ (film : GroupData) (set group : ℕ) where
       let none : meet (slice_index film.casts scene) group ≡ 0
       = same_has (meet (slice_index film.casts scene) group) 0 (λ i. has-meet (slice_index film.casts scene) group i
       ∙ all_left (has group i) (has state.left i) (has (slice_index film.casts scene) i) (sym (has-minus group state.left i) ∙ ap (λ (s : ℕ). has s i) over.0 ∙ has-empty i)
-      (λ works left. none_works film _ scene i unpaid works (has-union state.left state.gone i ∙ or_first (has state.left i) (has state.gone i) left))
+      (λ works left. none_works film _ scene i unpaid works (has-union state.left state.gone i ∙ or_left (has state.left i) (has state.gone i) left))
       ∙ sym (has-empty i)) in
       ap (λ (s : ℕ). slice_index film.days scene * sum_over film.holds s) none ∙ omega (arith, ap (λ (n : ℕ). slice_index film.days scene * n) (sum_over-empty film.holds))))
     where
@@ -139,10 +135,6 @@ module _ (film : GroupData) (set group : ℕ) where
       by_test true true own none = none refl
       by_test true false own none = refl
       by_test false unpaid own none = refl
-
-      or_first : (a b : Bool) → a ≡ true → (a || b) ≡ true
-      or_first true b is = refl
-      or_first false b is = absurd (false≢true is)
 
       all_left : (g l c : Bool) → (g && not l) ≡ false → (c ≡ true → l ≡ true → ⊥) → (c && g) ≡ false
       all_left g l false kept none = refl

@@ -1,27 +1,17 @@
 -- A list of actors with one more, and without one.
 use Rattle.std.proofs.Common.{◌≡◌, ℕ, Bool, true, false, not, ◌&&◌, ◌||◌, cond, eqb, List, [], ◌∷◌, ◌++◌, filter, refl, sym, ap, ◌∙◌, inl, inr}
-use Rattle.std.proofs.lemmas.Bool.{false≢true}
+use Rattle.std.proofs.lemmas.Bool.{eqb-true}
 use Rattle.std.proofs.lemmas.Bool.Decides.{eqb_tells}
 use Rattle.strip_mask.specs.Set.{has}
 use Rattle.strip_mask.proofs.ByMembers.{has-empty, has-with}
 use Rattle.strip_arrivals.specs.Arrivals.{actors_of}
-
-same_one : (actor other : ℕ) → eqb actor other ≡ true → actor ≡ other
-same_one actor other same = elim (eqb_tells actor other) [
-  | inl is ↦ is.1
-  | inr is_not ↦ absurd (false≢true (sym is_not.0 ∙ same))
-]
+use Rattle.strip_mask.proofs.Agree.{or_turned}
 
 pub actors_more : (actors : List ℕ) (actor i : ℕ) → has (actors_of (actors ++ actor ∷ [])) i ≡ (eqb actor i || has (actors_of actors) i)
 actors_more [] actor i = has-with 0 actor i
 actors_more (a ∷ actors) actor i =
     has-with (actors_of (actors ++ actor ∷ [])) a i ∙ ap (λ b. eqb a i || b) (actors_more actors actor i)
-    ∙ swap (eqb a i) (eqb actor i) (has (actors_of actors) i) ∙ ap (λ b. eqb actor i || b) (sym (has-with (actors_of actors) a i))
-  where
-    swap : (x y z : Bool) → (x || (y || z)) ≡ (y || (x || z))
-    swap true true z = refl
-    swap true false z = refl
-    swap false y z = refl
+    ∙ or_turned (eqb a i) (eqb actor i) (has (actors_of actors) i) ∙ ap (λ b. eqb actor i || b) (sym (has-with (actors_of actors) a i))
 
 pub actors_fewer : (actors : List ℕ) (actor i : ℕ) → has (actors_of (filter (λ other. not (eqb other actor)) actors)) i ≡ (not (eqb actor i) && has (actors_of actors) i)
 actors_fewer [] actor i = has-empty i ∙ sym (ap (λ b. not (eqb actor i) && b) (has-empty i) ∙ none (eqb actor i))
@@ -35,7 +25,7 @@ actors_fewer (a ∷ actors) actor i = elim (eqb_tells a actor) [
       ∙ ap (λ b. not (eqb actor i) && b) (ap (λ (x : ℕ). eqb x i || has (actors_of actors) i) (sym is.1) ∙ sym (has-with (actors_of actors) a i))
   | inr other ↦ ap (λ (b : Bool). has (actors_of (cond (not b) (a ∷ filter (λ other. not (eqb other actor)) actors) (filter (λ other. not (eqb other actor)) actors))) i) other.0
       ∙ has-with (actors_of (filter (λ other. not (eqb other actor)) actors)) a i ∙ ap (λ b. eqb a i || b) (actors_fewer actors actor i)
-      ∙ keep (eqb a i) (eqb actor i) (has (actors_of actors) i) (λ first second. other.1 (same_one a i first ∙ sym (same_one actor i second)))
+      ∙ keep (eqb a i) (eqb actor i) (has (actors_of actors) i) (λ first second. other.1 (eqb-true a i first ∙ sym (eqb-true actor i second)))
       ∙ ap (λ b. not (eqb actor i) && b) (sym (has-with (actors_of actors) a i))
 ]
   where

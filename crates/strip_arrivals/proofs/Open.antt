@@ -10,18 +10,16 @@ use Rattle.strip_group.specs.Group.{GroupData}
 use Rattle.strip_arrivals.specs.Arrivals.{StateData, after, goes, is_open, is_without, leaves, open_scenes, price}
 use Rattle.strip_arrivals.proofs.Lists.{sum_passing}
 use Rattle.strip_arrivals.proofs.Casts.{without_one}
+use Rattle.std.proofs.Math.Bool.{or_assoc}
+use Rattle.strip_mask.proofs.Totals.{cond_most}
 
 -- ---- who is off
 
 same_off : (left gone actor : ℕ) → union (with left actor) gone ≡ with (union left gone) actor
 same_off left gone actor = same_has (union (with left actor) gone) (with (union left gone) actor) (λ i.
     has-union (with left actor) gone i ∙ ap (λ b. b || has gone i) (has-with left actor i)
-    ∙ regroup (eqb actor i) (has left i) (has gone i)
+    ∙ or_assoc (eqb actor i) (has left i) (has gone i)
     ∙ sym (has-with (union left gone) actor i ∙ ap (λ b. eqb actor i || b) (has-union left gone i)))
-  where
-    regroup : (a l g : Bool) → ((a || l) || g) ≡ (a || (l || g))
-    regroup true l g = refl
-    regroup false l g = refl
 
 same_gone : (left gone actor : ℕ) → union left (with gone actor) ≡ with (union left gone) actor
 same_gone left gone actor = union_swap left (with gone actor) ∙ same_off gone left actor ∙ ap (λ (s : ℕ). with s actor) (union_swap gone left)
@@ -101,8 +99,4 @@ module _ (film : GroupData) (set group : ℕ) where
       = sum_below-point 64 scene first second (below_64 rest scene small there) (λ other _ differs.
       ap (λ b. cond {A = ℕ} ((has set other && not b) && is_open film state other) (pay_at old other) 0) (sym (has-without_other rest scene other differs))
       ∙ ap (λ n. cond {A = ℕ} (is_unpaid (without rest scene) state other) (slice_index film.days other * sum_over film.holds n) 0) (sym (same other differs))) in
-      omega (arith, apart, at_most (is_unpaid (without rest scene) state scene) (pay_at new scene))
-    where
-      at_most : (b : Bool) (n : ℕ) → cond {A = ℕ} b n 0 ≤ n
-      at_most true n = omega arith
-      at_most false n = omega arith
+      omega (arith, apart, cond_most (is_unpaid (without rest scene) state scene) (pay_at new scene))

@@ -2,16 +2,16 @@
 use Rattle.std.proofs.Common.{◌≡◌, ℕ, ◌+◌, ◌*◌, Bool, true, false, ◌&&◌, ◌||◌, cond, List, sum_by, slice_index, refl, sym, ap, ◌∙◌, arith}
 use Rattle.strip_mask.specs.Set.{IsSet, has, meet, members, sum_over, union}
 use Rattle.strip_mask.specs.Sums.{sum_below}
-use Rattle.strip_mask.proofs.ByMembers.{has-meet, has-union}
+use Rattle.strip_mask.proofs.ByMembers.{has-meet, has-union, empty_has}
 use Rattle.strip_mask.proofs.Members.{members_is}
 use Rattle.strip_mask.proofs.Sums.{sum_below-ext, sum_below-none, sum_below-scale, sum_below-swap}
-use Rattle.strip_mask.proofs.Totals.{sum_over_is}
+use Rattle.strip_mask.proofs.Totals.{sum_over_is, sum_kept}
 use Rattle.strip_group.specs.Group.{GroupData}
 use Rattle.strip_arrivals.specs.Arrivals.{StateData, arrivals_value, at_first, is_open}
 use Rattle.strip_arrivals.specs.Gross.{IsGross, own_pay}
-use Rattle.strip_arrivals.proofs.Lists.{sum_kept}
-use Rattle.strip_arrivals.proofs.Casts.{is_none, nobody}
+use Rattle.strip_arrivals.proofs.Casts.{is_none}
 use Rattle.strip_arrivals.proofs.Runs.{value_is_least}
+use Rattle.std.proofs.Math.Bool.{and_comm}
 
 module _ (film : GroupData) (set group : ℕ) where
   -- the days of the scenes of the set in which an actor works
@@ -22,13 +22,7 @@ module _ (film : GroupData) (set group : ℕ) where
   days_are actor plays told = sum_over_is film.days (meet plays set)
       ∙ sum_below-ext 64 (λ scene. cond {A = ℕ} (has (meet plays set) scene) (slice_index film.days scene) 0)
       (λ scene. cond {A = ℕ} (has set scene && has (slice_index film.casts scene) actor) (slice_index film.days scene) 0) (λ scene _.
-      ap (λ b. cond {A = ℕ} b (slice_index film.days scene) 0) (has-meet plays set scene ∙ ap (λ b. b && has set scene) (told scene) ∙ swap (has (slice_index film.casts scene) actor) (has set scene)))
-    where
-      swap : (a b : Bool) → (a && b) ≡ (b && a)
-      swap true true = refl
-      swap true false = refl
-      swap false true = refl
-      swap false false = refl
+      ap (λ b. cond {A = ℕ} b (slice_index film.days scene) 0) (has-meet plays set scene ∙ ap (λ b. b && has set scene) (told scene) ∙ and_comm (has (slice_index film.casts scene) actor) (has set scene)))
 
   abbrev pub own : ℕ → ℕ
   own actor = slice_index film.holds actor * days_with actor
@@ -85,7 +79,7 @@ module _ (film : GroupData) (set group : ℕ) where
 
   -- all scenes are open at first
   open_first : (newcomers scene : ℕ) → is_open film (at_first newcomers) scene ≡ true
-  open_first newcomers scene = is_none film (union 0 0) scene (λ i works there. nobody i (both (has 0 i) (sym (has-union 0 0 i) ∙ there)))
+  open_first newcomers scene = is_none film (union 0 0) scene (λ i works there. empty_has i (both (has 0 i) (sym (has-union 0 0 i) ∙ there)))
     where
       both : (b : Bool) → (b || b) ≡ true → b ≡ true
       both true is = refl

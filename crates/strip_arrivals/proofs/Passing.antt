@@ -1,11 +1,11 @@
 -- What a pass over the sets of places gives: the least totals of a stage.
 use Rattle.std.proofs.Common.{◌≡◌, ℕ, zero, suc, ◌+◌, ◌*◌, ◌^◌, ◌<◌, ◌≤◌, Bool, true, false, not, ◌&&◌, ◌||◌, cond, eqb, List, [], ◌∷◌, Contains, drop, filter, length, slice_index, take, refl, sym, ap, ◌∙◌, subst, inl, inr, arith}
-use Rattle.std.proofs.Math.Nat.{mul-le-mul_left}
+use Rattle.std.proofs.Math.Nat.{mul-le-mul_left, mul_comm}
 use Rattle.std.proofs.Math.Pow.{pow_mono}
 use Rattle.std.proofs.lemmas.Bool.{eq-eqb, eqb-true, false≢true, false_from_ne_true}
 use Rattle.std.proofs.lemmas.List.{drop_all, take_all}
 use Rattle.strip_mask.specs.Set.{IsSet, has, meet, minus, numbers_below, size, sum_over, with, without}
-use Rattle.strip_mask.proofs.ByMembers.{below_width, empty_from, has-minus, has-with, has-without, has_from_meet, has_from_minus, has_from_without, same_has}
+use Rattle.strip_mask.proofs.ByMembers.{below_width, empty_from, has-minus, has-with, has-without, has_from_meet, has_from_minus, has_from_without, same_has, empty_has}
 use Rattle.strip_mask.proofs.Sums.{sum_below-add, sum_below-scale, sum_below_mono}
 use Rattle.strip_mask.proofs.Totals.{sum_over-empty, sum_over_is, sum_over_mono}
 use Rattle.strip_sets.specs.Pass.{Passes}
@@ -14,13 +14,18 @@ use Rattle.strip_group.specs.Places.{actor_at, pick}
 use Rattle.strip_arrivals.specs.Arrivals.{Event, IsRun, StateData, actors_of, after, allowed, comes, events, goes, is_allowed, is_open, leaves, mates, total}
 use Rattle.strip_arrivals.specs.Company.{AreLeaving, IsBegun, IsCompany, IsStage, most_paid, staying}
 use Rattle.strip_arrivals.specs.Gross.{IsBest, IsGross, gross_charge, gross_price, least_paid, own_pay, paid_by, weighted}
-use Rattle.strip_arrivals.proofs.Lists.{contains_filter, contains_from_filter, contains_none, contains_number, least_over_le}
-use Rattle.strip_arrivals.proofs.Casts.{mates_has, nobody}
-use Rattle.strip_group.proofs.Places.{actor_there, has_from_pick, pick-without, without_less}
+use Rattle.strip_mask.proofs.Lists.{contains_none}
+use Rattle.strip_mask.proofs.Members.{contains_number}
+use Rattle.strip_mask.proofs.Least.{least_over_le}
+use Rattle.strip_arrivals.proofs.Lists.{contains_filter, contains_from_filter}
+use Rattle.strip_arrivals.proofs.Casts.{mates_has}
+use Rattle.strip_sets.proofs.Sets.{without_less}
+use Rattle.strip_group.proofs.Places.{actor_there, has_from_pick, pick-without}
 use Rattle.strip_arrivals.proofs.Open.{open_after_going, open_after_leaving}
 use Rattle.strip_arrivals.proofs.Runs.{by_kind, over_or_not}
 use Rattle.strip_arrivals.proofs.Gross.{all_tried, charged, comes_free, none_added}
 use Rattle.strip_arrivals.proofs.Newcomers.{actors_fewer, actors_more}
+use Rattle.std.proofs.Math.Bool.{or-true}
 
 -- nobody is waited for by nobody
 none_wait : (film : GroupData) (set left : ℕ) → sum_over film.holds (meet left (mates film set 0)) ≡ 0
@@ -37,7 +42,7 @@ least_paid_le film set state cast =
     let all : take number state.here ≡ state.here = take_all number state.here (omega arith) in
     let fine : eqb (meet cast (actors_of (drop number state.here))) 0 ≡ true
     = ap (λ (xs : List ℕ). eqb (meet cast (actors_of xs)) 0) none ∙ eq-eqb (meet cast 0) 0 (empty_from (meet cast 0) (λ i.
-    false_from_ne_true (has (meet cast 0) i) (λ there. nobody i (has_from_meet cast 0 i there).1))) in
+    false_from_ne_true (has (meet cast 0) i) (λ there. empty_has i (has_from_meet cast 0 i there).1))) in
     let fewest = least_over_le (paid_by film set state cast)
     (filter (λ n. eqb (meet cast (actors_of (drop n state.here))) 0) (numbers_below (suc number))) number
     (contains_filter (λ n. eqb (meet cast (actors_of (drop n state.here))) 0) (numbers_below (suc number)) number (contains_number (suc number) number (omega arith)) fine) in
@@ -144,7 +149,7 @@ module _ (film : GroupData) (set group newcomers : ℕ) (small : IsSet group) wh
       let most : ℕ → ℕ = λ scene. cond {A = ℕ} (has set scene) (slice_index film.days scene) 0 in
       let each = sum_below_mono 64 (λ scene. cond {A = ℕ} (has set scene && is_open film state scene) (slice_index film.days scene * all_holds) 0) (λ scene. all_holds * most scene)
       (λ scene _. by_test (has set scene) (is_open film state scene) (slice_index film.days scene) all_holds) in
-      let whole : all_holds * sum_over film.days set ≡ sum_over film.days set * all_holds = turned all_holds (sum_over film.days set) in
+      let whole : all_holds * sum_over film.days set ≡ sum_over film.days set * all_holds = mul_comm all_holds (sum_over film.days set) in
       omega (arith, each, sum_below-scale 64 all_holds most, ap (λ (n : ℕ). all_holds * n) (sum_over_is film.days set), whole)
     where
       by_test : (there unpaid : Bool) (days rate : ℕ) → cond {A = ℕ} (there && unpaid) (days * rate) 0 ≤ rate * cond {A = ℕ} there days 0
@@ -152,21 +157,14 @@ module _ (film : GroupData) (set group newcomers : ℕ) (small : IsSet group) wh
       by_test true false days rate = omega arith
       by_test false unpaid days rate = omega arith
 
-      turned : (a b : ℕ) → a * b ≡ b * a
-      turned a b = omega arith
-
 module _ (film : GroupData) (set group newcomers never : ℕ) (known : IsCompany film set group newcomers) (enough : most_paid film set group newcomers < never)
     (coming : ℕ) (here : List ℕ) (gone : ℕ) (stage : IsStage newcomers coming here gone) where
   -- who is to come or here
   all_newcomers : (places : ℕ) → AreNewcomers film set group newcomers known.small (staying group coming here gone places)
   all_newcomers places = record {
     to_come = λ actor expected. stage.whole actor ∙ ap (λ b. b || (has (actors_of here) actor || has gone actor)) expected;
-    came = λ actor is_here. stage.whole actor ∙ ap (λ b. has coming actor || (b || has gone actor)) is_here ∙ middle (has coming actor);
+    came = λ actor is_here. stage.whole actor ∙ ap (λ b. has coming actor || (b || has gone actor)) is_here ∙ or-true (has coming actor);
   }
-    where
-      middle : (b : Bool) → (b || true) ≡ true
-      middle true = refl
-      middle false = refl
 
   -- a least total is no more than all of them are paid on all days
   pub total_low : (places total : ℕ) → IsGross film set group (staying group coming here gone places) total → total ≤ most_paid film set group newcomers

@@ -1,25 +1,27 @@
 -- A run without some of the newcomers pays no more: scenes that one of them closed as he went are still open, and their prices don't rise.
 use Rattle.std.proofs.Common.{◌≡◌, ℕ, ◌+◌, ◌*◌, ◌<◌, ◌≤◌, Bool, true, false, not, ◌&&◌, ◌||◌, cond, eqb, List, [], ◌∷◌, ◌++◌, Contains, filter, slice_index, sum_by, refl, sym, ap, ◌∙◌, subst, inl, inr, arith, append-nil}
 use Rattle.std.specs.List.{list_all}
-use Rattle.std.proofs.lemmas.Bool.{cases_Bool, false≢true, and_parts, or_left, or_right, false_from_ne_true, not_from_false, not-true}
+use Rattle.std.proofs.lemmas.Bool.{cases_Bool, false≢true, and_parts, or_left, or_right, false_from_ne_true, not_from_false, not-true, and_from}
 use Rattle.std.proofs.lemmas.Bool.Decides.{eqb_tells}
 use Rattle.std.proofs.lemmas.List.Elements.{All-contains, All-contains_itself, All-weaker, filter-append}
 use Rattle.std.proofs.lemmas.List.Sums.{AllPass-from_list_all, list_all-from_AllPass}
 use Rattle.std.proofs.lemmas.Nat.{mul-le}
 use Rattle.strip_mask.specs.Set.{IsSet, has, members, minus, numbers_below, union, with}
 use Rattle.strip_mask.specs.Sums.{sum_below}
-use Rattle.strip_mask.proofs.Below.{and_true, is_set_below}
-use Rattle.strip_mask.proofs.ByMembers.{IsSet-minus, IsSet-without, below_64, empty_from, has-empty, has-union, has-with, has-without, has_from_union, has_from_without}
-use Rattle.strip_mask.proofs.Members.{Contains-members, members_is}
+use Rattle.strip_mask.proofs.Below.{is_set_below}
+use Rattle.strip_mask.proofs.ByMembers.{IsSet-minus, IsSet-without, below_64, empty_from, has-empty, has-union, has-with, has-without, has_from_union, has_from_without, empty_has}
+use Rattle.strip_mask.proofs.Members.{Contains-members, members_is, contains_number}
 use Rattle.strip_mask.proofs.Sums.{sum_below-add, sum_below-none, sum_below_mono}
 use Rattle.strip_group.specs.Group.{GroupData}
 use Rattle.strip_arrivals.specs.Arrivals.{Event, IsRun, StateData, after, arrivals_value, at_first, comes, events, goes, is_allowed, is_open, is_without, leaves, open_scenes, price, total}
-use Rattle.strip_arrivals.proofs.Lists.{contains_filter, contains_from_filter, contains_number, sum_passing}
-use Rattle.strip_arrivals.proofs.Casts.{is_none, nobody, none_works}
+use Rattle.strip_arrivals.proofs.Lists.{contains_filter, contains_from_filter, sum_passing}
+use Rattle.strip_arrivals.proofs.Casts.{is_none, none_works}
 use Rattle.strip_arrivals.proofs.Open.{open_after_going, open_after_leaving}
 use Rattle.strip_arrivals.proofs.Along.{can_come, can_go, can_leave}
 use Rattle.strip_arrivals.proofs.Runs.{by_kind, may, value_is_least}
 use Rattle.strip_arrivals.proofs.Fewer.{AreAwaited, coming_price, fewer_price, leaving_price}
+use Rattle.strip_mask.proofs.Agree.{and_turned, and_implied}
+use Rattle.std.proofs.Math.Bool.{and-false}
 
 -- ---- lists and tests
 
@@ -46,11 +48,6 @@ filter_absent p one (x ∷ xs) fails = elim (eqb_tells x one) [
   | inr is_not ↦ ap (λ (b : Bool). filter p (cond (not b) (x ∷ filter (λ i. not (eqb i one)) xs) (filter (λ i. not (eqb i one)) xs))) is_not.0
       ∙ ap (λ (ys : List ℕ). cond (p x) (x ∷ ys) ys) (filter_absent p one xs fails)
 ]
-
-and_swap : (a b c : Bool) → (a && (b && c)) ≡ (b && (a && c))
-and_swap true b c = refl
-and_swap false true c = refl
-and_swap false false c = refl
 
 and_without : (k same c : Bool) → (same ≡ true → k ≡ false) → (k && c) ≡ (k && (not same && c))
 and_without true true c apart = absurd (false≢true (sym (apart refl)))
@@ -109,7 +106,7 @@ module _ (film : GroupData) (set : ℕ) where
       All-contains (λ s. is_without film state.coming s ≡ true) (open_scenes film set state actor) scene
       (AllPass-from_list_all (is_without film state.coming) (open_scenes film set state actor) all)
       (contains_filter (λ s. is_open film state s && has (slice_index film.casts s) actor) (members set) scene of_set
-      (and_true (is_open film state scene) (has (slice_index film.casts scene) actor) opened works))
+      (and_from (is_open film state scene) (has (slice_index film.casts scene) actor) opened works))
 
   awaited_coming : (state : StateData) (actor : ℕ) → AreAwaited film set state → AreAwaited film set (after state (comes actor))
   awaited_coming state actor awaited = λ scene i of_set works there. awaited scene i of_set works (has_from_without state.coming actor i there).1
@@ -120,7 +117,7 @@ module _ (film : GroupData) (set : ℕ) where
   awaited_off state next actor same still all awaited = λ scene i of_set works there.
       (let expected : has state.coming i ≡ true = subst (λ (c : ℕ). has c i ≡ true) same there in
       let opened : is_open film state scene ≡ true = awaited scene i of_set works expected in
-      still scene ∙ and_true (is_open film state scene) (not (has (slice_index film.casts scene) actor)) opened
+      still scene ∙ and_from (is_open film state scene) (not (has (slice_index film.casts scene) actor)) opened
       (not_from_false (has (slice_index film.casts scene) actor) (false_from_ne_true (has (slice_index film.casts scene) actor) (λ also.
       none_works film state.coming scene i (is_fine state actor scene all of_set opened also) works expected))))
 
@@ -178,7 +175,7 @@ module _ (film : GroupData) (set : ℕ) where
         kept_here = ap (λ (xs : List ℕ). xs ++ actor ∷ []) are.kept_here
             ∙ sym (filter-append kept state.here (actor ∷ []) ∙ ap (λ (b : Bool). filter kept state.here ++ cond b (actor ∷ []) []) is);
         kept_coming = λ i. has-without fewer.coming actor i ∙ ap (λ b. not (eqb actor i) && b) (are.kept_coming i)
-            ∙ and_swap (not (eqb actor i)) (kept i) (has state.coming i) ∙ ap (λ b. kept i && b) (sym (has-without state.coming actor i));
+            ∙ and_turned (not (eqb actor i)) (kept i) (has state.coming i) ∙ ap (λ b. kept i && b) (sym (has-without state.coming actor i));
         kept_gone = are.kept_gone;
         fits = IsSet-without fewer.coming actor are.fits;
       }
@@ -304,7 +301,7 @@ module _ (film : GroupData) (set : ℕ) where
             → owed group (after state (comes actor)) (after fewer (comes actor)) ≤ owed group state fewer
         coming_owes actor awaited expected is =
             let next : StateData = after fewer (comes actor) in
-            let expected_too : has fewer.coming actor ≡ true = are.kept_coming actor ∙ and_true (kept actor) (has state.coming actor) is expected in
+            let expected_too : has fewer.coming actor ≡ true = are.kept_coming actor ∙ and_from (kept actor) (has state.coming actor) is expected in
             let awaited_too : AreAwaited film set fewer
             = λ scene i of_set works there. opens state fewer are scene (awaited scene i of_set works (was_coming state fewer are i there)) in
             sum_below_mono 64 (owed_at group (after state (comes actor)) next) (owed_at group state fewer) (λ scene lt.
@@ -333,7 +330,7 @@ module _ (film : GroupData) (set : ℕ) where
               comes actor ∷ found.0,
               (
                 may film set group small fewer (comes actor) (can_come group fewer actor are.fits
-                    (are.kept_coming actor ∙ and_true (kept actor) (has state.coming actor) is expected)) refl,
+                    (are.kept_coming actor ∙ and_from (kept actor) (has state.coming actor) is expected)) refl,
                 found.1,
               ),
               omega (arith, found.2, coming_owes state fewer are actor awaited expected is),
@@ -396,7 +393,7 @@ module _ (film : GroupData) (set : ℕ) where
         (
           subst (λ (l : ℕ). minus group l ≡ 0) (sym are.same_left) over.0,
           empty_from fewer.coming (λ i. false_from_ne_true (has fewer.coming i) (λ there.
-              nobody i (subst (λ (c : ℕ). has c i ≡ true) over.1 (was_coming state fewer are i there)))),
+              empty_has i (subst (λ (c : ℕ). has c i ≡ true) over.1 (was_coming state fewer are i there)))),
           are.kept_here ∙ ap (filter kept) over.2,
         ),
         omega arith,
@@ -422,8 +419,8 @@ wait_no_more film set group small newcomers fewer fits within =
     (λ scene i of_set works there. all_open scene) (record {
       same_left = refl;
       kept_here = refl;
-      kept_coming = λ i. both (has fewer i) (has newcomers i) (within i);
-      kept_gone = λ i. has-empty i ∙ sym (ap (λ b. has fewer i && b) (has-empty i) ∙ none (has fewer i));
+      kept_coming = λ i. and_implied (has fewer i) (has newcomers i) (within i);
+      kept_gone = λ i. has-empty i ∙ sym (ap (λ b. has fewer i && b) (has-empty i) ∙ and-false (has fewer i));
       fits = fits_too;
     }) run.1 in
     let nothing : owed film set group (at_first newcomers) (at_first fewer) ≡ 0
@@ -431,14 +428,6 @@ wait_no_more film set group small newcomers fewer fits within =
     (λ scene _. no_scene (has set scene) (is_open film (at_first newcomers) scene) (paid_at film set group (at_first fewer) scene)) in
     omega (arith, other.2, nothing, run.2, (value_is_least film set group small fewer fits_too).least other.0 other.1)
   where
-    both : (f n : Bool) → (f ≡ true → n ≡ true) → f ≡ (f && n)
-    both true n there = sym (there refl)
-    both false n there = refl
-
-    none : (b : Bool) → (b && false) ≡ false
-    none true = refl
-    none false = refl
-
     no_scene : (there opened : Bool) (pay : ℕ) → cond {A = ℕ} (there && (opened && not opened)) pay 0 ≡ 0
     no_scene true true pay = refl
     no_scene true false pay = refl
@@ -446,6 +435,6 @@ wait_no_more film set group small newcomers fewer fits within =
 
     all_open : (scene : ℕ) → is_open film (at_first newcomers) scene ≡ true
     all_open scene = is_none film (union 0 0) scene (λ i works there. elim (has_from_union 0 0 i there) [
-      | inl one ↦ nobody i one
-      | inr other ↦ nobody i other
+      | inl one ↦ empty_has i one
+      | inr other ↦ empty_has i other
     ])

@@ -1,16 +1,16 @@
 -- A state on the way along a list: what holds of it, and that each step along the list keeps it.
 use Rattle.std.proofs.Common.{◌≡◌, ◌≢◌, ℕ, ◌⊎◌, Bool, true, false, not, cond, eqb, List, [], ◌∷◌, ◌++◌, filter, slice_index, sym, ap, ◌∙◌, subst, inl, inr, append_assoc, append-nil}
-use Rattle.std.proofs.lemmas.Bool.{cases_Bool, false≢true, eq-eqb, ne_eqb, false_from_ne_true, not_from_false, or_left, or_right}
+use Rattle.std.proofs.lemmas.Bool.{cases_Bool, false≢true, eq-eqb, ne_eqb, false_from_ne_true, not_from_false, or_left, or_right, and_from}
 use Rattle.std.proofs.lemmas.Bool.Decides.{eqb_tells}
 use Rattle.std.proofs.lemmas.List.Elements.{Contains-append_cases, filter-append}
 use Rattle.strip_mask.specs.Set.{IsSet, has, meet, union, without}
-use Rattle.strip_mask.proofs.ByMembers.{has-meet, has-minus, has-union, has-with, has-without_other, has_from_union, has_from_with, has_from_without}
-use Rattle.strip_mask.proofs.Below.{and_true}
+use Rattle.strip_mask.proofs.ByMembers.{has-meet, has-minus, has-union, has-with, has-without_other, has_from_union, has_from_with, has_from_without, empty_has}
 use Rattle.strip_group.specs.Group.{GroupData}
 use Rattle.strip_arrivals.specs.Arrivals.{StateData, actors_of, after, cast_of, comes, goes, leaves, mates}
 use Rattle.strip_arrivals.specs.Along.{HasEach, waiting_at}
-use Rattle.strip_arrivals.proofs.Lists.{contains_cases, contains_none, contains_from_filter}
-use Rattle.strip_arrivals.proofs.Casts.{each_cast, has_listed, has_mates, listed_filter, listed_has, mates_has, nobody}
+use Rattle.strip_mask.proofs.Lists.{contains_cases, contains_none}
+use Rattle.strip_arrivals.proofs.Lists.{contains_from_filter}
+use Rattle.strip_arrivals.proofs.Casts.{each_cast, has_listed, has_mates, listed_filter, listed_has, mates_has}
 use Rattle.strip_arrivals.proofs.Price.{AreWaiting}
 
 module _ (film : GroupData) (set group newcomers : ℕ) where
@@ -160,9 +160,9 @@ module _ (film : GroupData) (set group newcomers : ℕ) where
       let waits : (i : ℕ) → has (union group (meet newcomers came)) i ≡ true → has (cast_of film later) i ≡ true → has cast i ≡ false
       → has (waiting_at film group newcomers came scene later) i ≡ true
       = λ i is_one due idle. has-minus (meet (union group (meet newcomers came)) (cast_of film later)) cast i
-      ∙ and_true (has (meet (union group (meet newcomers came)) (cast_of film later)) i) (not (has cast i))
+      ∙ and_from (has (meet (union group (meet newcomers came)) (cast_of film later)) i) (not (has cast i))
       (has-meet (union group (meet newcomers came)) (cast_of film later) i
-      ∙ and_true (has (union group (meet newcomers came)) i) (has (cast_of film later) i) is_one due)
+      ∙ and_from (has (union group (meet newcomers came)) i) (has (cast_of film later) i) is_one due)
       (not_from_false (has cast i) idle) in
       let of_group : (i : ℕ) → has group i ≡ true → has (union group (meet newcomers came)) i ≡ true
       = λ i known. has-union group (meet newcomers came) i ∙ or_left (has group i) (has (meet newcomers came) i) known in
@@ -209,9 +209,9 @@ module _ (film : GroupData) (set group newcomers : ℕ) where
                   | inr works ↦ absurd (false≢true (sym idle ∙ works))
                 ] in
                     waits i (has-union group (meet newcomers came) i ∙ or_right (has group i) (has (meet newcomers came) i)
-                    (has-meet newcomers came i ∙ and_true (has newcomers i) (has came i) (way.are_here i there) seen))
+                    (has-meet newcomers came i ∙ and_from (has newcomers i) (has came i) (way.are_here i there) seen))
                     (idle_later i (all_due i there) idle) idle);
-                not_yet = λ i there works. nobody i there;
+                not_yet = λ i there works. empty_has i there;
                 kept = λ i known with_one idle. absurd (contains_none (mates_has film set [] i with_one).3.0 (mates_has film set [] i with_one).3.1);
               }))
           | inr other ↦ subst (λ k. AreWaiting film set group state s k) (before s other.0) (way.priced s other.1)

@@ -1,15 +1,17 @@
 -- The price of a scene is at most what those who wait at it are paid.
 use Rattle.std.proofs.Common.{◌≡◌, ℕ, suc, ◌+◌, ◌<◌, ◌≤◌, true, false, not, List, ◌++◌, Contains, filter, length, take, drop, slice_index, sym, ap, ◌∙◌, subst, inl, inr, arith, length-append}
 use Rattle.std.proofs.Math.Seq.{take-append_seam, drop-append_seam}
-use Rattle.std.proofs.lemmas.Bool.{false≢true, false_from_ne_true, not_from_false, or_left}
+use Rattle.std.proofs.lemmas.Bool.{false≢true, false_from_ne_true, not_from_false, or_left, and_from}
 use Rattle.std.proofs.lemmas.List.Elements.{Contains-append_left}
 use Rattle.strip_mask.specs.Set.{has, union, meet, minus, numbers_below, sum_over}
 use Rattle.strip_mask.proofs.ByMembers.{has-union, has-meet, has-minus, has_from_meet, has_from_minus, has_from_union}
-use Rattle.strip_mask.proofs.Below.{and_true}
 use Rattle.strip_mask.proofs.Totals.{sum_over_mono, sum_over-minus, sum_over-union}
-use Rattle.strip_group.specs.Group.{GroupData, least_over}
+use Rattle.strip_mask.specs.Least.{least_over}
+use Rattle.strip_group.specs.Group.{GroupData}
 use Rattle.strip_arrivals.specs.Arrivals.{StateData, actors_of, can_have_come, is_open, is_without, mates, paid_where, price}
-use Rattle.strip_arrivals.proofs.Lists.{contains_filter, contains_number, least_over_le}
+use Rattle.strip_mask.proofs.Members.{contains_number}
+use Rattle.strip_mask.proofs.Least.{least_over_le}
+use Rattle.strip_arrivals.proofs.Lists.{contains_filter}
 use Rattle.strip_arrivals.proofs.Casts.{has_listed, is_none, listed_has, none_works}
 
 -- those who wait at a scene that was shot, as far as the state tells: who is here and doesn't work in it, the newcomers among
@@ -35,11 +37,11 @@ module _ (film : GroupData) (set group : ℕ) where
       = sum_over-union film.holds a b (λ i there. false_from_ne_true (has b i) (λ also. false≢true (sym (in_a i there).2 ∙ (in_b i also).2))) in
       let of_group : sum_over film.holds (union a b) ≤ sum_over film.holds (meet waiters group)
       = sum_over_mono film.holds (union a b) (meet waiters group) (λ i there. has-meet waiters group i ∙ elim (has_from_union a b i there) [
-        | inl first ↦ and_true (has waiters i) (has group i) (in_a i first).0 (in_a i first).1
-        | inr second ↦ and_true (has waiters i) (has group i) (in_b i second).0 (in_b i second).1
+        | inl first ↦ and_from (has waiters i) (has group i) (in_a i first).0 (in_a i first).1
+        | inr second ↦ and_from (has waiters i) (has group i) (in_b i second).0 (in_b i second).1
       ]) in
       let of_others : sum_over film.holds c ≤ sum_over film.holds (minus waiters group)
-      = sum_over_mono film.holds c (minus waiters group) (λ i there. has-minus waiters group i ∙ and_true (has waiters i) (not (has group i)) (in_c i there).0
+      = sum_over_mono film.holds c (minus waiters group) (λ i there. has-minus waiters group i ∙ and_from (has waiters i) (not (has group i)) (in_c i there).0
       (not_from_false (has group i) (in_c i there).1)) in
       omega (arith, apart, of_group, of_others, sum_over-minus film.holds waiters group)
 

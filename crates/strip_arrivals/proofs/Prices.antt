@@ -1,6 +1,6 @@
 -- The prices of a day, by who is here of the newcomers.
 use Rattle.std.proofs.Common.{◌≡◌, ◌≢◌, ℕ, ◌+◌, ◌^◌, ◌<◌, Bool, true, false, not, ◌&&◌, cond, min, List, [], ◌∷◌, slice_index, refl, sym, ap, ◌∙◌, arith}
-use Rattle.std.proofs.lemmas.Bool.{false≢true}
+use Rattle.std.proofs.lemmas.Bool.{false≢true, false_from_ne_true}
 use Rattle.strip_mask.specs.Set.{has, meet, minus, sum_over}
 use Rattle.strip_mask.proofs.ByMembers.{has-minus, same_has}
 use Rattle.strip_group.specs.Group.{GroupData}
@@ -8,7 +8,7 @@ use Rattle.strip_group.specs.Places.{pick}
 use Rattle.strip_arrivals.specs.Arrivals.{actors_of, mates}
 use Rattle.strip_arrivals.specs.Company.{AreMates, ArePrices, AreRates, IsCompany, staying}
 use Rattle.strip_arrivals.specs.Gross.{gross_price, least_paid}
-use Rattle.strip_group.proofs.Places.{actor_there, has_from_pick, refuted}
+use Rattle.strip_group.proofs.Places.{actor_there, has_from_pick}
 use Rattle.strip_arrivals.proofs.Waits.{nobody_waits, one_waits, two_wait}
 
 -- those of a group at some places are those who haven't left
@@ -109,7 +109,7 @@ module _ (film : GroupData) (set group newcomers : ℕ) (known : IsCompany film 
         → ArePrices film set group count coming (one ∷ []) gone these prices
     price_without these mates prices off are_mates is places lt =
         priced (one ∷ []) these places (prices places) (min (mates places) (slice_index film.holds one)) lt (is places lt)
-        (sym (off_one (has these one) (slice_index film.holds one) (mates places) (refuted (has these one) off)) ∙ least_one these (mates places) places (are_mates places lt))
+        (sym (off_one (has these one) (slice_index film.holds one) (mates places) (false_from_ne_true (has these one) off)) ∙ least_one these (mates places) places (are_mates places lt))
 
     module _ (other : ℕ) (is_other : has newcomers other ≡ true) (apart : one ≢ other) where
       -- what two are paid at least
@@ -142,7 +142,7 @@ module _ (film : GroupData) (set group newcomers : ℕ) (known : IsCompany film 
       price_first these mates prices works off are_mates is places lt =
           priced (one ∷ other ∷ []) these places (prices places) (min (mates places) (slice_index film.holds other)) lt (is places lt)
           (sym (first_on (has these one) (has these other) (slice_index film.holds one) (slice_index film.holds other) (mates places) (all_of places) works
-          (refuted (has these other) off))
+          (false_from_ne_true (has these other) off))
           ∙ least_two these (mates places) (all_of places) places (are_mates places lt) refl)
 
       -- the second does
@@ -152,7 +152,7 @@ module _ (film : GroupData) (set group newcomers : ℕ) (known : IsCompany film 
       price_second these prices off works is places lt =
           priced (one ∷ other ∷ []) these places (prices places) (slice_index film.holds one) lt (is places lt)
           (sym (second_on (has these one) (has these other) (slice_index film.holds one) (slice_index film.holds other) (last_of places) (all_of places)
-          (refuted (has these one) off) works)
+          (false_from_ne_true (has these one) off) works)
           ∙ least_two these (last_of places) (all_of places) places refl refl)
 
       -- neither does
@@ -165,5 +165,5 @@ module _ (film : GroupData) (set group newcomers : ℕ) (known : IsCompany film 
           priced (one ∷ other ∷ []) these places (prices places)
           (min (mates_both places) (slice_index film.holds one + min (mates places) (slice_index film.holds other))) lt (is places lt)
           (sym (none_on (has these one) (has these other) (slice_index film.holds one) (slice_index film.holds other) (mates places) (mates_both places)
-          (refuted (has these one) off) (refuted (has these other) off_too))
+          (false_from_ne_true (has these one) off) (false_from_ne_true (has these other) off_too))
           ∙ least_two these (mates places) (mates_both places) places (are_mates places lt) (are_both places lt))

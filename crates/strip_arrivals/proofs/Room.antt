@@ -1,20 +1,21 @@
 -- A party's numbers are small, and there is room for what its stages cost.
 use Rattle.std.proofs.Common.{◌≡◌, ◌≢◌, ℕ, ◌+◌, ◌*◌, ◌^◌, ◌<◌, ◌≤◌, true, not, eqb, List, slice_index, sym, ap, ◌∙◌, arith}
-use Rattle.std.proofs.Math.Nat.{mul-le-mul}
+use Rattle.std.proofs.Math.Nat.{mul-le-mul, mul_comm}
 use Rattle.std.proofs.lemmas.Bool.{and_parts}
 use Rattle.strip_mask.specs.Set.{has, meet, minus, sum_over, without}
 use Rattle.strip_mask.specs.Sums.{sum_below}
 use Rattle.strip_mask.proofs.ByMembers.{IsSet-without, has-meet, has-minus, has-without_other}
 use Rattle.strip_mask.proofs.Sums.{sum_below_mono, sum_below-scale}
-use Rattle.strip_mask.proofs.Totals.{sum_over_mono, sum_over-without}
+use Rattle.strip_mask.proofs.Totals.{sum_over_mono, sum_over-without, sum_over_le_sum}
 use Rattle.strip_group.specs.Group.{GroupData}
 use Rattle.strip_group.specs.Places.{pick}
 use Rattle.strip_sets.specs.Pass.{HasRoom}
 use Rattle.strip_arrivals.specs.Arrivals.{actors_of, mates}
 use Rattle.strip_arrivals.specs.Company.{AreCounted, AreMates, IsParty, just, most_paid}
 use Rattle.strip_arrivals.specs.declared.party.Party.{Party}
-use Rattle.strip_arrivals.proofs.Classes.{AreDays, AreKinds, counted_most, counted_rise, days_within, has-scenes_where}
-use Rattle.strip_group.proofs.Places.{actor_there, has_from_pick, sum_over_le_all}
+use Rattle.strip_arrivals.proofs.Chosen.{has_where}
+use Rattle.strip_arrivals.proofs.Classes.{AreDays, AreKinds, counted_most, counted_rise, days_within}
+use Rattle.strip_group.proofs.Places.{actor_there, has_from_pick}
 
 module _ {S : Type 0} (value : S → ℕ → ℕ) (count most : ℕ) (film : GroupData) (party : Party S) (known : IsParty value count most film party) where
   abbrev set : ℕ
@@ -33,7 +34,7 @@ module _ {S : Type 0} (value : S → ℕ → ℕ) (count most : ℕ) (film : Gro
   pub few_days : (scenes : ℕ) → sum_over film.days scenes ≤ 19800
   few_days scenes =
       let limits = known.company.limits in
-      omega (arith, sum_over_le_all film.days scenes (omega (arith, limits.day_count, limits.scene_count)), limits.day_sum)
+      omega (arith, sum_over_le_sum film.days scenes (omega (arith, limits.day_count, limits.scene_count)), limits.day_sum)
 
   -- they fit
   pub days_fit : (scenes : ℕ) → sum_over film.days scenes ≤ most
@@ -82,11 +83,8 @@ module _ {S : Type 0} (value : S → ℕ → ℕ) (count most : ℕ) (film : Gro
       let few = days_within film set group newcomers known.company count known.crew.fits here classes kinds days are_kinds are_days places lt in
       let same : all_rates ≤ all_rates = omega arith in
       let whole : all_rates * sum_below classes (λ kind. days kind places) ≤ all_rates * sum_over film.days set = mul-le-mul same few in
-      let turned : all_rates * sum_over film.days set ≡ most_paid film set group newcomers = swap all_rates (sum_over film.days set) in
+      let turned : all_rates * sum_over film.days set ≡ most_paid film set group newcomers = mul_comm all_rates (sum_over film.days set) in
       omega (arith, each, sum_below-scale classes all_rates (λ kind. days kind places), whole, turned, known.enough)
-    where
-      swap : (a b : ℕ) → a * b ≡ b * a
-      swap a b = omega arith
 
   pub has_room : (here : List ℕ) (classes : ℕ) (kinds : ℕ → ℕ) (weights days : ℕ → ℕ → ℕ) (first : ℕ → ℕ) → AreKinds here classes kinds
       → ((kind : ℕ) → kind < classes → AreDays film set group newcomers known.company count known.crew.fits (kinds kind) (days kind))
@@ -107,11 +105,8 @@ module _ {S : Type 0} (value : S → ℕ → ℕ) (count most : ℕ) (film : Gro
         arith,
         counted_most film group count film.days (just film newcomers these set) days are_days places lt,
         sum_over_mono film.days (just film newcomers these set) set (λ scene there. (and_parts (has set scene) (eqb (meet (slice_index film.casts scene) newcomers) these)
-            (sym (has-scenes_where (λ s. eqb (meet (slice_index film.casts s) newcomers) these) set scene known.company.small_set) ∙ there)).0),
+            (sym (has_where (λ s. eqb (meet (slice_index film.casts s) newcomers) these) set scene known.company.small_set) ∙ there)).0),
       ) in
       let whole : weights places * days places ≤ all_rates * sum_over film.days set = mul-le-mul (low places lt) few in
-      let turned : all_rates * sum_over film.days set ≡ most_paid film set group newcomers = swap all_rates (sum_over film.days set) in
+      let turned : all_rates * sum_over film.days set ≡ most_paid film set group newcomers = mul_comm all_rates (sum_over film.days set) in
       omega (arith, whole, turned, known.enough)
-    where
-      swap : (a b : ℕ) → a * b ≡ b * a
-      swap a b = omega arith

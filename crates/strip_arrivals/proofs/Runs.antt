@@ -5,14 +5,15 @@ use Rattle.std.proofs.lemmas.List.Elements.{All-contains_itself, All-weaker, Con
 use Rattle.std.proofs.lemmas.List.Filters.{length-filter_both}
 use Rattle.std.proofs.lemmas.List.Sums.{list_all-from_AllPass}
 use Rattle.strip_mask.specs.Set.{IsSet, has, members, minus, size, with, without}
-use Rattle.strip_mask.proofs.ByMembers.{IsSet-minus, IsSet-without, empty_from, has-minus, has-with, has-without, same_has}
+use Rattle.strip_mask.proofs.ByMembers.{IsSet-minus, IsSet-without, empty_from, has-minus, has-with, has-without, same_has, empty_has}
 use Rattle.strip_mask.proofs.Members.{Contains-members, has_from_members, members-empty}
 use Rattle.strip_mask.proofs.Sizes.{size-without}
 use Rattle.std.proofs.lemmas.Bool.{false_from_ne_true}
 use Rattle.strip_group.specs.Group.{GroupData}
 use Rattle.strip_arrivals.specs.Arrivals.{Event, IsLeastTotal, IsOver, IsRun, StateData, after, allowed, arrivals_value, at_first, charge, closed_by, comes, events, events_left, goes, is_allowed, is_without, least_total, leaves, total}
-use Rattle.strip_arrivals.proofs.Lists.{contains_filter, contains_from_filter, contains_from_map, contains_map, least_over_attained, none_there, some_or_none}
-use Rattle.strip_arrivals.proofs.Casts.{is_none, nobody}
+use Rattle.strip_mask.proofs.Least.{least_over_attained}
+use Rattle.strip_arrivals.proofs.Lists.{contains_filter, contains_from_filter, contains_from_map, contains_map, none_there, some_or_none}
+use Rattle.strip_arrivals.proofs.Casts.{is_none}
 use Rattle.strip_arrivals.proofs.Along.{by_event, can_come, can_go, can_leave, no_events, when_over}
 
 -- a set whose members are none is empty
@@ -45,7 +46,7 @@ module _ (film : GroupData) (set group : ℕ) (small : IsSet group) where
   all_fine state event none =
       list_all-from_AllPass (is_without film state.coming) (closed_by film set state event)
       (All-weaker (Contains (closed_by film set state event)) (λ scene. is_without film state.coming scene ≡ true) (λ scene _.
-      is_none film state.coming scene (λ i works expected. nobody i (subst (λ k. has k i ≡ true) none expected)))
+      is_none film state.coming scene (λ i works expected. empty_has i (subst (λ k. has k i ≡ true) none expected)))
       (closed_by film set state event) (All-contains_itself (closed_by film set state event)))
 
   pub may : (state : StateData) (event : Event) → Contains (events group state) event → is_allowed film set state event ≡ true → Contains (allowed film set group state) event

@@ -1,16 +1,16 @@
 -- Sets of places of a group, and classes of scenes.
 use Rattle.std.proofs.Common.{◌≡◌, ℕ, ◌+◌, ◌<◌, Bool, true, false, not, ◌&&◌, ◌||◌, List, [], ◌∷◌, ◌++◌, length, slice_index, refl, sym, ap, ◌∙◌, subst, inl, inr, arith}
-use Rattle.std.proofs.lemmas.Bool.{cases_eq, cases_lt, false≢true, false_from_ne_true}
+use Rattle.std.proofs.lemmas.Bool.{cases_eq, cases_lt, false≢true, false_from_ne_true, cases_Bool}
 use Rattle.std.proofs.lemmas.List.{get_or_past}
 use Rattle.strip_mask.specs.Set.{IsSet, LiesBelow, has, members, size, union, with, without}
-use Rattle.strip_mask.proofs.ByMembers.{has-empty, has-union, has-with, has-with_same, has-with_other, same_has, with-without}
+use Rattle.strip_mask.proofs.ByMembers.{has-empty, has-union, has-with, has-with_same, has-with_other, same_has, with-without, empty_has}
 use Rattle.strip_group.specs.Group.{GroupData}
 use Rattle.strip_group.specs.Places.{actor_at, pick}
-use Rattle.strip_group.proofs.Places.{by_bit, has_pick, pick-without}
+use Rattle.strip_group.proofs.Places.{has_pick, pick-without}
 use Rattle.strip_arrivals.specs.Arrivals.{actors_of, is_without}
 use Rattle.strip_mask.proofs.Members.{Contains-members, has_from_members}
 use Rattle.strip_arrivals.proofs.Newcomers.{actors_more}
-use Rattle.strip_arrivals.proofs.Casts.{has_listed, is_none, listed_has, nobody, without_one}
+use Rattle.strip_arrivals.proofs.Casts.{has_listed, is_none, listed_has, without_one}
 
 -- ---- a scene more
 
@@ -54,14 +54,14 @@ scenes_more film actors actor scenes plays more scene before works is =
     either false b = refl
 
 pub scenes_none : (film : GroupData) (scene : ℕ) → has 0 scene ≡ not (is_without film (actors_of []) scene)
-scenes_none film scene = has-empty scene ∙ sym (ap not (is_none film 0 scene (λ i works there. nobody i there)))
+scenes_none film scene = has-empty scene ∙ sym (ap not (is_none film 0 scene (λ i works there. empty_has i there)))
 
 -- the actors of the members of a set are the set
 pub actors_members : (set : ℕ) (actors : List ℕ) → actors ≡ members set → IsSet set → actors_of actors ≡ set
 actors_members set actors is small = ap actors_of is ∙ same_has (actors_of (members set)) set (λ i. by_list i)
   where
     by_list : (i : ℕ) → has (actors_of (members set)) i ≡ has set i
-    by_list i = elim (by_bit (has set i)) [
+    by_list i = elim (cases_Bool (has set i)) [
       | inl there ↦ has_listed (members set) i (Contains-members set i small there) ∙ sym there
       | inr missing ↦ false_from_ne_true (has (actors_of (members set)) i) (λ found. false≢true (sym missing ∙ has_from_members set i (listed_has (members set) i found))) ∙ sym missing
     ]

@@ -2,7 +2,7 @@
 use Rattle.std.proofs.Common.{◌≡◌, ℕ, zero, suc, ◌+◌, ◌*◌, ◌^◌, ◌<◌, ◌≤◌, true, min, List, [], ◌∷◌, slice_index, sym, ap, ◌∙◌, arith}
 use Rattle.std.proofs.Math.Nat.{min-le_left}
 use Rattle.strip_mask.specs.Set.{has, with}
-use Rattle.strip_mask.proofs.ByMembers.{has-with_other, has-with_same}
+use Rattle.strip_mask.proofs.ByMembers.{has-with_other, has-with_same, empty_has}
 use Rattle.strip_group.specs.Group.{GroupData}
 use Rattle.strip_sets.specs.Numbers.{by_class}
 use Rattle.strip_sets.specs.Pass.{HasRoom, Passes, cost}
@@ -11,30 +11,19 @@ use Rattle.strip_arrivals.specs.Company.{AreBoth, AreCounted, ArePair, ArePrices
 use Rattle.strip_arrivals.specs.declared.party.Both.{Both}
 use Rattle.strip_arrivals.specs.declared.party.Newcomer.{Newcomer}
 use Rattle.strip_arrivals.specs.declared.party.Party.{Party}
-use Rattle.strip_arrivals.proofs.Casts.{nobody}
 use Rattle.strip_arrivals.proofs.Chosen.{sum_four}
 use Rattle.strip_arrivals.proofs.Classes.{AreDays, AreKinds, kinds_none, kinds_one, kinds_two, leaving_free, leaving_guarded}
 use Rattle.strip_arrivals.proofs.Masks.{has_one, two}
 use Rattle.strip_arrivals.proofs.Passing.{row_least}
 use Rattle.strip_arrivals.proofs.Prices.{price_alone, price_both, price_first, price_neither, price_second, price_with, price_without}
 use Rattle.strip_arrivals.proofs.Room.{all_rates, cost_low, has_room, hold_low, holds_low, rates_low}
+use Rattle.strip_sets.proofs.FourSets.{by_four}
+use Rattle.strip_arrivals.proofs.Among.{for_two}
 
--- of one class, of two and of four
+-- of one class
 pub for_one : (P : ℕ → Type 0) → P 0 → (kind : ℕ) → kind < 1 → P kind
 for_one P first zero lt = first
 for_one P first (suc n) lt = absurd (omega (arith, lt))
-
-pub for_two : (P : ℕ → Type 0) → P 0 → P 1 → (kind : ℕ) → kind < 2 → P kind
-for_two P first second zero lt = first
-for_two P first second (suc zero) lt = second
-for_two P first second (suc (suc n)) lt = absurd (omega (arith, lt))
-
-pub for_four : (P : ℕ → Type 0) → P 0 → P 1 → P 2 → P 3 → (kind : ℕ) → kind < 4 → P kind
-for_four P first second third fourth zero lt = first
-for_four P first second third fourth (suc zero) lt = second
-for_four P first second third fourth (suc (suc zero)) lt = third
-for_four P first second third fourth (suc (suc (suc zero))) lt = fourth
-for_four P first second third fourth (suc (suc (suc (suc n)))) lt = absurd (omega (arith, lt))
 
 -- the same for each class, and those of two
 abbrev pub same_of : {S : Type 0} → S → Classes S
@@ -103,7 +92,7 @@ module _ {S : Type 0} (value : S → ℕ → ℕ) (count most : ℕ) (film : Gro
     one_prices = for_two (λ kind. ArePrices film set group count coming (one.actor ∷ []) gone (slice_index (0 ∷ with 0 one.actor ∷ []) kind)
         (by_class value (two_of one.waits party.crew.rates) kind))
         (price_without film set group newcomers known.company count (value party.crew.rates) known.crew.rates coming gone one.actor told.comes 0 told.mates (value one.waits)
-        (λ works. nobody one.actor works) told.are_mates (λ places lt. told.waits places lt ∙ ap (λ (n : ℕ). value party.crew.rates places + min (told.mates places) n) told.hold))
+        (λ works. empty_has one.actor works) told.are_mates (λ places lt. told.waits places lt ∙ ap (λ (n : ℕ). value party.crew.rates places + min (told.mates places) n) told.hold))
         (price_with film set group newcomers known.company count (value party.crew.rates) known.crew.rates coming gone one.actor told.comes (with 0 one.actor) (has-with_same 0 one.actor))
 
     pub one_days : (kind : ℕ) → kind < 2
@@ -135,10 +124,10 @@ module _ {S : Type 0} (value : S → ℕ → ℕ) (count most : ℕ) (film : Gro
       (of_both : AreBoth value count film party one.actor other.actor both) where
     -- who works there of the two
     off_first : has (with 0 other.actor) one.actor ≡ true → ⊥
-    off_first there = nobody one.actor (sym (has-with_other 0 other.actor one.actor (λ same. pair.apart (sym same))) ∙ there)
+    off_first there = empty_has one.actor (sym (has-with_other 0 other.actor one.actor (λ same. pair.apart (sym same))) ∙ there)
 
     off_second : has (with 0 one.actor) other.actor ≡ true → ⊥
-    off_second there = nobody other.actor (sym (has-with_other 0 one.actor other.actor pair.apart) ∙ there)
+    off_second there = empty_has other.actor (sym (has-with_other 0 one.actor other.actor pair.apart) ∙ there)
 
     module _ (neither with_other : S) (is_neither : (places : ℕ) → places < 2 ^ count → value neither places ≡ min (one.hold + value other.waits places) (value both.together places))
         (is_with_other : (places : ℕ) → places < 2 ^ count → value with_other places ≡ one.hold + value party.crew.rates places) where
@@ -152,9 +141,9 @@ module _ {S : Type 0} (value : S → ℕ → ℕ) (count most : ℕ) (film : Gro
       two_days_of = by_class value (four_of party.days one.days other.days both.days)
 
       pub two_prices : (kind : ℕ) → kind < 4 → ArePrices film set group count 0 (one.actor ∷ other.actor ∷ []) 0 (two_kinds kind) (two_weights kind)
-      two_prices = for_four (λ kind. ArePrices film set group count 0 (one.actor ∷ other.actor ∷ []) 0 (two_kinds kind) (two_weights kind))
+      two_prices = by_four (λ kind. ArePrices film set group count 0 (one.actor ∷ other.actor ∷ []) 0 (two_kinds kind) (two_weights kind))
           (price_neither film set group newcomers known.company count (value party.crew.rates) known.crew.rates 0 0 one.actor told.comes other.actor told_too.comes pair.apart 0
-          told_too.mates of_both.mates (value neither) (λ works. nobody one.actor works) (λ works. nobody other.actor works) told_too.are_mates of_both.are_mates
+          told_too.mates of_both.mates (value neither) (λ works. empty_has one.actor works) (λ works. empty_has other.actor works) told_too.are_mates of_both.are_mates
           (λ places lt. is_neither places lt
           ∙ least_of (value party.crew.rates places) (of_both.mates places) one.hold (min (told_too.mates places) other.hold) (value other.waits places) (value both.together places)
           (told_too.waits places lt) (of_both.together places lt)
@@ -171,7 +160,7 @@ module _ {S : Type 0} (value : S → ℕ → ℕ) (count most : ℕ) (film : Gro
           least_of rates mates hold rest waits together is_waits is_together = omega (arith, is_waits, is_together)
 
       pub two_days : (kind : ℕ) → kind < 4 → AreDays film set group newcomers known.company count known.crew.fits (two_kinds kind) (two_days_of kind)
-      two_days = for_four (λ kind. AreDays film set group newcomers known.company count known.crew.fits (two_kinds kind) (two_days_of kind)) known.days told.days told_too.days of_both.days
+      two_days = by_four (λ kind. AreDays film set group newcomers known.company count known.crew.fits (two_kinds kind) (two_days_of kind)) known.days told.days told_too.days of_both.days
 
       pub two_low : (kind places : ℕ) → kind < 4 → places < 2 ^ count → two_weights kind places ≤ all_rates value count most film party known
       two_low kind places below lt =
@@ -181,7 +170,7 @@ module _ {S : Type 0} (value : S → ℕ → ℕ) (count most : ℕ) (film : Gro
           let least = is_neither places lt in
           let on_top = is_with_other places lt in
           let at_most = min-le_left (one.hold + value other.waits places) (value both.together places) in
-          for_four (λ k. two_weights k places ≤ all_rates value count most film party known)
+          by_four (λ k. two_weights k places ≤ all_rates value count most film party known)
           (omega (arith, together, rates, waits, told.hold, told_too.hold, least, at_most)) (omega (arith, together, rates, waits, told.hold, told_too.hold))
           (omega (arith, together, rates, on_top, told.hold)) (omega (arith, rates)) kind below
 

@@ -1,9 +1,8 @@
 -- Who of the newcomers is to come, is here and is gone, stage by stage.
 use Rattle.std.proofs.Common.{◌≡◌, ◌≢◌, ℕ, ◌||◌, eqb, Bool, true, false, List, [], ◌∷◌, length, slice_index, refl, sym, ap, ◌∙◌, inl, inr, arith}
 use Rattle.strip_mask.specs.Set.{IsSet, has, with}
-use Rattle.strip_mask.proofs.ByMembers.{IsSet-empty, IsSet-with, below_64, has-empty, has-with, has-with_other, has_from_with}
+use Rattle.strip_mask.proofs.ByMembers.{IsSet-empty, IsSet-with, below_64, has-empty, has-with, has-with_other, has_from_with, empty_has}
 use Rattle.strip_arrivals.specs.Company.{ArePair, IsStage}
-use Rattle.strip_arrivals.proofs.Casts.{nobody}
 use Rattle.strip_arrivals.proofs.Masks.{pair_is, pair_turned}
 
 -- a test stays what it is with nobody before it
@@ -27,7 +26,7 @@ either_of one other i = has-with (with 0 one) other i
 not_other : (one other i : ℕ) → one ≢ other → has (with 0 one) i ≡ true → has (with 0 other) i ≡ false
 not_other one other i apart there = elim (has_from_with 0 one i there) [
   | inl is ↦ has-with_other 0 other i (λ same. apart (is ∙ sym same)) ∙ has-empty i
-  | inr none ↦ absurd (nobody i none)
+  | inr none ↦ absurd (empty_has i none)
 ]
 
 -- nobody is no two
@@ -44,8 +43,8 @@ one_once one first second same = absurd (omega (arith, ap (length {A = ℕ}) sam
 pub stage_over : (newcomers : ℕ) → IsStage newcomers 0 [] newcomers
 stage_over newcomers = record {
   whole = λ actor. none_before (has newcomers actor) actor ∙ none_before (has 0 actor || has newcomers actor) actor;
-  not_both = λ actor there. absurd (nobody actor there);
-  not_gone = λ actor there. absurd (nobody actor there);
+  not_both = λ actor there. absurd (empty_has actor there);
+  not_gone = λ actor there. absurd (empty_has actor there);
   once = none_twice;
   small = IsSet-empty;
 }
@@ -66,7 +65,7 @@ stage_first newcomers small = record {
 pub stage_alone_one : (newcomers one : ℕ) → newcomers ≡ with 0 one → IsStage newcomers 0 (one ∷ []) 0
 stage_alone_one newcomers one is = record {
   whole = λ actor. ap (λ (s : ℕ). has s actor) is ∙ none_behind (has (with 0 one) actor) actor ∙ none_before (has (with 0 one) actor || has 0 actor) actor;
-  not_both = λ actor there. absurd (nobody actor there);
+  not_both = λ actor there. absurd (empty_has actor there);
   not_gone = λ actor there. has-empty actor;
   once = one_once one;
   small = IsSet-empty;
@@ -82,7 +81,7 @@ one_or_other newcomers one other pair i = ap (λ (s : ℕ). has s i) (sym (pair_
 pub stage_alone : (newcomers one other : ℕ) → ArePair newcomers one other → IsStage newcomers 0 (one ∷ []) (with 0 other)
 stage_alone newcomers one other pair = record {
   whole = λ actor. one_or_other newcomers one other pair actor ∙ none_before (has (with 0 one) actor || has (with 0 other) actor) actor;
-  not_both = λ actor there. absurd (nobody actor there);
+  not_both = λ actor there. absurd (empty_has actor there);
   not_gone = λ actor there. not_other one other actor pair.apart there;
   once = one_once one;
   small = IsSet-empty;
@@ -93,7 +92,7 @@ pub stage_coming : (newcomers one other : ℕ) → IsSet newcomers → ArePair n
 stage_coming newcomers one other small pair = record {
   whole = λ actor. one_or_other newcomers one other pair actor ∙ ap (λ b. has (with 0 one) actor || b) (none_before (has (with 0 other) actor) actor);
   not_both = λ actor there. (has-empty actor, not_other one other actor pair.apart there);
-  not_gone = λ actor there. absurd (nobody actor there);
+  not_gone = λ actor there. absurd (empty_has actor there);
   once = none_twice;
   small = IsSet-with 0 one IsSet-empty (below_64 newcomers one small pair.one_comes);
 }
@@ -103,7 +102,7 @@ pub stage_both : (newcomers one other : ℕ) → ArePair newcomers one other →
 stage_both newcomers one other pair = record {
   whole = λ actor. ap (λ (s : ℕ). has s actor) (sym (pair_is newcomers other one (pair_turned newcomers one other pair)))
       ∙ none_behind (has (with (with 0 other) one) actor) actor ∙ none_before (has (with (with 0 other) one) actor || has 0 actor) actor;
-  not_both = λ actor there. absurd (nobody actor there);
+  not_both = λ actor there. absurd (empty_has actor there);
   not_gone = λ actor there. has-empty actor;
   once = λ first second same equal. pair.apart (ap (λ (actors : List ℕ). slice_index actors 0) same ∙ equal ∙ sym (ap (λ (actors : List ℕ). slice_index actors 1) same));
   small = IsSet-empty;

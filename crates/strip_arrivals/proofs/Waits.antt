@@ -1,18 +1,20 @@
 -- What those who came are paid for waiting at least, where nobody, one or two are here.
 use Rattle.std.proofs.Common.{◌≡◌, ◌≢◌, ℕ, suc, ◌+◌, ◌<◌, Bool, true, false, not, ◌&&◌, ◌||◌, cond, eqb, min, List, [], ◌∷◌, Contains, drop, filter, length, slice_index, take, refl, sym, ap, ◌∙◌, subst, inl, inr, arith}
-use Rattle.std.proofs.lemmas.Bool.{false≢true, false_from_ne_true}
+use Rattle.std.proofs.lemmas.Bool.{false≢true, false_from_ne_true, cases_Bool}
 use Rattle.std.proofs.lemmas.Bool.{eqb-true}
 use Rattle.std.proofs.lemmas.List.{take-append-drop}
 use Rattle.std.proofs.lemmas.List.Elements.{Contains-append_left, Contains-append_right}
 use Rattle.strip_mask.specs.Set.{has, meet, minus, numbers_below, sum_over, with}
 use Rattle.strip_mask.proofs.ByMembers.{empty_from, has-empty, has-meet, has-minus, has-with, has-with_other, same_has}
 use Rattle.strip_mask.proofs.Totals.{sum_over-empty, sum_over-with}
-use Rattle.strip_group.specs.Group.{GroupData, least_over}
-use Rattle.strip_group.proofs.Places.{by_bit}
+use Rattle.strip_mask.specs.Least.{least_over}
+use Rattle.strip_group.specs.Group.{GroupData}
 use Rattle.strip_arrivals.specs.Arrivals.{StateData, actors_of, mates}
 use Rattle.strip_arrivals.specs.Gross.{least_paid, paid_by}
-use Rattle.strip_arrivals.proofs.Lists.{contains_none}
+use Rattle.strip_mask.proofs.Lists.{contains_none}
 use Rattle.strip_arrivals.proofs.Casts.{has_listed, listed_has, mates_has, without_one}
+use Rattle.std.proofs.Math.Nat.{min_comm}
+use Rattle.std.proofs.Math.Bool.{and-false}
 
 -- a least over few numbers
 one_of : (f : ℕ → ℕ) (b : Bool) → b ≡ true → least_over f (cond b (0 ∷ []) []) ≡ f 0
@@ -33,16 +35,9 @@ three_of f false true true is = refl
 three_of f false false true is = refl
 three_of f a b false is = absurd (false≢true is)
 
-min_swap : (a b : ℕ) → min a b ≡ min b a
-min_swap a b = omega arith
-
 -- nobody works in a scene, or one, or two
 none_in : (cast : ℕ) → eqb (meet cast 0) 0 ≡ true
-none_in cast = ap (λ (s : ℕ). eqb s 0) (same_has (meet cast 0) 0 (λ i. has-meet cast 0 i ∙ ap (λ b. has cast i && b) (has-empty i) ∙ off (has cast i) ∙ sym (has-empty i)))
-  where
-    off : (b : Bool) → (b && false) ≡ false
-    off true = refl
-    off false = refl
+none_in cast = ap (λ (s : ℕ). eqb s 0) (same_has (meet cast 0) 0 (λ i. has-meet cast 0 i ∙ ap (λ b. has cast i && b) (has-empty i) ∙ and-false (has cast i) ∙ sym (has-empty i)))
 
 one_in : (cast actors one : ℕ) → eqb (meet cast (with actors one)) 0 ≡ (eqb (meet cast actors) 0 && not (has cast one))
 one_in cast actors one = without_one (record { casts = cast ∷ []; days = []; holds = [] }) actors one 0
@@ -53,12 +48,8 @@ module _ (film : GroupData) (set left coming gone : ℕ) where
       let none : mates film set (actors_of []) ≡ 0
       = empty_from (mates film set (actors_of [])) (λ i. false_from_ne_true (has (mates film set (actors_of [])) i) (λ there.
       contains_none (mates_has film set [] i there).3.0 (mates_has film set [] i there).3.1)) in
-      let nobody : meet left 0 ≡ 0 = same_has (meet left 0) 0 (λ i. has-meet left 0 i ∙ ap (λ b. has left i && b) (has-empty i) ∙ off (has left i) ∙ sym (has-empty i)) in
+      let nobody : meet left 0 ≡ 0 = same_has (meet left 0) 0 (λ i. has-meet left 0 i ∙ ap (λ b. has left i && b) (has-empty i) ∙ and-false (has left i) ∙ sym (has-empty i)) in
       ap (λ (s : ℕ). sum_over film.holds (meet left s)) none ∙ ap (sum_over film.holds) nobody ∙ sum_over-empty film.holds
-    where
-      off : (b : Bool) → (b && false) ≡ false
-      off true = refl
-      off false = refl
 
   minus_none : (kind : ℕ) → sum_over film.holds (minus 0 kind) ≡ 0
   minus_none kind = ap (sum_over film.holds) (same_has (minus 0 kind) 0 (λ i. has-minus 0 kind i ∙ ap (λ b. b && not (has kind i)) (has-empty i) ∙ sym (has-empty i)))
@@ -67,11 +58,11 @@ module _ (film : GroupData) (set left coming gone : ℕ) where
   -- those of a set and one more, but for those who work
   more : (actors one kind : ℕ) → one < 64 → has actors one ≡ false
       → sum_over film.holds (minus (with actors one) kind) ≡ sum_over film.holds (minus actors kind) + cond {A = ℕ} (has kind one) 0 (slice_index film.holds one)
-  more actors one kind small other = elim (by_bit (has kind one)) [
+  more actors one kind small other = elim (cases_Bool (has kind one)) [
     | inl works ↦ ap (sum_over film.holds) (same_has (minus (with actors one) kind) (minus actors kind) (λ i.
         has-minus (with actors one) kind i ∙ ap (λ b. b && not (has kind i)) (has-with actors one i)
-        ∙ elim (by_bit (eqb one i)) [
-          | inl is ↦ (let at : has kind i ≡ true = ap (has kind) (sym (same one i is)) ∙ works in
+        ∙ elim (cases_Bool (eqb one i)) [
+          | inl is ↦ (let at : has kind i ≡ true = ap (has kind) (sym (eqb-true one i is)) ∙ works in
               ap (λ b. (b || has actors i) && not (has kind i)) is ∙ ap not at ∙ sym (ap (λ b. has actors i && not b) at ∙ off (has actors i)))
           | inr is_not ↦ ap (λ b. (b || has actors i) && not (has kind i)) is_not
         ] ∙ sym (has-minus actors kind i))) ∙ (let nothing : cond {A = ℕ} (has kind one) 0 (slice_index film.holds one) ≡ 0 = ap (λ b. cond {A = ℕ} b 0 (slice_index film.holds one)) works in omega (arith, nothing))
@@ -80,8 +71,8 @@ module _ (film : GroupData) (set left coming gone : ℕ) where
         let paid : cond {A = ℕ} (has kind one) 0 (slice_index film.holds one) ≡ slice_index film.holds one = ap (λ b. cond {A = ℕ} b 0 (slice_index film.holds one)) off_work in
         ap (sum_over film.holds) (same_has (minus (with actors one) kind) (with (minus actors kind) one) (λ i.
         has-minus (with actors one) kind i ∙ ap (λ b. b && not (has kind i)) (has-with actors one i)
-        ∙ elim (by_bit (eqb one i)) [
-          | inl is ↦ (let at : has kind i ≡ false = ap (has kind) (sym (same one i is)) ∙ off_work in
+        ∙ elim (cases_Bool (eqb one i)) [
+          | inl is ↦ (let at : has kind i ≡ false = ap (has kind) (sym (eqb-true one i is)) ∙ off_work in
               ap (λ b. (b || has actors i) && not (has kind i)) is ∙ ap not at ∙ sym (ap (λ b. b || has (minus actors kind) i) is))
           | inr is_not ↦ ap (λ b. (b || has actors i) && not (has kind i)) is_not ∙ sym (has-minus actors kind i) ∙ sym (ap (λ b. b || has (minus actors kind) i) is_not)
         ] ∙ sym (has-with (minus actors kind) one i)))
@@ -91,9 +82,6 @@ module _ (film : GroupData) (set left coming gone : ℕ) where
       off : (b : Bool) → (b && not true) ≡ false
       off true = refl
       off false = refl
-
-      same : (i j : ℕ) → eqb i j ≡ true → i ≡ j
-      same i j is = eqb-true i j is
 
   one_paid : (one kind : ℕ) → one < 64 → sum_over film.holds (minus (actors_of (one ∷ [])) kind) ≡ cond {A = ℕ} (has kind one) 0 (slice_index film.holds one)
   one_paid one kind small = omega (arith, more 0 one kind small (has-empty one), minus_none kind)
@@ -120,7 +108,7 @@ module _ (film : GroupData) (set left coming gone : ℕ) where
     where
       by_test : (b : Bool) → cond {A = ℕ} (not b) (min last paid) paid ≡ cond {A = ℕ} b paid (min paid last)
       by_test true = refl
-      by_test false = min_swap last paid
+      by_test false = min_comm last paid
 
   pub two_wait : (one other kind last all first second : ℕ) → one < 64 → other < 64 → one ≢ other
       → first ≡ cond {A = ℕ} (has kind one) 0 (slice_index film.holds one) → second ≡ cond {A = ℕ} (has kind other) 0 (slice_index film.holds other)
@@ -149,8 +137,8 @@ module _ (film : GroupData) (set left coming gone : ℕ) where
           (cond {A = ℕ} (not s) (min (first + last) (first + second)) (first + second))
           ≡ cond {A = ℕ} s (first + second) (cond {A = ℕ} f (min (first + second) (first + last)) (min (min (first + second) (first + last)) all))
       by_tests f true = refl
-      by_tests true false = min_swap (first + last) (first + second)
-      by_tests false false = min_swap all (min (first + last) (first + second)) ∙ ap (λ (n : ℕ). min n all) (min_swap (first + last) (first + second))
+      by_tests true false = min_comm (first + last) (first + second)
+      by_tests false false = min_comm all (min (first + last) (first + second)) ∙ ap (λ (n : ℕ). min n all) (min_comm (first + last) (first + second))
 
 -- a cast and the newcomers in it make the same price
 pub least_alike : (film : GroupData) (set : ℕ) (state : StateData) (cast kind : ℕ) → ((i : ℕ) → has (actors_of state.here) i ≡ true → has cast i ≡ has kind i)

@@ -3,7 +3,8 @@
 use Rattle.std.specs.Prelude.{◌≡◌, ℕ, zero, suc, ◌+◌, ◌*◌, ◌≤◌, ◌==◌, Bool, not, ◌&&◌, List, [], ◌∷◌, ◌++◌, Contains, filter, map, take, drop, length, sum_by, slice_index}
 use Rattle.std.specs.List.{list_all}
 use Rattle.strip_mask.specs.Set.{has, with, without, union, meet, minus, members, numbers_below, size, sum_over}
-use Rattle.strip_group.specs.Group.{GroupData, least_over}
+use Rattle.strip_mask.specs.Least.{least_over}
+use Rattle.strip_group.specs.Group.{GroupData}
 
 -- ---- who works with whom
 

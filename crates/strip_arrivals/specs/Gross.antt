@@ -3,7 +3,8 @@
 use Rattle.std.specs.Prelude.{◌≡◌, ℕ, suc, ◌+◌, ◌*◌, ◌≤◌, ◌==◌, ◌⊎◌, cond, Bool, ◌&&◌, Contains, drop, filter, length, take, slice_index}
 use Rattle.strip_mask.specs.Set.{has, meet, minus, numbers_below, sum_over}
 use Rattle.strip_mask.specs.Sums.{sum_below}
-use Rattle.strip_group.specs.Group.{GroupData, least_over}
+use Rattle.strip_mask.specs.Least.{least_over}
+use Rattle.strip_group.specs.Group.{GroupData}
 use Rattle.strip_arrivals.specs.Arrivals.{Event, IsLeastTotal, IsOver, StateData, actors_of, after, comes, goes, leaves, allowed, is_open, mates}
 
 -- the days of the scenes of a set, each at a rate of its own

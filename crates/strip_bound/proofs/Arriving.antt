@@ -1,14 +1,14 @@
 -- What groups and newcomers are paid for waiting along a list is within its tail.
-use Rattle.std.proofs.Common.{◌≡◌, ℕ, zero, suc, ◌+◌, ◌*◌, ◌<◌, ◌≤◌, true, false, not, eqb, List, [], ◌∷◌, length, slice_index, sum_by, inl, inr, refl, ap, ◌∙◌, arith}
+use Rattle.std.proofs.Common.{◌≡◌, ℕ, zero, suc, ◌+◌, ◌*◌, ◌<◌, ◌≤◌, true, false, not, List, [], ◌∷◌, length, slice_index, sum_by, inl, inr, refl, ap, ◌∙◌, arith}
 use Rattle.std.proofs.Math.Nat.{mul-le-mul_left}
-use Rattle.std.proofs.lemmas.Bool.{and_right}
+use Rattle.std.proofs.lemmas.Bool.{and_from, false_from_ne_true}
 use Rattle.strip_mask.specs.Set.{IsSet, has, meet, minus, union, without, sum_over}
 use Rattle.strip_mask.specs.Sums.{sum_below}
-use Rattle.strip_mask.proofs.ByMembers.{has-minus, has-without, has-empty, has_from_meet, has_from_minus, has_from_union, has_from_without}
-use Rattle.strip_mask.proofs.Below.{and_true, is_set_below, LiesBelow-without}
+use Rattle.strip_mask.proofs.ByMembers.{has-minus, has-empty, has_from_meet, has_from_minus, has_from_union, has_from_without}
+use Rattle.strip_mask.proofs.Below.{is_set_below, LiesBelow-without}
 use Rattle.strip_mask.proofs.Members.{members-empty}
 use Rattle.strip_mask.proofs.Sums.{sum_below-zero, sum_below-suc}
-use Rattle.strip_mask.proofs.Totals.{sum_over_mono}
+use Rattle.strip_mask.proofs.Totals.{sum_over_mono, sum_members-without}
 use Rattle.strip_pay.specs.Film.{FilmData}
 use Rattle.strip_film.specs.Bounds.{plain_bound}
 use Rattle.strip_film.specs.Film.{IsFilm, LiesIn}
@@ -21,8 +21,7 @@ use Rattle.strip_arrivals.specs.Arrivals.{cast_of}
 use Rattle.strip_arrivals.specs.Along.{HasEach, waiting, waiting_at, waiting_from}
 use Rattle.strip_arrivals.proofs.Adds.{waiting_adds}
 use Rattle.strip_bound.specs.Bounds.{group_data}
-use Rattle.strip_bound.proofs.Members.{false_from, sum_members-without}
-use Rattle.strip_bound.proofs.Tails.{by_step}
+use Rattle.strip_bound.proofs.Tails.{by_step, WorkedBefore, worked_before_without}
 
 -- a list that has each scene once, in the words of the values of groups
 pub has_each : (set : ℕ) (scenes : List ℕ) → AllOnce set scenes → HasEach set scenes
@@ -48,7 +47,7 @@ module _ (film : FilmData) (group newcomers : ℕ → ℕ)
     (newcomers_apart : (j k i : ℕ) → j < k → has (newcomers j) i ≡ true → has (newcomers k) i ≡ true → ⊥)
     (both_apart : (j k i : ℕ) → has (group j) i ≡ true → has (newcomers k) i ≡ true → ⊥) where
   apart : (n i : ℕ) → has (union (joined group n) (joined newcomers n)) i ≡ true → has (union (group n) (newcomers n)) i ≡ false
-  apart n i there = false_from (has (union (group n) (newcomers n)) i) (λ last.
+  apart n i there = false_from_ne_true (has (union (group n) (newcomers n)) i) (λ last.
       elim (has_from_union (joined group n) (joined newcomers n) i there) [
         | inl first ↦ (let found = from_joined group n i first in elim (has_from_union (group n) (newcomers n) i last) [
           | inl same ↦ groups_apart found.0 n i found.1 found.2 same
@@ -74,23 +73,15 @@ module _ (film : FilmData) (group newcomers : ℕ → ℕ)
 -- ---- along the list
 
 module _ (film : FilmData) (is : IsFilm film) where
-  abbrev WorkedBefore : ℕ → ℕ → Type 0
-  WorkedBefore set group = (actor : ℕ) → has group actor ≡ true → WorksOutside film set actor
-
-  before_without : (set s group : ℕ) → WorkedBefore set group → WorkedBefore (without set s) group
-  before_without set s group before actor member =
-      let found = before actor member in
-      (found.0, found.1, has-without set s found.0 ∙ and_right (not (eqb s found.0)) (has set found.0) found.2, found.3)
-
   -- who comes with a scene has worked before those that remain
-  before_with : (set s came : ℕ) → LiesIn film set → has set s ≡ true → WorkedBefore set came → WorkedBefore (without set s) (union came (slice_index film.casts s))
+  before_with : (set s came : ℕ) → LiesIn film set → has set s ≡ true → WorkedBefore film set came → WorkedBefore film (without set s) (union came (slice_index film.casts s))
   before_with set s came lies there before actor member = elim (has_from_union came (slice_index film.casts s) actor member) [
-    | inl old ↦ before_without set s came before actor old
+    | inl old ↦ worked_before_without film set s came before actor old
     | inr new ↦ (s, lies s there, gone, new)
   ]
     where
       gone : has (without set s) s ≡ false
-      gone = false_from (has (without set s) s) (λ stays. (has_from_without set s s stays).0 refl)
+      gone = false_from_ne_true (has (without set s) s) (λ stays. (has_from_without set s s stays).0 refl)
 
   -- who works in a scene of the list works in the set
   works_inside : (set : ℕ) (scenes : List ℕ) (actor : ℕ) → AllRemained set scenes → has (cast_of (group_data film) scenes) actor ≡ true → WorksInside film set actor
@@ -106,7 +97,7 @@ module _ (film : FilmData) (is : IsFilm film) where
 
   -- who waits is on location
   waiting_located : (group newcomers came set s : ℕ) (later : List ℕ) → LiesIn film set → AllRemained (without set s) later
-      → WorkedBefore set group → WorkedBefore set came → (i : ℕ) → has (waiting_at (group_data film) group newcomers came s later) i ≡ true
+      → WorkedBefore film set group → WorkedBefore film set came → (i : ℕ) → has (waiting_at (group_data film) group newcomers came s later) i ≡ true
       → has (minus (on_location film set) (slice_index film.casts s)) i ≡ true
   waiting_located group newcomers came set s later lies remained before_group before_came i there =
       let outer = has_from_minus (meet (union group (meet newcomers came)) (cast_of (group_data film) later)) (slice_index film.casts s) i there in
@@ -116,10 +107,10 @@ module _ (film : FilmData) (is : IsFilm film) where
         | inr newcomer ↦ before_came i (has_from_meet newcomers came i newcomer).1
       ] in
       has-minus (on_location film set) (slice_index film.casts s) i
-      ∙ and_true (has (on_location film set) i) (not (has (slice_index film.casts s) i))
+      ∙ and_from (has (on_location film set) i) (not (has (slice_index film.casts s) i))
       ((location_by_scenes film set i is lies).1 (inside_more set s i (works_inside (without set s) later i remained inner.1), worked)) (ap not outer.1)
 
-  from_within_steps : (group newcomers came set : ℕ) (scenes : List ℕ) → LiesIn film set → AllOnce set scenes → WorkedBefore set group → WorkedBefore set came
+  from_within_steps : (group newcomers came set : ℕ) (scenes : List ℕ) → LiesIn film set → AllOnce set scenes → WorkedBefore film set group → WorkedBefore film set came
       → plain_bound film set + waiting_from (group_data film) group newcomers came scenes ≤ steps_cost film set scenes
   from_within_steps group newcomers came set [] lies each before_group before_came =
       let plain : plain_bound film set ≡ 0 = ap (plain_bound film) each.1 ∙ plain_of_none in
@@ -137,7 +128,7 @@ module _ (film : FilmData) (is : IsFilm film) where
       let later : ℕ = waiting_from (group_data film) group newcomers seen scenes in
       let rest : plain_bound film (without set s) + later ≤ steps_cost film (without set s) scenes
       = from_within_steps group newcomers seen (without set s) scenes (LiesBelow-without (length film.casts) set s lies) (each.0.1, each.1)
-      (before_without set s group before_group) (before_with set s came lies each.0.0 before_came) in
+      (worked_before_without film set s group before_group) (before_with set s came lies each.0.0 before_came) in
       let plain : plain_bound film set ≡ days * work + plain_bound film (without set s)
       = sum_members-without (λ scene. slice_index film.days scene * sum_over film.rates (slice_index film.casts scene)) set s is_set each.0.0 in
       let parts : waits ≤ wait = sum_over_mono film.holds (waiting_at (group_data film) group newcomers came s scenes) (minus (on_location film set) (slice_index film.casts s))

@@ -19,7 +19,7 @@ use Rattle.strip_bound.specs.Parties.{AreActors, AreAsked, AreParties}
 use Rattle.strip_bound.proofs.Fall.{same_length}
 use Rattle.strip_bound.proofs.Party.{newcomers_small}
 use Rattle.strip_bound.proofs.Small.{bound_small}
-use Rattle.strip_bound.proofs.Steps.{zeros}
+use Rattle.strip_mask.proofs.Lists.{zeros}
 
 module _ (film : FilmData) (set : ℕ) where
   -- ---- the greatest values

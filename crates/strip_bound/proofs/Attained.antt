@@ -1,22 +1,22 @@
 -- Some list has a group wait for no more than its extra.
 use Rattle.std.proofs.Common.{◌≡◌, ℕ, zero, suc, ◌+◌, ◌*◌, ◌≤◌, Bool, true, false, cond, not, eqb, List, [], ◌∷◌, ◌++◌, slice_index, inl, inr, refl, sym, ap, ◌∙◌, subst, arith}
-use Rattle.std.proofs.lemmas.Bool.{and_parts, and_right, cases_Bool}
+use Rattle.std.proofs.lemmas.Bool.{and_parts, and_right, cases_Bool, and_from}
 use Rattle.std.proofs.lemmas.Bool.Decides.{eqb_tells}
 use Rattle.std.proofs.Math.Nat.{mul-le-mul_left}
 use Rattle.strip_mask.specs.Set.{IsSet, has, meet, without, size}
 use Rattle.strip_mask.proofs.ByMembers.{has_from_without, has-without_other, has-empty, IsSet-without, some_member}
-use Rattle.strip_mask.proofs.Below.{and_true}
 use Rattle.strip_mask.proofs.Sizes.{size-without, size-empty, empty_from_size}
 use Rattle.strip_pay.specs.Film.{FilmData}
 use Rattle.strip_pay.specs.Pay.{works}
 use Rattle.strip_film.specs.Shoot.{cast_of}
 use Rattle.strip_film.specs.Finish.{rest_after}
 use Rattle.strip_film.proofs.Casts.{cast_has}
-use Rattle.strip_film.proofs.Lists.{AllRemained, AllOnce}
+use Rattle.strip_film.proofs.Lists.{AllRemained, AllOnce, rest_after-parts}
 use Rattle.strip_group.specs.Group.{is_waited, waited_days, group_extra}
 use Rattle.strip_bound.specs.Bounds.{group_data}
 use Rattle.strip_bound.specs.Waiting.{wait_pay}
-use Rattle.strip_bound.proofs.Members.{cond_le, test_from_shared}
+use Rattle.strip_mask.proofs.Totals.{cond_le}
+use Rattle.strip_bound.proofs.Members.{test_from_shared}
 use Rattle.strip_bound.proofs.Extra.{waited_days-without, extra_with_last, extra_attained}
 use Rattle.strip_bound.proofs.Waits.{AreGone, is_idle, waits, wait_pay-split, wait_pay-append, wait_pay-gone, waits-append, cast_without}
 
@@ -31,10 +31,6 @@ WorksThrough film actor [] = Unit {0}
 WorksThrough film actor (scene ∷ scenes) = (works film actor scene ≡ true) × WorksThrough film actor scenes
 
 -- ---- lists of what remained
-
-rest_after-append : (set : ℕ) (xs ys : List ℕ) → rest_after set (xs ++ ys) ≡ rest_after (rest_after set xs) ys
-rest_after-append set [] ys = refl
-rest_after-append set (x ∷ xs) ys = rest_after-append (without set x) xs ys
 
 AllRemained-append : (set : ℕ) (xs ys : List ℕ) → AllRemained set xs → AllRemained (rest_after set xs) ys → AllRemained set (xs ++ ys)
 AllRemained-append set [] ys first then = then
@@ -109,7 +105,7 @@ module _ (film : FilmData) where
       = waits_on_others others actor (without set s) xs (IsSet-without set s is) remained.1 meets.1 in
       let here : cond (is_idle film actor set s) (slice_index film.days s) 0 ≤ cond waited (slice_index film.days s) 0
       = cond_le (is_idle film actor set s) waited (slice_index film.days s) (λ idle.
-      and_true (not (eqb (meet (slice_index film.casts s) others) 0)) (not (works film actor s))
+      and_from (not (eqb (meet (slice_index film.casts s) others) 0)) (not (works film actor s))
       (test_from_shared (slice_index film.casts s) others meets.0.0 meets.0.2 meets.0.1)
       (and_parts (has (cast_of film set) actor) (not (works film actor s)) idle).1) in
       omega (arith, rest, here, waited_days-without (group_data film) set s others actor is remained.0)
@@ -140,7 +136,7 @@ module _ (film : FilmData) where
         AllRemained-append set first his.0 remained his.1,
         Meets-append group first his.0 (Meets-wider others group first (λ i there. (has_from_without group last i there).1) meets) (Meets-by_one group last his.0 member his.2),
         (λ actor inside there.
-            let later : has (cast_of film (rest_after rest his.0)) actor ≡ true = subst (λ (q : ℕ). has (cast_of film q) actor ≡ true) (rest_after-append set first his.0) there in
+            let later : has (cast_of film (rest_after rest his.0)) actor ≡ true = subst (λ (q : ℕ). has (cast_of film q) actor ≡ true) (rest_after-parts set first his.0) there in
             elim (eqb_tells last actor) [
               | inl same ↦ his.3 (subst (λ (i : ℕ). has (cast_of film (rest_after rest his.0)) i ≡ true) (sym same.1) later)
               | inr other ↦ gone_after others rest his.0 fits gone actor (has-without_other group last actor other.1 ∙ inside) later
@@ -174,6 +170,6 @@ module _ (film : FilmData) where
       let fits : IsSet rest = IsSet-rest_after set by.0 within in
       let later = all_once (size rest) rest refl fits in (
         by.0 ++ later.0,
-        (AllRemained-append set by.0 later.0 by.1 later.1.0, rest_after-append set by.0 later.0 ∙ later.1.1),
+        (AllRemained-append set by.0 later.0 by.1 later.1.0, rest_after-parts set by.0 later.0 ∙ later.1.1),
         omega (arith, wait_pay-append film group set by.0 later.0, wait_pay-gone film group rest later.0 fits by.3, by.4),
       )

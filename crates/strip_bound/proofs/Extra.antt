@@ -1,46 +1,14 @@
 -- The extra of a group by who leaves last.
-use Rattle.std.proofs.Common.{◌≡◌, ℕ, suc, ◌+◌, ◌*◌, ◌≤◌, min, true, cond, not, eqb, List, [], ◌∷◌, Contains, filter, sum_by, slice_index, inl, inr, refl, sym, ap, ◌∙◌, subst, arith}
-use Rattle.std.proofs.Math.Nat.{min-le_left, min-le_right, min-eq_left, min-eq_right}
-use Rattle.std.proofs.lemmas.Bool.{and_parts, cases_lt}
+use Rattle.std.proofs.Common.{◌≡◌, ℕ, suc, ◌+◌, ◌*◌, ◌≤◌, true, cond, not, eqb, List, filter, sum_by, slice_index, sym, ap, ◌∙◌, arith}
+use Rattle.std.proofs.lemmas.Bool.{and_parts, and_from}
 use Rattle.strip_mask.specs.Set.{IsSet, has, meet, without, members, size}
-use Rattle.strip_mask.proofs.Below.{and_true}
 use Rattle.strip_mask.proofs.Members.{Contains-members, has_from_members, members-empty}
 use Rattle.strip_mask.proofs.Sizes.{size-without}
-use Rattle.strip_pay.proofs.Lists.{contains_cases, contains_here, contains_later, contains_none}
-use Rattle.strip_group.specs.Group.{GroupData, is_waited, waited_days, least_at, least_over, extra_by_last, group_extra}
-use Rattle.strip_bound.proofs.Members.{cond_le, sum_filter, sum_members-without, sum_by_mono, shared_from_test, test_from_shared}
-
--- ---- the least over a list
-
-least_at_le : (f : ℕ → ℕ) (x : ℕ) (xs : List ℕ) (y : ℕ) → Contains (x ∷ xs) y → least_at f x xs ≤ f y
-least_at_le f x [] y there = elim (contains_cases x [] y there) [
-  | inl same ↦ rw same (omega arith)
-  | inr none ↦ absurd (contains_none y none)
-]
-least_at_le f x (z ∷ zs) y there = elim (contains_cases x (z ∷ zs) y there) [
-  | inl same ↦ (let first : min (f x) (least_at f z zs) ≤ f x = min-le_left (f x) (least_at f z zs) in
-      subst (λ (i : ℕ). min (f x) (least_at f z zs) ≤ f i) same first)
-  | inr later ↦ (let rest : least_at f z zs ≤ f y = least_at_le f z zs y later in
-      let second : min (f x) (least_at f z zs) ≤ least_at f z zs = min-le_right (f x) (least_at f z zs) in
-      omega (arith, rest, second))
-]
-
-least_over_le : (f : ℕ → ℕ) (xs : List ℕ) (y : ℕ) → Contains xs y → least_over f xs ≤ f y
-least_over_le f [] y there = absurd (contains_none y there)
-least_over_le f (x ∷ xs) y there = least_at_le f x xs y there
-
-least_at_attained : (f : ℕ → ℕ) (x : ℕ) (xs : List ℕ) → (y : ℕ) × Contains (x ∷ xs) y × (least_at f x xs ≡ f y)
-least_at_attained f x [] = (x, contains_here x [], refl)
-least_at_attained f x (z ∷ zs) =
-    let rest = least_at_attained f z zs in
-    elim (cases_lt (f x) (least_at f z zs)) [
-      | inl less ↦ (x, contains_here x (z ∷ zs), min-eq_left (omega (arith, less)))
-      | inr more ↦ (rest.0, contains_later x (z ∷ zs) rest.0 rest.1, min-eq_right more ∙ rest.2)
-    ]
-
-least_over_attained : (f : ℕ → ℕ) (xs : List ℕ) (x : ℕ) → Contains xs x → (y : ℕ) × Contains xs y × (least_over f xs ≡ f y)
-least_over_attained f [] x there = absurd (contains_none x there)
-least_over_attained f (y ∷ ys) x there = least_at_attained f y ys
+use Rattle.strip_mask.specs.Least.{least_over}
+use Rattle.strip_group.specs.Group.{GroupData, is_waited, waited_days, extra_by_last, group_extra}
+use Rattle.strip_mask.proofs.Totals.{cond_le, sum_filter, sum_members-without, sum_by_mono}
+use Rattle.strip_bound.proofs.Members.{shared_from_test, test_from_shared}
+use Rattle.strip_mask.proofs.Least.{least_over_le, least_over_attained}
 
 -- ---- the days that an actor waits
 
@@ -64,7 +32,7 @@ module _ (film : GroupData) where
       (sum_by_mono _ _ (members set) (λ s. cond_le (is_waited film a actor s) (is_waited film b actor s) (slice_index film.days s) (λ waits.
       let parts = and_parts (not (eqb (meet (slice_index film.casts s) a) 0)) (not (has (slice_index film.casts s) actor)) waits in
       let shared = shared_from_test (slice_index film.casts s) a is parts.0 in
-      and_true (not (eqb (meet (slice_index film.casts s) b) 0)) (not (has (slice_index film.casts s) actor))
+      and_from (not (eqb (meet (slice_index film.casts s) b) 0)) (not (has (slice_index film.casts s) actor))
       (test_from_shared (slice_index film.casts s) b shared.0 shared.1 (more shared.0 shared.2)) parts.1)))
 
   -- ---- who leaves last

@@ -1,10 +1,9 @@
 -- No list has a group wait for less than its extra.
 use Rattle.std.proofs.Common.{◌≡◌, ℕ, zero, suc, ◌+◌, ◌*◌, ◌≤◌, Bool, true, cond, not, eqb, List, [], ◌∷◌, slice_index, inl, inr, refl, ap, ◌∙◌, arith}
-use Rattle.std.proofs.lemmas.Bool.{and_parts}
+use Rattle.std.proofs.lemmas.Bool.{and_parts, and_from}
 use Rattle.std.proofs.Math.Nat.{mul-le-mul_left}
 use Rattle.strip_mask.specs.Set.{IsSet, has, meet, without, size}
 use Rattle.strip_mask.proofs.ByMembers.{has_from_without, IsSet-without, some_member}
-use Rattle.strip_mask.proofs.Below.{and_true}
 use Rattle.strip_mask.proofs.Sizes.{size-without, size-empty}
 use Rattle.strip_pay.specs.Film.{FilmData}
 use Rattle.strip_pay.specs.Pay.{works}
@@ -14,7 +13,8 @@ use Rattle.strip_film.proofs.Lists.{AllOnce}
 use Rattle.strip_group.specs.Group.{is_waited, waited_days, group_extra}
 use Rattle.strip_bound.specs.Bounds.{group_data}
 use Rattle.strip_bound.specs.Waiting.{wait_pay}
-use Rattle.strip_bound.proofs.Members.{cond_le, shared_or_none, shared_from_test}
+use Rattle.strip_mask.proofs.Totals.{cond_le}
+use Rattle.strip_bound.proofs.Members.{shared_or_none, shared_from_test}
 use Rattle.strip_bound.proofs.Extra.{waited_days-empty, waited_days-without, extra_le, extra-none}
 use Rattle.strip_bound.proofs.Waits.{AreGone, is_idle, waits, wait_pay-split, cast_without, gone_without}
 
@@ -82,7 +82,7 @@ module _ (film : FilmData) where
           let parts = and_parts (not (eqb (meet (slice_index film.casts s) others) 0)) (not (works film last s)) some in
           let shared = shared_from_test (slice_index film.casts s) others is parts.0 in
           let present : has (cast_of film set) shared.0 ≡ true = has_cast film set shared.0 within (s, each.0.0, shared.1) in
-          and_true (has (cast_of film set) last) (not (works film last s)) (leaves.0 shared.0 (part shared.0 shared.2) present) parts.1
+          and_from (has (cast_of film set) last) (not (works film last s)) (leaves.0 shared.0 (part shared.0 shared.2) present) parts.1
 
   extra_at_most : (n group set : ℕ) (scenes : List ℕ) → size group ≡ n → IsSet group → IsSet set → AllOnce set scenes
       → group_extra (group_data film) set group ≤ wait_pay film group set scenes

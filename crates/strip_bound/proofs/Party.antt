@@ -1,13 +1,13 @@
 -- The parties of a set are paid for waiting no less than their values.
 use Rattle.std.proofs.Common.{◌≡◌, ◌≢◌, ℕ, zero, suc, ◌+◌, ◌*◌, ◌<◌, ◌≤◌, max, true, false, not, List, All, Contains, filter, length, take, drop, slice_index, inl, inr, sym, ◌∙◌, arith}
 use Rattle.std.proofs.Math.Nat.{max-eq_left, max-eq_right, mul-le-mul_right}
-use Rattle.std.proofs.lemmas.Bool.{and_parts, cases_lt, false≢true, not-true}
+use Rattle.std.proofs.lemmas.Bool.{and_parts, cases_lt, false≢true, not-true, false_from_ne_true}
 use Rattle.std.proofs.lemmas.List.Elements.{All-weaker, All-contains_itself}
 use Rattle.std.proofs.lemmas.List.Kept.{IsStrictlyIncreasing-filter}
 use Rattle.strip_mask.specs.Set.{IsSet, LiesBelow, has, members, numbers_below, size}
 use Rattle.strip_mask.specs.Sums.{sum_below}
 use Rattle.strip_mask.proofs.Below.{is_set_below}
-use Rattle.strip_mask.proofs.Members.{has_from_members, members_rise}
+use Rattle.strip_mask.proofs.Members.{has_from_members, members_rise, numbers_rise}
 use Rattle.strip_mask.proofs.Sums.{sum_below_mono}
 use Rattle.strip_pay.specs.Film.{FilmData}
 use Rattle.strip_film.specs.Bounds.{plain_bound}
@@ -23,8 +23,7 @@ use Rattle.strip_arrivals.specs.Arrivals.{arrivals_value}
 use Rattle.strip_arrivals.proofs.Along.{value_le}
 use Rattle.strip_bound.specs.Bounds.{bound, greatest_below, group_at, group_data, hold_without, is_newcomer, located_by_hold, newcomers_at, newcomers_by_hold, number_of_parties, parties_extra, party_value}
 use Rattle.strip_bound.proofs.Arriving.{from_joined, has_each, joined, waiting_within_steps, waits_together}
-use Rattle.strip_bound.proofs.Fall.{Chain, below_from_numbers, contains_kept, numbers_rise, once, same_members}
-use Rattle.strip_bound.proofs.Members.{false_from}
+use Rattle.strip_bound.proofs.Fall.{Chain, below_from_numbers, contains_kept, once, same_members}
 use Rattle.strip_bound.proofs.Pieces.{contains_take, contains_drop, from_set_of, more_taken}
 use Rattle.strip_bound.proofs.Places.{pieces_differ, size_piece}
 
@@ -60,7 +59,7 @@ module _ (film : FilmData) (set : ℕ) where
 
   -- no newcomer of a party is of a group
   pub newcomer_apart : (many place count other i : ℕ) → has (newcomers_at film set count other) i ≡ true → has (group_at film set many place) i ≡ false
-  newcomer_apart many place count other i there = false_from (has (group_at film set many place) i) (λ member.
+  newcomer_apart many place count other i there = false_from_ne_true (has (group_at film set many place) i) (λ member.
       false≢true (sym (newcomer_away count other i there).1 ∙ group_located many place i member))
 
   step_on : (j k m n : ℕ) → j < k → n ≤ m → j * m + n ≤ k * m

@@ -10,14 +10,15 @@ use Rattle.strip_mask.proofs.Members.{has_from_members, members-empty}
 use Rattle.strip_mask.proofs.Sizes.{size-without, size-empty, empty_from_size, some_first, first_is, first_le, members-first}
 use Rattle.strip_mask.proofs.Below.{is_set_below}
 use Rattle.strip_pay.specs.Film.{FilmData}
-use Rattle.strip_pay.proofs.Lists.{contains_cases, contains_here, contains_later, contains_none, or_true}
+use Rattle.strip_mask.proofs.Lists.{contains_here, contains_later, contains_cases, contains_none}
+use Rattle.std.proofs.Math.Bool.{or-true}
 use Rattle.strip_film.specs.Film.{IsFilm}
 use Rattle.strip_film.specs.Shoot.{on_location}
 use Rattle.strip_film.proofs.Located.{location_lies}
 use Rattle.strip_group.specs.Group.{group_extra}
 use Rattle.strip_bound.specs.Bounds.{group_data, pair_extra, pairs_extra, set_of, by_six_from, groups_extra, groups_of}
 use Rattle.strip_bound.specs.Waiting.{AreGroups}
-use Rattle.strip_bound.proofs.Members.{false_from}
+use Rattle.std.proofs.lemmas.Bool.{false_from_ne_true}
 use Rattle.strip_bound.proofs.Tails.{Apart}
 use Rattle.strip_bound.proofs.Together.{extras_together, pair_at_most}
 
@@ -95,7 +96,7 @@ drop_no_longer (suc n) (x ∷ xs) = omega (arith, drop_no_longer n xs)
 
 kept_by_fold : (set : ℕ) (xs : List ℕ) (i : ℕ) → has set i ≡ true → has (fold with set xs) i ≡ true
 kept_by_fold set [] i there = there
-kept_by_fold set (x ∷ xs) i there = kept_by_fold (with set x) xs i (has-with set x i ∙ ap (λ b. eqb x i || b) there ∙ or_true (eqb x i))
+kept_by_fold set (x ∷ xs) i there = kept_by_fold (with set x) xs i (has-with set x i ∙ ap (λ b. eqb x i || b) there ∙ or-true (eqb x i))
 
 added_by_fold : (set : ℕ) (xs : List ℕ) (i : ℕ) → Contains xs i → has (fold with set xs) i ≡ true
 added_by_fold set [] i there = absurd (contains_none i there)
@@ -162,7 +163,7 @@ module _ (film : FilmData) (set : ℕ) where
       ]
 
       apart : (i : ℕ) → has (with (with 0 a) b) i ≡ true → has (set_of xs) i ≡ false
-      apart i there = false_from (has (set_of xs) i) (λ later.
+      apart i there = false_from_ne_true (has (set_of xs) i) (λ later.
           let above : suc b ≤ i = rising_above (suc b) xs i rising.2.2 (from_set_of xs i later) in
           elim (only i there) [
             | inl first ↦ omega (arith, above, first, rising.2.0)

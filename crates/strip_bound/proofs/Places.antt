@@ -2,7 +2,7 @@
 use Rattle.std.proofs.Common.{◌≡◌, ◌≢◌, ℕ, zero, suc, ◌+◌, ◌<◌, ◌≤◌, List, [], ◌∷◌, Contains, length, take, drop, fold, slice_index, inl, inr, refl, sym, ◌∙◌, arith}
 use Rattle.strip_mask.specs.Set.{size, with}
 use Rattle.strip_mask.proofs.Sizes.{size-empty}
-use Rattle.strip_pay.proofs.Lists.{contains_cases, contains_later, contains_none}
+use Rattle.strip_mask.proofs.Lists.{contains_later, contains_cases, contains_none}
 use Rattle.strip_bound.specs.Bounds.{set_of}
 use Rattle.strip_bound.proofs.Fall.{Chain}
 use Rattle.strip_bound.proofs.Pieces.{contains_take, contains_drop}

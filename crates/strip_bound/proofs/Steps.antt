@@ -1,21 +1,21 @@
 -- What the turns of the loops over actors keep.
-use Rattle.std.proofs.Common.{◌≡◌, ℕ, zero, suc, ◌+◌, ◌-◌, ◌<◌, ◌≤◌, ◌⊎◌, Bool, true, false, cond, not, ◌&&◌, nat_lt, leb, List, [], ◌∷◌, ◌++◌, filter, fold, length, take, drop, insert, replicate, sum_by, slice_index, inl, inr, refl, sym, ap, ◌∙◌, arith}
-use Rattle.std.proofs.Math.Seq.{take-suc}
-use Rattle.std.proofs.lemmas.Bool.{cases_lt, lt-ltb, le-ltb, le-leb, lt-leb}
+use Rattle.std.proofs.Common.{◌≡◌, ℕ, zero, suc, ◌+◌, ◌-◌, ◌<◌, ◌≤◌, ◌⊎◌, Bool, true, false, cond, not, ◌&&◌, nat_lt, leb, List, [], ◌∷◌, ◌++◌, filter, fold, length, take, drop, insert, sum_by, slice_index, inl, inr, refl, sym, ap, ◌∙◌, arith}
+use Rattle.std.proofs.Math.Seq.{take-suc, take-nil}
+use Rattle.std.proofs.lemmas.Bool.{cases_lt, lt-ltb, le-ltb, le-leb, lt-leb, false_from_ne_true}
 use Rattle.std.proofs.lemmas.List.Elements.{filter-append, Contains-get_or}
 use Rattle.std.proofs.lemmas.List.Sums.{fold-append}
 use Rattle.strip_mask.specs.Set.{LiesBelow, has, meet, minus, with, members, numbers_below, size, sum_over}
 use Rattle.strip_mask.proofs.ByMembers.{has-meet, has-minus}
-use Rattle.strip_mask.proofs.Members.{kept-more, length-numbers_below, members_is}
+use Rattle.strip_mask.proofs.Members.{kept-more, length-numbers_below, members_is, numbers_rise}
 use Rattle.strip_mask.proofs.Sizes.{length-members}
 use Rattle.strip_mask.proofs.Sums.{sum_below-ext}
-use Rattle.strip_mask.proofs.Totals.{sum_over_is}
+use Rattle.strip_mask.proofs.Totals.{sum_over_is, sum_kept, sum_filter}
 use Rattle.strip_pay.specs.Film.{FilmData}
 use Rattle.strip_pay.specs.Pay.{works}
 use Rattle.strip_bound.specs.Falling.{by_falling, placed}
 use Rattle.strip_bound.specs.Tables.{ArePlays}
-use Rattle.strip_bound.proofs.Fall.{below_from_numbers, by_falling_kept, numbers_rise, same_length, same_members}
-use Rattle.strip_bound.proofs.Members.{false_from, sum_filter, sum_kept}
+use Rattle.strip_bound.proofs.Fall.{below_from_numbers, by_falling_kept, same_length, same_members}
+use Rattle.std.proofs.Math.Bool.{and_comm}
 
 append_none : (xs : List ℕ) → xs ++ [] ≡ xs
 append_none [] = refl
@@ -89,7 +89,7 @@ pub members_below_are : (set n : ℕ) → n ≤ 64 → LiesBelow n set → membe
 members_below_are set n few lies =
     let all : n + (64 - n) ≡ 64 = omega (arith, few) in
     members_is set ∙ ap (λ (m : ℕ). filter (has set) (numbers_below m)) (sym all)
-    ∙ none_more (has set) n (64 - n) (λ i past. false_from (has set i) (λ there. let less : i < n = lies i there in omega (arith, less, past)))
+    ∙ none_more (has set) n (64 - n) (λ i past. false_from_ne_true (has set i) (λ there. let less : i < n = lies i there in omega (arith, less, past)))
 
 -- those of a set, out of all numbers by falling value
 pub kept_falling : (value : ℕ → ℕ) (set n : ℕ) → n ≤ 64 → LiesBelow n set
@@ -111,17 +111,11 @@ filter_twice p q (x ∷ xs) = by_test (q x) (filter_twice p q xs)
     by_test true same = ap (λ (ys : List ℕ). cond (p x) (x ∷ ys) ys) same
     by_test false same = same
 
-swapped : (x y : Bool) → (x && y) ≡ (y && x)
-swapped true true = refl
-swapped true false = refl
-swapped false true = refl
-swapped false false = refl
-
 pub scenes_counted : (film : FilmData) (plays : List ℕ) (set actor : ℕ) → ArePlays film plays
     → size (meet (slice_index plays actor) set) ≡ length (filter (works film actor) (members set))
 scenes_counted film plays set actor are =
     let both : (s : ℕ) → has (meet (slice_index plays actor) set) s ≡ (has set s && works film actor s)
-    = (λ s. has-meet (slice_index plays actor) set s ∙ ap (λ b. b && has set s) (are.each actor s) ∙ swapped (works film actor s) (has set s)) in
+    = (λ s. has-meet (slice_index plays actor) set s ∙ ap (λ b. b && has set s) (are.each actor s) ∙ and_comm (works film actor s) (has set s)) in
     sym (length-members (meet (slice_index plays actor) set))
     ∙ ap length (members_is (meet (slice_index plays actor) set) ∙ (λ i. filter (λ s. both s i) (numbers_below 64))
     ∙ sym (ap (filter (works film actor)) (members_is set) ∙ filter_twice (works film actor) (has set) (numbers_below 64)))
@@ -161,7 +155,7 @@ piece_more place end xs set less within =
 pub piece_end : (place end : ℕ) (xs : List ℕ) (set : ℕ) → (end ≤ place) ⊎ (length xs ≤ place) → fold with set (take (end - place) (drop place xs)) ≡ set
 piece_end place end xs set done = elim done [
   | inl past ↦ (let none : end - place ≡ 0 = omega (arith, past) in ap (λ (n : ℕ). fold with set (take n (drop place xs))) none)
-  | inr short ↦ ap (λ (ys : List ℕ). fold with set (take (end - place) ys)) (nothing place xs short) ∙ ap (fold with set) (empty (end - place))
+  | inr short ↦ ap (λ (ys : List ℕ). fold with set (take (end - place) ys)) (nothing place xs short) ∙ ap (fold with set) (take-nil (end - place))
 ]
   where
     nothing : (k : ℕ) (ys : List ℕ) → length ys ≤ k → drop k ys ≡ []
@@ -169,10 +163,6 @@ piece_end place end xs set done = elim done [
     nothing (suc k) [] few = refl
     nothing zero (y ∷ ys) few = absurd (omega (arith, few))
     nothing (suc k) (y ∷ ys) few = nothing k ys (omega (arith, few))
-
-    empty : (n : ℕ) → take {A = ℕ} n [] ≡ []
-    empty zero = refl
-    empty (suc n) = refl
 
 -- ---- at the start
 
@@ -189,11 +179,6 @@ two_or_more n = elim (cases_lt 1 n) [
   | inl more ↦ le-leb 2 n (omega (arith, more)) ∙ sym (lt-ltb 1 n more)
   | inr few ↦ lt-leb 2 n (omega (arith, few)) ∙ sym (le-ltb 1 n few)
 ]
-
-pub zeros : (n i : ℕ) → slice_index (replicate n 0) i ≡ 0
-zeros zero i = refl
-zeros (suc n) zero = refl
-zeros (suc n) (suc i) = zeros n i
 
 -- ---- the list of all actors
 

@@ -2,14 +2,14 @@
 use Rattle.std.proofs.Common.{◌≡◌, ℕ, suc, eqb, ◌+◌, ◌*◌, ◌≤◌, true, not, List, [], ◌∷◌, length, All, get_or, sum_by, slice_index, refl, sym, ap, ◌∙◌, arith}
 use Rattle.std.specs.List.{AllPairs}
 use Rattle.std.proofs.Math.Nat.{mul-le-mul_left}
-use Rattle.std.proofs.lemmas.Bool.{and_right}
+use Rattle.std.proofs.lemmas.Bool.{and_right, and_from, false_from_ne_true}
 use Rattle.std.proofs.lemmas.List.Sums.{sum_by-cons}
 use Rattle.std.proofs.lemmas.List.Elements.{All-head, All-tail, All-weaker}
 use Rattle.strip_mask.specs.Set.{IsSet, has, meet, minus, without, sum_over}
 use Rattle.strip_mask.proofs.ByMembers.{has-minus, has-meet, has-without}
-use Rattle.strip_mask.proofs.Below.{and_true, is_set_below, LiesBelow-without}
+use Rattle.strip_mask.proofs.Below.{is_set_below, LiesBelow-without}
 use Rattle.strip_mask.proofs.Members.{members-empty}
-use Rattle.strip_mask.proofs.Totals.{sum_over-minus, sum_over_mono}
+use Rattle.strip_mask.proofs.Totals.{sum_over-minus, sum_over_mono, sum_members-without}
 use Rattle.strip_pay.specs.Film.{FilmData}
 use Rattle.strip_film.specs.Bounds.{plain_bound}
 use Rattle.strip_film.specs.Film.{IsFilm, LiesIn}
@@ -22,7 +22,6 @@ use Rattle.strip_film.proofs.Lists.{AllOnce}
 use Rattle.strip_group.specs.Group.{group_extra}
 use Rattle.strip_bound.specs.Bounds.{group_data, groups_extra}
 use Rattle.strip_bound.specs.Waiting.{AreGroups, wait_pay}
-use Rattle.strip_bound.proofs.Members.{false_from, sum_members-without}
 use Rattle.strip_bound.proofs.Waits.{idle_of, has_from_idle}
 use Rattle.strip_bound.proofs.Least.{extra_is_least}
 
@@ -70,11 +69,11 @@ parts_add_up v part (g ∷ groups) set distinct apart within =
     let rest : ℕ = minus set (part g) in
     let later : sum_by (λ group. sum_over v (part group)) groups ≤ sum_over v rest
     = parts_add_up v part groups rest distinct (pairs_tail g groups apart) (λ k d lt i there.
-    has-minus set (part g) i ∙ and_true (has set i) (not (has (part g) i))
+    has-minus set (part g) i ∙ and_from (has set i) (not (has (part g) i))
     (All-tail (λ group. (i : ℕ) → has (part group) i ≡ true → has set i ≡ true) g groups within k d lt i there)
-    (ap not (false_from (has (part g) i) (λ first. distinct g (get_or groups k d) i (pairs_head g groups apart k d lt) first there)))) in
+    (ap not (false_from_ne_true (has (part g) i) (λ first. distinct g (get_or groups k d) i (pairs_head g groups apart k d lt) first there)))) in
     let here : sum_over v (part g) ≤ sum_over v (meet set (part g)) = sum_over_mono v (part g) (meet set (part g)) (λ i there.
-    has-meet set (part g) i ∙ and_true (has set i) (has (part g) i) (within 0 0 (omega arith) i there) there) in
+    has-meet set (part g) i ∙ and_from (has set i) (has (part g) i) (within 0 0 (omega arith) i there) there) in
     omega (arith, later, here, sum_over-minus v set (part g), sum_by-cons (λ group. sum_over v (part group)) g groups)
 
 -- ---- the steps
@@ -85,32 +84,32 @@ by_step days work wait plain later steps rest parts less =
     let split : days * (work + wait) ≡ days * work + days * wait = grind arith in
     omega (arith, rest, less, split)
 
+-- each of the group worked outside the set
+abbrev pub WorkedBefore : FilmData → ℕ → ℕ → Type 0
+WorkedBefore film set group = (actor : ℕ) → has group actor ≡ true → WorksOutside film set actor
+
+pub worked_before_without : (film : FilmData) (set s group : ℕ) → WorkedBefore film set group → WorkedBefore film (without set s) group
+worked_before_without film set s group before actor member =
+    let found = before actor member in
+    (found.0, found.1, has-without set s found.0 ∙ and_right (not (eqb s found.0)) (has set found.0) found.2, found.3)
+
 module _ (film : FilmData) (is : IsFilm film) where
-  -- each of the group worked outside the set
-  abbrev WorkedBefore : ℕ → ℕ → Type 0
-  WorkedBefore set group = (actor : ℕ) → has group actor ≡ true → WorksOutside film set actor
-
-  worked_before_without : (set s group : ℕ) → WorkedBefore set group → WorkedBefore (without set s) group
-  worked_before_without set s group before actor member =
-      let found = before actor member in
-      (found.0, found.1, has-without set s found.0 ∙ and_right (not (eqb s found.0)) (has set found.0) found.2, found.3)
-
   -- nobody waits for two groups
   idle_apart : (set s a b i : ℕ) → Apart a b → has (idle_of film a set s) i ≡ true → has (idle_of film b set s) i ≡ true → ⊥
   idle_apart set s a b i apart in_a in_b = apart i (has_from_idle film a set s i in_a).0 (has_from_idle film b set s i in_b).0
 
   -- who waits is on location
-  idle_located : (set s group : ℕ) → LiesIn film set → WorkedBefore set group → (i : ℕ) → has (idle_of film group set s) i ≡ true
+  idle_located : (set s group : ℕ) → LiesIn film set → WorkedBefore film set group → (i : ℕ) → has (idle_of film group set s) i ≡ true
       → has (minus (on_location film set) (slice_index film.casts s)) i ≡ true
   idle_located set s group lies before i there =
       let idle = has_from_idle film group set s i there in
       has-minus (on_location film set) (slice_index film.casts s) i
-      ∙ and_true (has (on_location film set) i) (not (has (slice_index film.casts s) i))
+      ∙ and_from (has (on_location film set) i) (not (has (slice_index film.casts s) i))
       ((location_by_scenes film set i is lies).1 (cast_has film set i idle.1, before i idle.0)) (ap not idle.2)
 
   -- who of the groups waits along a list is on location, and paid in its steps
   groups_within_steps : (groups : List ℕ) (set : ℕ) (scenes : List ℕ) → LiesIn film set → AllOnce set scenes
-      → All (WorkedBefore set) groups → AllPairs Apart groups
+      → All (WorkedBefore film set) groups → AllPairs Apart groups
       → plain_bound film set + sum_by (λ group. wait_pay film group set scenes) groups ≤ steps_cost film set scenes
   groups_within_steps groups set [] lies each before apart =
       let plain : plain_bound film set ≡ 0
@@ -125,14 +124,14 @@ module _ (film : FilmData) (is : IsFilm film) where
       let later : ℕ = sum_by (λ group. wait_pay film group (without set s) scenes) groups in
       let rest : plain_bound film (without set s) + later ≤ steps_cost film (without set s) scenes
       = groups_within_steps groups (without set s) scenes (LiesBelow-without (length film.casts) set s lies) (each.0.1, each.1)
-      (All-weaker (WorkedBefore set) (WorkedBefore (without set s)) (λ group. worked_before_without set s group) groups before) apart in
+      (All-weaker (WorkedBefore film set) (WorkedBefore film (without set s)) (λ group. worked_before_without film set s group) groups before) apart in
       let plain : plain_bound film set ≡ days * work + plain_bound film (without set s)
       = sum_members-without (λ scene. slice_index film.days scene * sum_over film.rates (slice_index film.casts scene)) set s is_set each.0.0 in
       let split : sum_by (λ group. wait_pay film group set (s ∷ scenes)) groups ≡ days * waits + later
       = sum_by-scale_add days (λ group. sum_over film.holds (idle_of film group set s)) (λ group. wait_pay film group (without set s) scenes) groups in
       let parts : waits ≤ wait
       = parts_add_up film.holds (λ group. idle_of film group set s) groups (minus (on_location film set) (slice_index film.casts s)) (idle_apart set s) apart
-      (All-weaker (WorkedBefore set) _ (λ group. idle_located set s group lies) groups before) in
+      (All-weaker (WorkedBefore film set) _ (λ group. idle_located set s group lies) groups before) in
       let here : (days * work + plain_bound film (without set s)) + (days * waits + later) ≤ days * (work + wait) + steps_cost film (without set s) scenes
       = by_step days work wait (plain_bound film (without set s)) later (steps_cost film (without set s) scenes) rest waits (mul-le-mul_left days parts) in
       omega (arith, plain, split, here)
@@ -141,7 +140,7 @@ module _ (film : FilmData) (is : IsFilm film) where
       → plain_bound film set + groups_extra film set groups ≤ steps_cost film set scenes
   groups_bound_tails set groups scenes lies are each =
       let is_set : IsSet set = is_set_below (length film.casts) set is.scene_count.1 lies in
-      let before : All (WorkedBefore set) groups = All-weaker (λ group. (actor : ℕ) → has group actor ≡ true → has (on_location film set) actor ≡ true) (WorkedBefore set)
+      let before : All (WorkedBefore film set) groups = All-weaker (λ group. (actor : ℕ) → has group actor ≡ true → has (on_location film set) actor ≡ true) (WorkedBefore film set)
       (λ group located actor member. ((location_by_scenes film set actor is lies).0 (located actor member)).1) groups are.located in
       let extras : groups_extra film set groups ≤ sum_by (λ group. wait_pay film group set scenes) groups
       = sum_by_mono_at (group_extra (group_data film) set) (λ group. wait_pay film group set scenes) groups

@@ -1,16 +1,16 @@
 -- The extra of a group is at least what the extras of its parts add up to.
 use Rattle.std.proofs.Common.{◌≡◌, ◌≢◌, ℕ, zero, suc, ◌+◌, ◌*◌, ◌≤◌, ◌⊎◌, Bool, true, false, not, ◌&&◌, eqb, slice_index, inl, inr, refl, sym, ap, ◌∙◌, arith}
-use Rattle.std.proofs.lemmas.Bool.{and_parts, and_right, cases_Bool}
+use Rattle.std.proofs.lemmas.Bool.{and_parts, and_right, cases_Bool, and_from}
 use Rattle.std.proofs.Math.Nat.{min-le_left, min-le_right, mul-le-mul_left}
 use Rattle.strip_mask.specs.Set.{IsSet, has, meet, without, members, size}
 use Rattle.strip_mask.proofs.ByMembers.{has-without, has-without_other, has_from_without, IsSet-without, some_member}
-use Rattle.strip_mask.proofs.Below.{and_true}
 use Rattle.strip_mask.proofs.Sizes.{size-without, size-empty, size_mono}
 use Rattle.strip_pay.specs.Film.{FilmData}
 use Rattle.strip_pay.specs.Pay.{works}
 use Rattle.strip_group.specs.Group.{GroupData, is_waited, waited_days, group_extra}
 use Rattle.strip_bound.specs.Bounds.{group_data, days_with_without, pair_extra}
-use Rattle.strip_bound.proofs.Members.{cond_le, sum_filter, sum_by_mono, test_from_shared}
+use Rattle.strip_mask.proofs.Totals.{cond_le, sum_filter, sum_by_mono}
+use Rattle.strip_bound.proofs.Members.{test_from_shared}
 use Rattle.strip_bound.proofs.Extra.{waited_days_mono, extra_with_last, extra_le, extra_attained, extra-none}
 
 -- every member of the first is one of the second
@@ -91,7 +91,7 @@ module _ (film : FilmData) where
       rw (sum_filter (slice_index film.days) apart (members set), sum_filter (slice_index film.days) (is_waited (group_data film) others last) (members set))
       (sum_by_mono _ _ (members set) (λ s. cond_le (apart s) (is_waited (group_data film) others last s) (slice_index film.days s) (λ passes.
       let parts = and_parts (works film actor s) (not (works film last s)) passes in
-      and_true (not (eqb (meet (slice_index film.casts s) others) 0)) (not (works film last s))
+      and_from (not (eqb (meet (slice_index film.casts s) others) 0)) (not (works film last s))
       (test_from_shared (slice_index film.casts s) others actor parts.0 there) parts.1)))
 
   pub pair_at_most : (set pair a b : ℕ) → IsSet pair → a ≢ b → has pair a ≡ true → has pair b ≡ true → ((i : ℕ) → has pair i ≡ true → (a ≡ i) ⊎ (b ≡ i))

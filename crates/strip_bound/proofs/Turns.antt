@@ -10,6 +10,7 @@ use Rattle.strip_pay.specs.Film.{FilmData}
 use Rattle.strip_group.specs.Group.{group_extra}
 use Rattle.strip_bound.specs.Bounds.{by_six, by_six_from, group_data, groups_extra, pair_extra, pairs_extra, set_of}
 use Rattle.strip_bound.proofs.Pieces.{contains_take, drop_no_longer, from_set_of}
+use Rattle.std.proofs.Math.Seq.{take-nil}
 
 -- a set of a number or more isn't empty
 pub some_size : (set : ℕ) → 0 < size set → set ≢ 0
@@ -64,11 +65,7 @@ dropped_more turn number xs rest whole lt begins was =
 
 -- of an empty set none is left to take
 pub taken_all : (n group left whole : ℕ) → left ≡ 0 → fold with group (take n (members left)) ≡ whole → group ≡ whole
-taken_all n group left whole none was = sym (ap (λ (xs : List ℕ). fold with group (take n xs)) (ap members none ∙ members-empty) ∙ ap (fold with group) (none_taken n)) ∙ was
-  where
-    none_taken : (n : ℕ) → take {A = ℕ} n [] ≡ []
-    none_taken zero = refl
-    none_taken (suc n) = refl
+taken_all n group left whole none was = sym (ap (λ (xs : List ℕ). fold with group (take n xs)) (ap members none ∙ members-empty) ∙ ap (fold with group) (take-nil n)) ∙ was
 
 pub dropped_all : (n left : ℕ) (whole : List ℕ) → left ≡ 0 → drop n (members left) ≡ whole → members left ≡ whole
 dropped_all n left whole none was =

@@ -1,6 +1,6 @@
 -- What the actors of a group are paid for waiting along a list, one actor at a time.
 use Rattle.std.proofs.Common.{◌≡◌, ℕ, ◌+◌, ◌*◌, Bool, true, false, cond, not, ◌&&◌, eqb, List, [], ◌∷◌, ◌++◌, slice_index, inl, inr, refl, sym, ap, ◌∙◌, arith}
-use Rattle.std.proofs.lemmas.Bool.{cases_Bool}
+use Rattle.std.proofs.lemmas.Bool.{cases_Bool, false_from_ne_true}
 use Rattle.strip_mask.specs.Set.{IsSet, has, meet, minus, without, sum_over}
 use Rattle.strip_mask.proofs.ByMembers.{has-meet, has-minus, has-without, has-without_other, has_from_meet, has_from_minus, has_from_without, empty_from, same_has, IsSet-meet, IsSet-minus, IsSet-without}
 use Rattle.strip_mask.proofs.Totals.{sum_over-without, sum_over-empty}
@@ -11,7 +11,6 @@ use Rattle.strip_film.specs.Shoot.{cast_of}
 use Rattle.strip_film.specs.Finish.{rest_after}
 use Rattle.strip_film.proofs.Casts.{cast_has, has_cast}
 use Rattle.strip_bound.specs.Waiting.{wait_pay}
-use Rattle.strip_bound.proofs.Members.{false_from}
 
 -- whether the actor has a scene to come and doesn't work in this one
 abbrev pub is_idle : FilmData → ℕ → ℕ → ℕ → Bool
@@ -111,7 +110,7 @@ module _ (film : FilmData) where
   wait_pay-gone group set [] is gone = refl
   wait_pay-gone group set (s ∷ scenes) is gone =
       let days : ℕ = slice_index film.days s in
-      let nobody : idle_of group set s ≡ 0 = empty_from (idle_of group set s) (λ i. false_from (has (idle_of group set s) i) (λ there.
+      let nobody : idle_of group set s ≡ 0 = empty_from (idle_of group set s) (λ i. false_from_ne_true (has (idle_of group set s) i) (λ there.
       let idle = has_from_idle group set s i there in gone i idle.0 idle.1)) in
       let nothing : sum_over film.holds (idle_of group set s) ≡ 0 = ap (sum_over film.holds) nobody ∙ sum_over-empty film.holds in
       ap (λ (n : ℕ). days * n + wait_pay film group (without set s) scenes) nothing

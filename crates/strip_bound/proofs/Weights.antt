@@ -1,6 +1,6 @@
 -- The tables of a film, an entry at a time, and sums over them.
 use Rattle.std.proofs.Common.{◌≡◌, ℕ, ◌+◌, ◌*◌, ◌<◌, ◌≤◌, Bool, true, false, cond, not, ◌&&◌, List, [], ◌∷◌, ◌++◌, length, sum_by, slice_index, inl, inr, refl, sym, ap, ◌∙◌, subst, arith}
-use Rattle.std.proofs.lemmas.Bool.{cases_lt}
+use Rattle.std.proofs.lemmas.Bool.{cases_lt, false_from_ne_true}
 use Rattle.std.proofs.lemmas.List.{get_or_append_left, get_or_past}
 use Rattle.std.proofs.Math.Seq.{get_or-append_seam}
 use Rattle.strip_mask.specs.Set.{has, meet, minus, with, members, sum_over}
@@ -8,7 +8,7 @@ use Rattle.strip_mask.proofs.ByMembers.{has-empty, has-meet, has-minus, has-with
 use Rattle.strip_mask.proofs.Below.{is_set_below}
 use Rattle.strip_mask.proofs.Members.{members_is}
 use Rattle.strip_mask.proofs.Sums.{sum_below-ext}
-use Rattle.strip_mask.proofs.Totals.{sum_over_is}
+use Rattle.strip_mask.proofs.Totals.{sum_over_is, sum_kept, sum_filter}
 use Rattle.strip_pay.specs.Film.{FilmData}
 use Rattle.strip_pay.specs.Pay.{works}
 use Rattle.strip_film.specs.Film.{IsFilm}
@@ -16,7 +16,6 @@ use Rattle.strip_film.specs.Bounds.{plain_bound}
 use Rattle.strip_film.proofs.Casts.{cast_lies}
 use Rattle.strip_bound.specs.Bounds.{days_with_without}
 use Rattle.strip_bound.specs.Tables.{ArePlays, AreWeights, weight}
-use Rattle.strip_bound.proofs.Members.{false_from, sum_filter, sum_kept}
 
 -- what holds of each entry holds with one more
 pub entry_more : (P : ℕ → ℕ → Type 0) (xs : List ℕ) (x n : ℕ) → length xs ≡ n → P n x
@@ -99,7 +98,7 @@ plays_are film plays is count each =
       | inr past ↦ (
           let none : slice_index plays actor ≡ 0 = get_or_past plays actor 0 (omega (arith, count, past)) in
           let idle : works film actor scene ≡ false
-          = false_from (works film actor scene) (λ there. let lt : actor < length film.rates = cast_lies film scene is actor there in omega (arith, lt, past)) in
+          = false_from_ne_true (works film actor scene) (λ there. let lt : actor < length film.rates = cast_lies film scene is actor there in omega (arith, lt, past)) in
           ap (λ (set : ℕ). has set scene) none ∙ has-empty scene ∙ sym idle)
     ]) in
     record {

@@ -1,9 +1,9 @@
 -- What a later path counts, and what is counted in parts.
-use Rattle.std.proofs.Common.{◌≡◌, ℕ, ◌+◌, ◌≤◌, ◌⊎◌, Bool, true, false, not, ◌&&◌, ◌||◌, eqb, ltb, Option, Some, None, List, [], ◌∷◌, get_or, count_by, inl, inr, refl, sym, ap, ◌∙◌, subst, arith}
+use Rattle.std.proofs.Common.{◌≡◌, ℕ, ◌+◌, ◌≤◌, Bool, true, false, not, ◌&&◌, ◌||◌, eqb, ltb, Option, Some, None, List, [], ◌∷◌, get_or, count_by, inl, inr, refl, sym, ap, ◌∙◌, subst, arith}
 use Rattle.std.specs.Cmp.Lexicographic.{pointwise, bytes_decides}
 use Rattle.std.specs.Prelude.{nat_eq}
-use Rattle.std.proofs.lemmas.Bool.{lt-ltb, ltb-true, eq-eqb, eqb-true, false≢true}
-use Rattle.strip_mask.proofs.Sizes.{mark}
+use Rattle.std.proofs.lemmas.Bool.{lt-ltb, ltb-true, eq-eqb, eqb-true, false≢true, and_parts, or_cases, false_from_ne_true, and_from}
+use Rattle.strip_mask.proofs.Sizes.{mark, mark_le}
 use Rattle.strip_pay.specs.Film.{FilmData}
 use Rattle.strip_pay.specs.Order.{IsBefore}
 use Rattle.strip_pay.proofs.Before.{before-itself, before_trans}
@@ -13,6 +13,7 @@ use Rattle.strip_film.proofs.Started.{same_path}
 use Rattle.strip_count.specs.Paths.{ComesAfter, IsUnfinished, is_before, number_of, number_up_to, path_along, up_to}
 use Rattle.strip_count.proofs.Sums.{count_two}
 use Rattle.strip_count.proofs.Enumerated.{all_unfinished, counted_once, lists}
+use Rattle.std.proofs.Math.Bool.{or-true}
 
 -- ---- the order of lists as a test
 
@@ -21,50 +22,17 @@ before_from xs [] is = false≢true is
 before_from [] (y ∷ ys) is = tt
 before_from (x ∷ xs) (y ∷ ys) is = elim (or_cases (ltb x y) (eqb x y && is_before xs ys) is) [
   | inl less ↦ inl (ltb-true x y less)
-  | inr tie ↦ inr (eqb-true x y (first_of (eqb x y) (is_before xs ys) tie), before_from xs ys (second_of (eqb x y) (is_before xs ys) tie))
+  | inr tie ↦ inr (let both = and_parts (eqb x y) (is_before xs ys) tie in (eqb-true x y both.0, before_from xs ys both.1))
 ]
-  where
-    or_cases : (a b : Bool) → (a || b) ≡ true → (a ≡ true) ⊎ (b ≡ true)
-    or_cases true b is = inl refl
-    or_cases false b is = inr is
-
-    first_of : (a b : Bool) → (a && b) ≡ true → a ≡ true
-    first_of true b is = refl
-    first_of false b is = is
-
-    second_of : (a b : Bool) → (a && b) ≡ true → b ≡ true
-    second_of true b is = is
-    second_of false b is = absurd (false≢true is)
 
 pub from_before : (xs ys : List ℕ) → IsBefore xs ys → is_before xs ys ≡ true
 from_before xs [] before = absurd before
 from_before [] (y ∷ ys) before = refl
 from_before (x ∷ xs) (y ∷ ys) (inl less) = ap (λ (b : Bool). b || (eqb x y && is_before xs ys)) (lt-ltb x y less)
 from_before (x ∷ xs) (y ∷ ys) (inr (tie, rest)) =
-    (λ i. ltb x y || (eq-eqb x y tie i && from_before xs ys rest i)) ∙ or_true (ltb x y)
-  where
-    or_true : (a : Bool) → (a || true) ≡ true
-    or_true true = refl
-    or_true false = refl
+    (λ i. ltb x y || (eq-eqb x y tie i && from_before xs ys rest i)) ∙ or-true (ltb x y)
 
 -- ---- facts on tests
-
-pub and_both : (a b : Bool) → (a && b) ≡ true → (a ≡ true) × (b ≡ true)
-and_both true true is = (refl, refl)
-and_both true false is = absurd (false≢true is)
-and_both false b is = absurd (false≢true is)
-
-pub and_of : (a b : Bool) → a ≡ true → b ≡ true → (a && b) ≡ true
-and_of true b first second = second
-and_of false b first second = first
-
-not_true : (b : Bool) → (b ≡ true → ⊥) → b ≡ false
-not_true true fails = absurd (fails refl)
-not_true false fails = refl
-
-mark_le : (a b : Bool) → (a ≡ true → b ≡ true) → mark a ≤ mark b
-mark_le true b gives = (let e : mark b ≡ 1 = ap mark (gives refl) in omega (arith, e))
-mark_le false b gives = omega arith
 
 mark_two : (a q b : Bool) → (a ≡ true → b ≡ true) → (q ≡ true → b ≡ true) → (q ≡ true → a ≡ false) → mark a + mark q ≤ mark b
 mark_two a true b first second apart =
@@ -76,7 +44,7 @@ pub up_to_from : (last : Option PathData) (test : PathData → Bool) (path next 
     → (test path ≡ true) × (IsBefore next.scenes path.scenes → ⊥)
 up_to_from None test path next after is = absurd (false≢true is)
 up_to_from (Some last) test path next after is =
-    let both = and_both (not (is_before last.scenes path.scenes)) (test path) is in (
+    let both = and_parts (not (is_before last.scenes path.scenes)) (test path) is in (
       both.1,
       λ before. (let further : is_before last.scenes path.scenes ≡ true = from_before last.scenes path.scenes (before_trans last.scenes next.scenes path.scenes after before) in
           false≢true (sym (ap not further) ∙ both.0)),
@@ -84,14 +52,14 @@ up_to_from (Some last) test path next after is =
 
 pub to_up_to : (next : PathData) (test : PathData → Bool) (path : PathData) → test path ≡ true → (IsBefore next.scenes path.scenes → ⊥) → up_to (Some next) test path ≡ true
 to_up_to next test path passes apart =
-    and_of (not (is_before next.scenes path.scenes)) (test path)
-    (ap not (not_true (is_before next.scenes path.scenes) (λ is. apart (before_from next.scenes path.scenes is)))) passes
+    and_from (not (is_before next.scenes path.scenes)) (test path)
+    (ap not (false_from_ne_true (is_before next.scenes path.scenes) (λ is. apart (before_from next.scenes path.scenes is)))) passes
 
 -- a path that comes after the last one isn't one up to it
 pub not_up_to : (last : Option PathData) (test : PathData → Bool) (next : PathData) → ComesAfter last next → up_to last test next ≡ true → ⊥
 not_up_to None test next after before = false≢true before
 not_up_to (Some last) test next after before =
-    let both = and_both (not (is_before last.scenes next.scenes)) (test next) before in
+    let both = and_parts (not (is_before last.scenes next.scenes)) (test next) before in
     false≢true (sym (ap not (from_before last.scenes next.scenes after)) ∙ both.0)
 
 module _ (film : FilmData) (is : IsFilm film) where
@@ -114,7 +82,7 @@ module _ (film : FilmData) (is : IsFilm film) where
         (λ before. (let found = up_to_from last test (at scenes) next after before in to_up_to next test (at scenes) found.0 found.1))
         (λ same. (let tie = same_there next scenes unfinished here same in
         subst (λ (p : PathData). up_to (Some next) test p ≡ true) (sym tie) (to_up_to next test next passes (before-itself next.scenes))))
-        (λ same. not_true (up_to last test (at scenes)) (λ before. (let tie = same_there next scenes unfinished here same in
+        (λ same. false_from_ne_true (up_to last test (at scenes)) (λ before. (let tie = same_there next scenes unfinished here same in
         not_up_to last test next after (subst (λ (p : PathData). up_to last test p ≡ true) tie before))))
 
     pub counts_more : IsUnfinished film next → test next ≡ true → number_up_to film last test + 1 ≤ number_up_to film (Some next) test
@@ -134,7 +102,7 @@ module _ (film : FilmData) (is : IsFilm film) where
 
   pub up_to_passes : (last : Option PathData) (test : PathData → Bool) (path : PathData) → up_to last test path ≡ true → test path ≡ true
   up_to_passes None test path is_there = absurd (false≢true is_there)
-  up_to_passes (Some last) test path is_there = (and_both (not (is_before last.scenes path.scenes)) (test path) is_there).1
+  up_to_passes (Some last) test path is_there = (and_parts (not (is_before last.scenes path.scenes)) (test path) is_there).1
 
   pub counts_most : (last : Option PathData) (test : PathData → Bool) → number_up_to film last test ≤ number_of film test
   counts_most last test =

@@ -3,7 +3,7 @@ use Rattle.std.proofs.Common.{◌≡◌, ◌≢◌, ℕ, zero, suc, ◌+◌, ◌
 use Rattle.std.specs.Cmp.Lexicographic.{bytes_decides}
 use Rattle.std.specs.List.{starts_with}
 use Rattle.std.specs.Prelude.{nat_eq}
-use Rattle.std.proofs.lemmas.Bool.{cases_Bool, cases_lt, cases_eq, ltb-true, lt-ltb}
+use Rattle.std.proofs.lemmas.Bool.{cases_Bool, cases_lt, cases_eq, ltb-true, lt-ltb, and_parts, and_from}
 use Rattle.std.proofs.lemmas.List.{length-append, length-take}
 use Rattle.std.proofs.lemmas.List.Sums.{sum_by-append}
 use Rattle.strip_mask.specs.Sums.{sum_below}
@@ -20,7 +20,7 @@ use Rattle.strip_count.specs.Paths.{ComesAfter, IsUnfinished, are_firsts, few, i
 use Rattle.strip_count.specs.Parts.{AreCounted, AreTasks, Enlists, inside, lies_in, no_task}
 use Rattle.strip_count.proofs.Sums.{count_parts, one_of}
 use Rattle.strip_count.proofs.Enumerated.{all_unfinished, counted_once, lists}
-use Rattle.strip_count.proofs.Later.{and_both, and_of, at, counts_more, counts_stay, not_up_to, same_as, same_there, up_to_passes}
+use Rattle.strip_count.proofs.Later.{at, counts_more, counts_stay, not_up_to, same_as, same_there, up_to_passes}
 
 -- ---- parts
 
@@ -70,7 +70,7 @@ module _ (depth : ℕ) (tasks : List PathData) (are : AreTasks depth tasks) wher
 
     parts_of : (scenes : List ℕ) (part : ℕ) → in_part part scenes ≡ true → (lies_in depth tasks part (at film is scenes) ≡ true) × (test (at film is scenes) ≡ true)
     parts_of scenes part there =
-        and_both (lies_in depth tasks part (at film is scenes)) (test (at film is scenes)) (up_to_passes film is (last part) (inside depth tasks part test) (at film is scenes) there)
+        and_parts (lies_in depth tasks part (at film is scenes)) (test (at film is scenes)) (up_to_passes film is (last part) (inside depth tasks part test) (at film is scenes) there)
 
     at_most : (scenes : List ℕ) → sum_below (suc (length tasks)) (λ part. mark (in_part part scenes)) ≤ mark (test (at film is scenes))
     at_most scenes =
@@ -90,7 +90,7 @@ module _ (depth : ℕ) (tasks : List PathData) (are : AreTasks depth tasks) wher
       -- the next path is in no part yet
       not_yet : (other : ℕ) → other < suc (length tasks) → up_to (last other) (inside depth tasks other test) next ≡ true → ⊥
       not_yet other less there =
-          let both = and_both (lies_in depth tasks other next) (test next) (up_to_passes film is (last other) (inside depth tasks other test) next there) in
+          let both = and_parts (lies_in depth tasks other next) (test next) (up_to_passes film is (last other) (inside depth tasks other test) next there) in
           let same : other ≡ part = one_part next other part less lt both.0 lies in
           not_up_to (last part) (inside depth tasks part test) next after
           (subst (λ (i : ℕ). up_to (last i) (inside depth tasks i test) next ≡ true) same there)
@@ -153,7 +153,7 @@ module _ (rules : Rules) (cost depth : ℕ) (tasks : List PathData) where
         → number_then other ≤ number_up_to rules.film (last_then other) (of_part other)
     shares_then lines counted other less = elim (cases_eq other part) [
       | inl same ↦ subst (λ (i : ℕ). number_then i ≤ number_up_to rules.film (last_then i) (of_part i)) (sym same)
-          (omega (arith, enlists.one_more, counted.shares part lt, part_grows (of_part part) (and_of (lies_in depth tasks part next) (is_candidate rules cost next) lies candidate)))
+          (omega (arith, enlists.one_more, counted.shares part lt, part_grows (of_part part) (and_from (lies_in depth tasks part next) (is_candidate rules cost next) lies candidate)))
       | inr apart ↦ omega (arith, enlists.number_stay other apart, counted.shares other less, other_stays other (of_part other) apart)
     ]
 
@@ -167,7 +167,7 @@ module _ (rules : Rules) (cost depth : ℕ) (tasks : List PathData) where
         arith,
         ap mark same,
         part_grows (of_set set part)
-            (and_of (lies_in depth tasks part next) (leaving set (is_candidate rules cost) next) lies (and_of (eqb next.rest set) (is_candidate rules cost next) same candidate)),
+            (and_from (lies_in depth tasks part next) (leaving set (is_candidate rules cost) next) lies (and_from (eqb next.rest set) (is_candidate rules cost next) same candidate)),
       )
       | inr apart ↦ omega (arith, ap mark apart, part_stays (of_set set part))
     ]
@@ -208,20 +208,20 @@ module _ (rules : Rules) (cost depth : ℕ) (tasks : List PathData) where
 pub open_from : (firsts : ℕ → ℕ) (set : ℕ) (scenes : List ℕ) → are_firsts firsts set scenes ≡ true → AreFirsts firsts set scenes
 open_from firsts set [] is = tt
 open_from firsts set (s ∷ scenes) is =
-    let both = and_both (has (firsts set) s) (are_firsts firsts (without set s) scenes) is in (both.0, open_from firsts (without set s) scenes both.1)
+    let both = and_parts (has (firsts set) s) (are_firsts firsts (without set s) scenes) is in (both.0, open_from firsts (without set s) scenes both.1)
 
 pub from_open : (firsts : ℕ → ℕ) (set : ℕ) (scenes : List ℕ) → AreFirsts firsts set scenes → are_firsts firsts set scenes ≡ true
 from_open firsts set [] are = refl
 from_open firsts set (s ∷ scenes) are =
-    and_of (has (firsts set) s) (are_firsts firsts (without set s) scenes) are.0 (from_open firsts (without set s) scenes are.1)
+    and_from (has (firsts set) s) (are_firsts firsts (without set s) scenes) are.0 (from_open firsts (without set s) scenes are.1)
 
 pub candidate_is : (rules : Rules) (cost : ℕ) (path : PathData) → IsPath rules.film path → is_candidate rules cost path ≡ true
     → IsOpen rules path × (path.paid + rules.bound path.rest < cost)
 candidate_is rules cost path within is =
-    let both = and_both (are_firsts rules.firsts (all_scenes rules.film) path.scenes) (ltb (path.paid + rules.bound path.rest) cost) is in
+    let both = and_parts (are_firsts rules.firsts (all_scenes rules.film) path.scenes) (ltb (path.paid + rules.bound path.rest) cost) is in
     ((within, open_from rules.firsts (all_scenes rules.film) path.scenes both.0), ltb-true (path.paid + rules.bound path.rest) cost both.1)
 
 pub is_candidate_from : (rules : Rules) (cost : ℕ) (path : PathData) → IsOpen rules path × (path.paid + rules.bound path.rest < cost) → is_candidate rules cost path ≡ true
 is_candidate_from rules cost path (open_path, less) =
-    and_of (are_firsts rules.firsts (all_scenes rules.film) path.scenes) (ltb (path.paid + rules.bound path.rest) cost)
+    and_from (are_firsts rules.firsts (all_scenes rules.film) path.scenes) (ltb (path.paid + rules.bound path.rest) cost)
     (from_open rules.firsts (all_scenes rules.film) path.scenes open_path.1) (lt-ltb (path.paid + rules.bound path.rest) cost less)

@@ -70,6 +70,10 @@ pub AreFirsts-append : (firsts : ℕ → ℕ) (set s : ℕ) (scenes : List ℕ)
 AreFirsts-append firsts set s [] are there = (there, tt)
 AreFirsts-append firsts set s (x ∷ scenes) are there = (are.0, AreFirsts-append firsts (without set x) s scenes are.1 there)
 
+pub rest_after-parts : (set : ℕ) (xs ys : List ℕ) → rest_after set (xs ++ ys) ≡ rest_after (rest_after set xs) ys
+rest_after-parts set [] ys = refl
+rest_after-parts set (x ∷ xs) ys = rest_after-parts (without set x) xs ys
+
 pub rest_after-append : (set s : ℕ) (scenes : List ℕ) → rest_after set (scenes ++ s ∷ []) ≡ without (rest_after set scenes) s
 rest_after-append set s [] = refl
 rest_after-append set s (x ∷ scenes) = rest_after-append (without set x) s scenes

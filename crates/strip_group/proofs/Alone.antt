@@ -5,11 +5,11 @@ use Rattle.strip_mask.specs.Set.{meet, sum_over, with}
 use Rattle.strip_mask.specs.Sums.{sum_below}
 use Rattle.strip_mask.proofs.ByMembers.{has-empty}
 use Rattle.strip_mask.proofs.Sums.{sum_below-ext, sum_below-same, sum_below-suc, sum_below-zero, sum_below_mono}
-use Rattle.strip_group.specs.Saved.{halves, left_by}
-use Rattle.strip_group.proofs.Four.{with_first, with_second}
+use Rattle.strip_sets.specs.Numbers.{halves}
+use Rattle.strip_group.specs.Saved.{left_by}
+use Rattle.strip_sets.proofs.FourSets.{with_first, with_second}
 use Rattle.strip_group.proofs.Left.{left_alone}
-use Rattle.strip_group.proofs.Places.{one_small}
-use Rattle.strip_group.proofs.Saved.{halves_at, halves_out, lacks_top}
+use Rattle.strip_sets.proofs.Sets.{one_small, lacks_top, halves_out, halves_at}
 
 -- of no place and of two
 pub alone_none : (rates : List ℕ) (days : ℕ → ℕ) → 0 ≡ sum_below 0 (λ place. slice_index rates place * days (with 0 place))

@@ -3,7 +3,7 @@ use Rattle.std.proofs.Common.{◌≡◌, ℕ, zero, suc, ◌+◌, ◌*◌, ◌/�
 use Rattle.std.proofs.Common.{List, [], ◌∷◌, ◌++◌, drop, take, length, slice_index, slice_index_or, sum, refl, sym, ap, ◌∙◌, inl, inr, arith}
 use Rattle.std.specs.Int.{bit_at}
 use Rattle.std.proofs.Math.Nat.{pow-suc, div-div-eq-div-mul}
-use Rattle.std.proofs.lemmas.Bool.{cases_lt}
+use Rattle.std.proofs.lemmas.Bool.{cases_lt, false_from_ne_true, cases_Bool}
 use Rattle.std.proofs.lemmas.List.{get_or-drop, get_or_append_left, get_or-append-add, get_or_default, get_or_past, length-drop, take-append-drop}
 use Rattle.std.proofs.lemmas.List.Sums.{sum_by-append}
 use Rattle.std.proofs.lemmas.Nat.Bits.{bit_at-suc, bit_at_cat_low}
@@ -12,11 +12,11 @@ use Rattle.strip_mask.specs.Sums.{sum_below}
 use Rattle.strip_mask.proofs.Bits.{has_is}
 use Rattle.strip_mask.proofs.ByMembers.{below_width, has-meet, same_has}
 use Rattle.strip_mask.proofs.Sums.{sum_below-ext, sum_below-past, sum_below-suc, sum_below-take, sum_below-zero}
-use Rattle.strip_mask.proofs.Totals.{sum_over-empty, sum_over_below, sum_over_within, sum_over-without}
+use Rattle.strip_mask.proofs.Totals.{sum_over-empty, sum_over_below, sum_over_within, sum_over-without, part, sum_over_le_sum}
 use Rattle.strip_group.specs.Days.{AreSums, block_of}
 use Rattle.strip_group.specs.Saved.{left_by}
 use Rattle.strip_group.proofs.Left.{left_out, left_with}
-use Rattle.strip_group.proofs.Places.{by_bit, refuted, sum_over_le_all, without_less}
+use Rattle.strip_sets.proofs.Sets.{without_less}
 
 -- ---- the numbers of a block
 
@@ -40,10 +40,6 @@ block_small : (set number : ℕ) → block_of set number < 2 ^ 12
 block_small set number = omega arith
 
 -- ---- sums by blocks
-
--- the value at a number of a set, else 0
-abbrev pub part : List ℕ → ℕ → ℕ → ℕ
-part values set i = cond {A = ℕ} (has set i) (slice_index values i) 0
 
 sum_below-append : (n m : ℕ) (f : ℕ → ℕ) → sum_below (n + m) f ≡ sum_below n f + sum_below m (λ i. f (n + i))
 sum_below-append n zero f = (let same : n + 0 ≡ n = omega arith in ap (λ (k : ℕ). sum_below k f) same) ∙ (let none = sum_below-zero (λ i. f (n + i)) in omega (arith, none))
@@ -90,7 +86,7 @@ drop_sum values first set most short small =
     let shorter : length (drop first values) ≤ 64 = omega (arith, length-drop first values, short) in
     let rest : sum (take first values) + sum (drop first values) ≡ sum values = sym (sum_by-append (λ x. x) (take first values) (drop first values)) ∙ ap sum
     (take-append-drop first values) in
-    omega (arith, sum_over_le_all (drop first values) set shorter, rest, small)
+    omega (arith, sum_over_le_sum (drop first values) set shorter, rest, small)
 
 -- the sum of the first values is within that of all
 pub begun_sum : (values : List ℕ) (n : ℕ) → sum_below n (slice_index values) ≤ sum values
@@ -139,12 +135,12 @@ block_meet a b number = same_has (meet (block_of a number) (block_of b number)) 
     ])
   where
     none : (a i : ℕ) → 12 ≤ i → has (block_of a number) i ≡ false
-    none a i past = refuted (has (block_of a number) i) (λ there. omega (arith, past, below_width (block_of a number) 12 i (block_small a number) there))
+    none a i past = false_from_ne_true (has (block_of a number) i) (λ there. omega (arith, past, below_width (block_of a number) 12 i (block_small a number) there))
 
 pub block_left : (stays blocks : List ℕ) (number n set scenes : ℕ) → ((place : ℕ) → place < n → slice_index blocks place ≡ block_of (slice_index stays place) number)
     → left_by blocks n set (block_of scenes number) ≡ block_of (left_by stays n set scenes) number
 block_left stays blocks number zero set scenes same = refl
-block_left stays blocks number (suc n) set scenes same = elim (by_bit (has set n)) [
+block_left stays blocks number (suc n) set scenes same = elim (cases_Bool (has set n)) [
   | inl there ↦ left_with blocks n set (block_of scenes number) there
       ∙ ap (left_by blocks n set) (ap (meet (block_of scenes number)) (same n (omega arith)) ∙ block_meet scenes (slice_index stays n) number)
       ∙ block_left stays blocks number n set (meet scenes (slice_index stays n)) (λ place lt. same place (omega (arith, lt))) ∙ ap (λ (s : ℕ). block_of s number) (sym

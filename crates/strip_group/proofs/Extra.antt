@@ -1,32 +1,34 @@
 -- The extra of a group is what it is paid for waiting through all days of others, but for what it saves at most.
-use Rattle.std.proofs.Common.{◌≡◌, ℕ, zero, suc, ◌+◌, ◌-◌, ◌*◌, ◌^◌, ◌<◌, ◌≤◌, Bool, true, false, not, ◌&&◌, cond}
+use Rattle.std.proofs.Common.{◌≡◌, ℕ, zero, suc, ◌+◌, ◌-◌, ◌*◌, ◌^◌, ◌<◌, ◌≤◌, Bool, true, not, ◌&&◌, cond}
 use Rattle.std.proofs.Common.{eqb, List, [], ◌∷◌, filter, length, slice_index, sum_by, refl, sym, ap, ◌∙◌, subst, inl, inr, arith}
-use Rattle.std.proofs.lemmas.Bool.{cases_lt, false≢true}
-use Rattle.std.proofs.lemmas.List.Elements.{All-contains}
+use Rattle.std.proofs.lemmas.Bool.{cases_lt, false≢true, and_from, and_parts, false_from_ne_true, cases_Bool}
 use Rattle.std.proofs.lemmas.Nat.Bits.{bit_at_ones}
 use Rattle.strip_mask.specs.Set.{IsSet, LiesBelow, full, has, meet, members, numbers_below, size, sum_over, with, without}
 use Rattle.strip_mask.specs.Sums.{sum_below}
 use Rattle.strip_mask.proofs.Bits.{has_from_bit}
 use Rattle.strip_mask.proofs.ByMembers.{below_64, below_width, has-empty, has-meet, has-with_same, has-without_other}
 use Rattle.strip_mask.proofs.ByMembers.{has-without_same, has_from_meet, has_from_with, has_from_without, same_has, some_member}
-use Rattle.strip_mask.proofs.Below.{and_true, has_full, is_set_below}
+use Rattle.strip_mask.proofs.Below.{has_full, is_set_below}
 use Rattle.strip_mask.proofs.Members.{Contains-members, has_from_members, members_is}
 use Rattle.strip_mask.proofs.Sizes.{size-without, size-empty, empty_from_size}
 use Rattle.strip_mask.proofs.Sums.{sum_below-ext, sum_below-none, sum_below-point}
-use Rattle.strip_group.specs.Group.{GroupData, waited_days, least_over, extra_by_last, group_extra, is_waited}
+use Rattle.strip_mask.specs.Least.{least_over}
+use Rattle.strip_group.specs.Group.{GroupData, waited_days, extra_by_last, group_extra, is_waited}
 use Rattle.strip_group.specs.Places.{IsTable, actor_at, pick}
 use Rattle.strip_group.specs.Saved.{IsSavedMost, Saves, left_by}
 use Rattle.strip_group.proofs.Left.{has_from_left, has_left}
-use Rattle.strip_group.proofs.Lists.{least_over-attained, least_over-le}
-use Rattle.strip_group.proofs.Places.{actor_there, by_bit, full_small, has_from_pick, has_pick, one_small, pick-one, pick-without, place_of, refuted, same_test, without_less}
+use Rattle.strip_mask.proofs.Least.{least_over_attained, least_over_le}
+use Rattle.strip_mask.proofs.Agree.{same_test}
+use Rattle.strip_sets.proofs.Sets.{one_small, without_less, full_small}
+use Rattle.strip_group.proofs.Places.{actor_there, has_from_pick, has_pick, pick-one, pick-without, place_of}
 use Rattle.strip_group.proofs.Waits.{days_of, days_split, met, unmet, waits}
 
 -- ---- a sum over a list's numbers that pass a test
 
 filtered : (p q r : ℕ → Bool) (xs : List ℕ) → ((x : ℕ) → r x ≡ (q x && p x)) → filter p (filter q xs) ≡ filter r xs
 filtered p q r [] both = refl
-filtered p q r (x ∷ xs) both = elim (by_bit (q x)) [
-  | inl passes ↦ ap (λ (b : Bool). filter p (cond {A = List ℕ} b (x ∷ filter q xs) (filter q xs))) passes ∙ elim (by_bit (p x)) [
+filtered p q r (x ∷ xs) both = elim (cases_Bool (q x)) [
+  | inl passes ↦ ap (λ (b : Bool). filter p (cond {A = List ℕ} b (x ∷ filter q xs) (filter q xs))) passes ∙ elim (cases_Bool (p x)) [
     | inl also ↦ ap (λ (b : Bool). cond {A = List ℕ} b (x ∷ filter p (filter q xs)) (filter p (filter q xs))) also ∙ ap (λ (ys : List ℕ). x ∷ ys) (filtered p q r xs both)
         ∙ sym (ap (λ (b : Bool). cond {A = List ℕ} b (x ∷ filter r xs) (filter r xs)) (both x ∙ ap (λ (b : Bool). b && p x) passes ∙ ap (λ (b : Bool). true && b) also))
     | inr fails ↦ ap (λ (b : Bool). cond {A = List ℕ} b (x ∷ filter p (filter q xs)) (filter p (filter q xs))) fails ∙ filtered p q r xs both
@@ -64,21 +66,17 @@ module _ (film : GroupData) (scenes group : ℕ) (stays rates : List ℕ) (small
   left_free : (set i : ℕ) → set < 64 → has (left set) i ≡ (has scenes i && free (pick group set) i)
   left_free set i low = same_test (has (left set) i) (has scenes i && free (pick group set) i)
       (λ there. (let found = has_from_left stays 6 set scenes i there in
-      and_true (has scenes i) (free (pick group set) i) found.0 (unmet (slice_index film.casts i) (pick group set) (λ actor works picked. (
+      and_from (has scenes i) (free (pick group set) i) found.0 (unmet (slice_index film.casts i) (pick group set) (λ actor works picked. (
       let at = has_from_pick group set actor picked in
       let stayed : has (slice_index stays at.0) i ≡ true = found.1 at.0 (omega (arith, at.1, few)) at.2 in
       let works_there : has (slice_index film.casts i) (actor_at group at.0) ≡ true = ap (has (slice_index film.casts i)) at.3 ∙ works in
       false≢true (sym (stay at.0 i at.1 (lies i found.0) ∙ ap not works_there) ∙ stayed))))))
-      (λ both. (let parts = and_both (has scenes i) (free (pick group set) i) both in
+      (λ both. (let parts = and_parts (has scenes i) (free (pick group set) i) both in
       has_left stays 6 set scenes i parts.0 (λ place lt there. elim (cases_lt place (size group)) [
-        | inl real ↦ stay place i real (lies i parts.0) ∙ ap not (refuted (has (slice_index film.casts i) (actor_at group place)) (λ works.
+        | inl real ↦ stay place i real (lies i parts.0) ∙ ap not (false_from_ne_true (has (slice_index film.casts i) (actor_at group place)) (λ works.
             false≢true (sym (met (slice_index film.casts i) (pick group set) (actor_at group place) works (has_pick group set place real there)) ∙ parts.1)))
         | inr past ↦ ap (λ (s : ℕ). has s i) (all_stay place past lt) ∙ has_from_bit (2 ^ 64 - 1) i (bit_at_ones 64 i (omega (arith, lies i parts.0, short)))
       ])))
-    where
-      and_both : (a b : Bool) → (a && b) ≡ true → (a ≡ true) × (b ≡ true)
-      and_both true b both = (refl, both)
-      and_both false b both = absurd (false≢true both)
 
   days_free : (set : ℕ) → set < 64 → left_days set ≡ days_of film.days (free (pick group set)) (members scenes)
   days_free set low = sum_of_part film.days (free (pick group set)) scenes (left set) (λ i. left_free set i low)
@@ -88,7 +86,7 @@ module _ (film : GroupData) (scenes group : ℕ) (stays rates : List ℕ) (small
   left_one place lt = same_has (left (with 0 place)) (meet scenes (slice_index stays place)) (λ i. same_test (has (left (with 0 place)) i) (has (meet scenes
       (slice_index stays place)) i)
       (λ there. (let found = has_from_left stays 6 (with 0 place) scenes i there in
-      has-meet scenes (slice_index stays place) i ∙ and_true (has scenes i) (has (slice_index stays place) i) found.0 (found.1 place lt (has-with_same 0 place))))
+      has-meet scenes (slice_index stays place) i ∙ and_from (has scenes i) (has (slice_index stays place) i) found.0 (found.1 place lt (has-with_same 0 place))))
       (λ there. (let both = has_from_meet scenes (slice_index stays place) i there in
       has_left stays 6 (with 0 place) scenes i both.0 (λ other below one. elim (has_from_with 0 place other one) [
         | inl is ↦ subst (λ (k : ℕ). has (slice_index stays k) i ≡ true) is both.1
@@ -190,7 +188,7 @@ module _ (film : GroupData) (scenes group : ℕ) (stays rates : List ℕ) (small
         ] in
         elim (saves.attained set low) [
           | inl alone ↦ (
-              let nothing : costs set ≡ 0 = sum_below-none 6 (λ place. cond {A = ℕ} (has set place) (cost place) 0) (λ place lt. elim (by_bit (has set place)) [
+              let nothing : costs set ≡ 0 = sum_below-none 6 (λ place. cond {A = ℕ} (has set place) (cost place) 0) (λ place lt. elim (cases_Bool (has set place)) [
                 | inl there ↦ ap (λ (b : Bool). cond {A = ℕ} b (cost place) 0) there ∙ no_cost place (past place there) lt (left_days (with 0 place))
                 | inr missing ↦ ap (λ (b : Bool). cond {A = ℕ} b (cost place) 0) missing
               ]) in
@@ -216,14 +214,14 @@ module _ (film : GroupData) (scenes group : ℕ) (stays rates : List ℕ) (small
         = λ place lt there. omega (
           arith,
           by_last,
-          All-contains (λ y. least_over (leaving_last n actors) (members actors) ≤ leaving_last n actors y) (members actors) (actor_at group place)
-              (least_over-le (leaving_last n actors) (members actors)) (Contains-members actors (actor_at group place) (IsSet-pick set) (has_pick group set place lt there)),
+          least_over_le (leaving_last n actors) (members actors) (actor_at group place)
+              (Contains-members actors (actor_at group place) (IsSet-pick set) (has_pick group set place lt there)),
         ) in
         let someone = some_member actors (IsSet-pick set) (λ empty. omega (arith, is, ap size empty ∙ size-empty)) in
         let one = has_from_pick group set someone.0 someone.2 in
-        let best = least_over-attained (leaving_last n actors) (members actors) someone.0 (Contains-members actors someone.0 (IsSet-pick set) someone.2) in
+        let best = least_over_attained (leaving_last n actors) (members actors) someone.0 (Contains-members actors someone.0 (IsSet-pick set) someone.2) in
         let at = has_from_pick group set best.0 (has_from_members actors best.0 best.1) in
-        let last : extra set ≡ leaving_last n actors (actor_at group at.0) = by_last ∙ sym best.2 ∙ ap (leaving_last n actors) (sym at.3) in
+        let last : extra set ≡ leaving_last n actors (actor_at group at.0) = by_last ∙ best.2 ∙ ap (leaving_last n actors) (sym at.3) in
         let most : saved (without set at.0) + slice_index rates at.0 * left_days set ≤ saved set = saves.after_least set at.0 low at.2 in
         elim (saves.attained set low) [
           | inl alone ↦ omega (arith, alone, last, most, each at.0 at.1 at.2, le one.0 one.1 one.2, each one.0 one.1 one.2)

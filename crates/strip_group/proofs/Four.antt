@@ -1,34 +1,12 @@
 -- The four sets of two places.
-use Rattle.std.proofs.Common.{◌≡◌, ℕ, suc, zero, ◌+◌, ◌*◌, ◌<◌, ◌≤◌, ◌⊎◌, true, false, max, List, [], ◌∷◌, slice_index, refl, sym, ap, ◌∙◌, subst, inl, inr, arith}
+use Rattle.std.proofs.Common.{◌≡◌, ℕ, ◌+◌, ◌*◌, ◌<◌, ◌≤◌, ◌⊎◌, true, max, List, [], ◌∷◌, slice_index, refl, sym, ap, ◌∙◌, subst, inl, inr, arith}
 use Rattle.std.proofs.lemmas.Bool.{cases_lt, false≢true}
 use Rattle.std.proofs.lemmas.Nat.{mul-le}
-use Rattle.strip_mask.specs.Set.{full, has, meet, minus, sum_over, union, with, without}
-use Rattle.strip_mask.proofs.Totals.{sum_over-empty, sum_over-with}
-use Rattle.strip_mask.proofs.ByMembers.{below_width, has-empty}
+use Rattle.strip_mask.specs.Set.{full, has, meet, sum_over, without}
+use Rattle.strip_mask.proofs.Totals.{sum_over-empty}
+use Rattle.strip_mask.proofs.ByMembers.{empty_has}
+use Rattle.strip_sets.proofs.FourSets.{both_without_first, both_without_second, by_four, full_two, has_these, lacks, sum_both, sum_first, sum_second, two, without_first, without_second}
 use Rattle.strip_group.specs.Saved.{HasRoom, Saves, left_by}
-
-pub full_two : full 2 ≡ 3
-unfolding full with union
-full_two = refl
-
-pub with_first : with 0 0 ≡ 1
-unfolding with union
-with_first = refl
-
-pub with_second : with 0 1 ≡ 2
-unfolding with union
-with_second = refl
-
-with_both : with 1 1 ≡ 3
-unfolding with union
-with_both = refl
-
-pub by_four : (P : ℕ → Type 0) → P 0 → P 1 → P 2 → P 3 → (set : ℕ) → set < 4 → P set
-by_four P none first second both zero lt = none
-by_four P none first second both (suc zero) lt = first
-by_four P none first second both (suc (suc zero)) lt = second
-by_four P none first second both (suc (suc (suc zero))) lt = both
-by_four P none first second both (suc (suc (suc (suc n)))) lt = absurd (omega (arith, lt))
 
 -- ---- what is left
 
@@ -48,36 +26,6 @@ pub left_both : (stays : List ℕ) (scenes : ℕ) → left_by stays 2 3 scenes �
 unfolding has
 left_both stays scenes = refl
 
--- ---- which places a set has
-
--- the places of the four sets
-has_none : (place : ℕ) → has 0 place ≡ true → ⊥
-has_none place there = false≢true (sym (has-empty place) ∙ there)
-
-without_first : without 1 0 ≡ 0
-unfolding without minus
-without_first = refl
-
-without_second : without 2 1 ≡ 0
-unfolding without minus
-without_second = refl
-
-both_without_first : without 3 0 ≡ 2
-unfolding without minus
-both_without_first = refl
-
-both_without_second : without 3 1 ≡ 1
-unfolding without minus
-both_without_second = refl
-
-lacks : (has 1 1 ≡ false) × (has 2 0 ≡ false)
-unfolding has
-lacks = (refl, refl)
-
-has_these : (has 1 0 ≡ true) × (has 2 1 ≡ true) × (has 3 0 ≡ true) × (has 3 1 ≡ true)
-unfolding has
-has_these = (refl, refl, refl, refl)
-
 -- ---- savings
 
 abbrev IsAttained : List ℕ → (ℕ → ℕ) → (ℕ → ℕ) → (ℕ → ℕ) → ℕ → Type 0
@@ -91,7 +39,7 @@ pub saves_four : (rates : List ℕ) (days alone saved : ℕ → ℕ) → saved 0
 saves_four rates days alone saved none first second both = record {
   alone_least = by_four (λ set. alone set ≤ saved set) (omega (arith, none)) (omega (arith, first)) (omega (arith, second)) (omega (arith, both));
   after_least = λ set place small. by_four (λ s. has s place ≡ true → saved (without s place) + slice_index rates place * days s ≤ saved s)
-      (λ there. absurd (has_none place there))
+      (λ there. absurd (empty_has place there))
       (λ there. elim (two 1 place there (omega arith)) [
         | inl is ↦ subst (λ (k : ℕ). saved (without 1 k) + slice_index rates k * days 1 ≤ saved 1) (sym is) (omega (arith, ap saved without_first, first))
         | inr is ↦ absurd (false≢true (sym lacks.0 ∙ ap (has 1) (sym is) ∙ there))
@@ -123,13 +71,6 @@ saves_four rates days alone saved none first second both = record {
       ]);
 }
   where
-    two : (set place : ℕ) → has set place ≡ true → set < 4 → (place ≡ 0) ⊎ (place ≡ 1)
-    two set place there small = (let below : place < 2 = below_width set 2 place small there in elim (cases_lt place 1) [
-      | inl zero_is ↦ inl (omega
-          (arith, zero_is))
-      | inr one ↦ inr (omega (arith, one, below))
-    ])
-
     greater : (a b : ℕ) → (max a b ≡ a) ⊎ (max a b ≡ b)
     greater a b = elim (cases_lt a b) [ inl less ↦ inr (omega (arith, less)) | inr more ↦ inl (omega (arith, more)) ]
 
@@ -150,17 +91,8 @@ module _ (rates : List ℕ) (days alone : ℕ → ℕ) (room : HasRoom 2 4294967
   at_none : sum_over rates 0 * room.all_days ≡ 0
   at_none = ap (λ (s : ℕ). s * room.all_days) (sum_over-empty rates) ∙ grind arith
 
-  sum_first : sum_over rates 1 ≡ r0
-  sum_first = ap (sum_over rates) (sym with_first) ∙ sum_over-with rates 0 0 (omega arith) (has-empty 0) ∙ (let none = sum_over-empty rates in omega (arith, none))
-
-  sum_second : sum_over rates 2 ≡ r1
-  sum_second = ap (sum_over rates) (sym with_second) ∙ sum_over-with rates 0 1 (omega arith) (has-empty 1) ∙ (let none = sum_over-empty rates in omega (arith, none))
-
-  sum_both : sum_over rates 3 ≡ r0 + r1
-  sum_both = ap (sum_over rates) (sym with_both) ∙ sum_over-with rates 1 1 (omega arith) lacks.0 ∙ (let first = sum_first in omega (arith, first))
-
   at_both : sum_over rates 3 * room.all_days ≡ r0 * room.all_days + r1 * room.all_days
-  at_both = ap (λ (s : ℕ). s * room.all_days) sum_both ∙ grind arith
+  at_both = ap (λ (s : ℕ). s * room.all_days) (sum_both rates) ∙ grind arith
 
   most : room.before + r0 * room.all_days + r1 * room.all_days ≤ 4294967295
   most = (let all : sum_over rates (full 2) * room.all_days ≡ sum_over rates 3 * room.all_days = ap (λ (s : ℕ). sum_over rates s * room.all_days) full_two in
@@ -169,8 +101,8 @@ module _ (rates : List ℕ) (days alone : ℕ → ℕ) (room : HasRoom 2 4294967
   pub alone_within : IsWithin alone
   alone_within = (
     omega (arith, room.begun 0 (omega arith), at_none),
-    omega (arith, room.begun 1 (omega arith), ap (λ (s : ℕ). s * room.all_days) sum_first),
-    omega (arith, room.begun 2 (omega arith), ap (λ (s : ℕ). s * room.all_days) sum_second),
+    omega (arith, room.begun 1 (omega arith), ap (λ (s : ℕ). s * room.all_days) (sum_first rates)),
+    omega (arith, room.begun 2 (omega arith), ap (λ (s : ℕ). s * room.all_days) (sum_second rates)),
     omega (arith, room.begun 3 (omega arith), at_both),
   )
 

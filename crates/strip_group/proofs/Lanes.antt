@@ -1,39 +1,13 @@
 -- Vectors of four numbers, lane by lane.
-use Rattle.std.proofs.Common.{◌≡◌, ℕ, suc, ◌+◌, ◌-◌, ◌*◌, ◌^◌, ◌<◌, Bool, false, cond, ltb, max, List}
-use Rattle.std.proofs.Common.{[], ◌∷◌, ◌++◌, length, get_or, map, slice_index, sym, ap, ◌∙◌, inl, inr, arith, Fits, w32}
+use Rattle.std.proofs.Common.{◌≡◌, ℕ, ◌-◌, ◌^◌, ◌<◌, Bool, false, cond, ltb, max, List}
+use Rattle.std.proofs.Common.{length, get_or, map, slice_index, sym, ap, ◌∙◌, inl, inr, arith, w32}
 use Rattle.std.proofs.lemmas.Bool.{cases_lt, lt-ltb}
 use Rattle.std.proofs.lemmas.Bool.Decides.{nat_tests}
-use Rattle.std.proofs.lemmas.List.{get_or_append_left}
 use Rattle.std.proofs.lemmas.Simd.{tops_compared, length-zip2, length-sel_l, get_or-sel_l, get_or-zip2}
-use lib.Lanes.{Each2, zip2, sel_l, top}
+use lib.Lanes.{zip2, sel_l, top}
 use mir.Val.{bits, hbits}
 
--- a fact of each two lanes
-pub each_two : (P : ℕ → ℕ → Type 0) (xs ys : List ℕ) → length xs ≡ length ys → ((i : ℕ) → i < length xs → P (get_or xs i 0) (get_or ys i 0)) → Each2 P xs ys
-each_two P [] ys same each = tt
-each_two P (x ∷ xs) [] same each = tt
-each_two P (x ∷ xs) (y ∷ ys) same each = (each 0 (omega arith), each_two P xs ys (omega (arith, same)) (λ i lt. each (suc i) (omega (arith, lt))))
-
--- products and sums that fit
-pub products_fit : (xs ys : List ℕ) → length xs ≡ 4 → length ys ≡ 4 → ((i : ℕ) → i < 4 → slice_index xs i * slice_index ys i < 2 ^ 32) → Each2 (λ a b. Fits w32 (a * b)) xs ys
-products_fit xs ys long also fit = each_two (λ a b. Fits w32 (a * b)) xs ys (long ∙ sym also) (λ i lt. record { fits = fit i (omega (arith, lt, long)) })
-
-pub sums_fit : (xs ys : List ℕ) → length xs ≡ 4 → length ys ≡ 4 → ((i : ℕ) → i < 4 → slice_index xs i + slice_index ys i < 2 ^ 32) → Each2 (λ a b. Fits w32 (a + b)) xs ys
-sums_fit xs ys long also fit = each_two (λ a b. Fits w32 (a + b)) xs ys (long ∙ sym also) (λ i lt. record { fits = fit i (omega (arith, lt, long)) })
-
 module _ (xs ys : List ℕ) (long : length xs ≡ 4) (also : length ys ≡ 4) where
-  pub product_at : (i : ℕ) → i < 4 → slice_index (zip2 (λ a b. a * b) xs ys) i ≡ slice_index xs i * slice_index ys i
-  product_at i lt = get_or-zip2 (λ (a b : ℕ). a * b) xs ys i 0 0 0 (omega (arith, lt, long)) (omega (arith, lt, also))
-
-  pub sum_at : (i : ℕ) → i < 4 → slice_index (zip2 (λ a b. a + b) xs ys) i ≡ slice_index xs i + slice_index ys i
-  sum_at i lt = get_or-zip2 (λ (a b : ℕ). a + b) xs ys i 0 0 0 (omega (arith, lt, long)) (omega (arith, lt, also))
-
-  pub product_lanes : length (zip2 (λ (a b : ℕ). a * b) xs ys) ≡ 4
-  product_lanes = length-zip2 (λ (a b : ℕ). a * b) xs ys (long ∙ sym also) ∙ long
-
-  pub sum_lanes : length (zip2 (λ (a b : ℕ). a + b) xs ys) ≡ 4
-  sum_lanes = length-zip2 (λ (a b : ℕ). a + b) xs ys (long ∙ sym also) ∙ long
-
   -- the greater of each two, by a comparison and a choice
   abbrev pub greater : List ℕ
   greater = sel_l (map (top (hbits w32)) (zip2 (λ a b. cond {A = ℕ} (ltb a b) (2 ^ bits w32 - 1) 0) xs ys)) ys xs
@@ -57,7 +31,3 @@ module _ (xs ys : List ℕ) (long : length xs ≡ 4) (also : length ys ≡ 4) wh
         | inl less ↦ ap (λ (t : Bool). cond {A = ℕ} t b a) (lt-ltb a b less) ∙ omega (arith, less)
         | inr more ↦ (let not_less : ltb a b ≡ false = grind (arith, nat_tests) in ap (λ (t : Bool). cond {A = ℕ} t b a) not_less ∙ omega (arith, more))
       ]
-
--- a lane of a vector beside itself
-pub lane_of : (xs ys : List ℕ) (i : ℕ) → length xs ≡ 4 → i < 4 → slice_index (xs ++ ys) i ≡ slice_index xs i
-lane_of xs ys i long lt = get_or_append_left xs ys 0 i (omega (arith, long, lt))

@@ -3,13 +3,16 @@ use Rattle.std.proofs.Common.{◌≡◌, ◌≢◌, ℕ, zero, suc, ◌+◌, ◌
 use Rattle.std.proofs.Common.{List, [], ◌∷◌, ◌++◌, All, slice_index, refl, sym, ap, ◌∙◌, subst, inl, inr, arith}
 use Rattle.std.proofs.lemmas.Bool.{false≢true}
 use Rattle.std.proofs.lemmas.Bool.Decides.{eqb_tells}
-use Rattle.std.proofs.lemmas.List.Elements.{All-head, All-tail, All-nil, All-push, All-weaker, All-contains}
+use Rattle.std.proofs.lemmas.List.Elements.{All-head, All-tail, All-nil, All-push, All-weaker}
 use Rattle.strip_mask.specs.Set.{IsSet, has, with, without, members, size}
 use Rattle.strip_mask.proofs.ByMembers.{IsSet-without, has-with_same, has-with_other, has-without_other, has_from_without, has-empty, same_has, some_member}
 use Rattle.strip_mask.proofs.Members.{Contains-members, has_from_members}
 use Rattle.strip_mask.proofs.Sizes.{size-without, size-empty, empty_from_size}
-use Rattle.strip_group.specs.Group.{GroupData, waited_days, leaving_pay, IsLeaving, IsExtra, least_over, extra_by_last, group_extra}
-use Rattle.strip_group.proofs.Lists.{All-begin, All-last, count, count_other, count_last, count_before, count_none, none_counted, last_of, least_over-attained, least_over-le}
+use Rattle.strip_mask.specs.Least.{least_over}
+use Rattle.strip_group.specs.Group.{GroupData, waited_days, leaving_pay, IsLeaving, IsExtra, extra_by_last, group_extra}
+use Rattle.strip_mask.proofs.Lists.{count, count_other, count_none, none_counted}
+use Rattle.strip_mask.proofs.Least.{least_over_attained, least_over_le}
+use Rattle.strip_group.proofs.Lists.{All-begin, All-last, count_last, count_before, last_of}
 
 -- ---- who is gone
 
@@ -118,7 +121,7 @@ module _ (film : GroupData) (set : ℕ) where
   attained zero group small none = ([], nobody_first group small none, refl)
   attained (suc n) group small more =
       let some = someone group n small more in
-      let best = least_over-attained (by_last n group) (members group) some.0 (Contains-members group some.0 small some.2) in
+      let best = least_over_attained (by_last n group) (members group) some.0 (Contains-members group some.0 small some.2) in
       let there : has group best.0 ≡ true = has_from_members group best.0 best.1 in
       let fewer : size (without group best.0) ≡ n = omega (arith, size-without group best.0 small there, more) in
       let rest = attained n (without group best.0) (IsSet-without group best.0 small) fewer in (
@@ -143,8 +146,8 @@ module _ (film : GroupData) (set : ℕ) where
           let fewer : size (without group last) ≡ n = omega (arith, size-without group last small parts.0, more) in
           let others : extra_by_last film set n (without group last) ≤ leaving_pay film set 0 begin = rest (without group last)
           (IsSet-without group last small) fewer begin parts.1 in
-          let one : least_over (by_last n group) (members group) ≤ by_last n group last = All-contains (λ y. least_over (by_last n group) (members group) ≤ by_last n group y)
-          (members group) last (least_over-le (by_last n group) (members group)) (Contains-members group last small parts.0) in
+          let one : least_over (by_last n group) (members group) ≤ by_last n group last = least_over_le (by_last n group) (members group) last
+          (Contains-members group last small parts.0) in
           let pay : leaving_pay film set 0 order ≡ leaving_pay film set 0 begin + slice_index film.holds last * waited_days film set (without group last) last
           = ap (leaving_pay film set 0) is ∙ pay_by_last film set group last begin parts.1 in
           omega (arith, others, one, pay)

@@ -1,11 +1,9 @@
 -- The scenes that are left by a set of places.
 use Rattle.std.proofs.Common.{◌≡◌, ℕ, zero, suc, ◌<◌, Bool, true, false, cond, List, slice_index, refl, sym, ap, ◌∙◌, subst, inl, inr, arith}
-use Rattle.std.proofs.lemmas.Bool.{cases_eq, false≢true}
+use Rattle.std.proofs.lemmas.Bool.{cases_eq, false≢true, and_from, cases_Bool}
 use Rattle.strip_mask.specs.Set.{has, meet, with, without}
 use Rattle.strip_mask.proofs.ByMembers.{has-empty, has-meet, has-with_other, has-with_same, has_from_meet, has-without_other}
-use Rattle.strip_mask.proofs.Below.{and_true}
 use Rattle.strip_group.specs.Saved.{left_by}
-use Rattle.strip_group.proofs.Places.{by_bit}
 
 -- a place more that the set has, or lacks
 pub left_with : (stays : List ℕ) (n set scenes : ℕ) → has set n ≡ true → left_by stays (suc n) set scenes ≡ left_by stays n set (meet scenes (slice_index stays n))
@@ -29,7 +27,7 @@ left_without stays n set scenes = left_same stays n (without set n) set scenes (
 pub has_from_left : (stays : List ℕ) (n set scenes i : ℕ) → has (left_by stays n set scenes) i ≡ true
     → (has scenes i ≡ true) × ((place : ℕ) → place < n → has set place ≡ true → has (slice_index stays place) i ≡ true)
 has_from_left stays zero set scenes i there = (there, λ place lt _. absurd (omega (arith, lt)))
-has_from_left stays (suc n) set scenes i there = elim (by_bit (has set n)) [
+has_from_left stays (suc n) set scenes i there = elim (cases_Bool (has set n)) [
   | inl in_set ↦ (
       let found = has_from_left stays n set (meet scenes (slice_index stays n)) i (ap (λ (s : ℕ). has s i) (sym (left_with stays n set scenes in_set)) ∙ there) in
       let both = has_from_meet scenes (slice_index stays n) i found.0 in (
@@ -53,9 +51,9 @@ has_from_left stays (suc n) set scenes i there = elim (by_bit (has set n)) [
 pub has_left : (stays : List ℕ) (n set scenes i : ℕ) → has scenes i ≡ true → ((place : ℕ) → place < n → has set place ≡ true → has (slice_index stays place) i ≡ true)
     → has (left_by stays n set scenes) i ≡ true
 has_left stays zero set scenes i there stay = there
-has_left stays (suc n) set scenes i there stay = elim (by_bit (has set n)) [
+has_left stays (suc n) set scenes i there stay = elim (cases_Bool (has set n)) [
   | inl in_set ↦ ap (λ (s : ℕ). has s i) (left_with stays n set scenes in_set)
-      ∙ has_left stays n set (meet scenes (slice_index stays n)) i (has-meet scenes (slice_index stays n) i ∙ and_true (has scenes i) (has (slice_index stays n) i) there
+      ∙ has_left stays n set (meet scenes (slice_index stays n)) i (has-meet scenes (slice_index stays n) i ∙ and_from (has scenes i) (has (slice_index stays n) i) there
       (stay n (omega arith) in_set))
       (λ place lt. stay place (omega (arith, lt)))
   | inr out ↦ ap (λ (s : ℕ). has s i) (left_out stays n set scenes out) ∙ has_left stays n set scenes i there (λ place lt. stay place (omega (arith, lt)))

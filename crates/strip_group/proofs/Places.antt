@@ -1,86 +1,21 @@
 -- The actors of a group by place.
-use Rattle.std.proofs.Common.{◌≡◌, ◌≢◌, ℕ, zero, suc, ◌+◌, ◌^◌, ◌<◌, ◌≤◌, ◌⊎◌, Bool, true, false, not, replicate, set, sum, get_or-set_same, get_or-set_other, cond, bit_and}
-use Rattle.std.proofs.Common.{◌&&◌, List, ◌∷◌, ◌++◌, Contains, get_or, slice_index, length, refl, sym, ap, ◌∙◌, subst, inl, inr, arith, length-append, pow_pos}
+use Rattle.std.proofs.Common.{◌≡◌, ◌≢◌, ℕ, zero, suc, ◌+◌, ◌<◌, ◌≤◌, Bool, true, false, not, set, sum, get_or-set_same, get_or-set_other, cond}
+use Rattle.std.proofs.Common.{List, ◌∷◌, ◌++◌, Contains, get_or, slice_index, length, sym, ap, ◌∙◌, subst, inl, inr, arith, length-append}
 use Rattle.std.proofs.Math.Seq.{get_or-append_seam}
-use Rattle.std.proofs.lemmas.Bool.{cases_lt, cases_eq, false≢true}
+use Rattle.std.proofs.lemmas.Bool.{cases_lt, cases_eq, false≢true, cases_Bool, false_from_ne_true}
 use Rattle.std.proofs.lemmas.Grind.{get_or_default_zero}
-use Rattle.std.proofs.lemmas.List.{get_or-replicate, get_or_past, length-replicate}
+use Rattle.std.proofs.lemmas.List.{get_or_past}
 use Rattle.std.proofs.lemmas.List.Sums.{get_or-le-sum_by}
 use Rattle.std.proofs.lemmas.List.Kept.{AllPairs-from_increasing}
-use Rattle.std.proofs.lemmas.Nat.{or_lt, pow_below, le_or_l, and_le_l, and_le_r}
-use Rattle.strip_mask.specs.Set.{IsSet, LiesBelow, full, has, meet, members, size, union, with, without}
-use Rattle.strip_mask.proofs.ByMembers.{empty_from, has-empty, has-meet, has-with_same, has-with_other, has-without_same}
-use Rattle.strip_mask.proofs.ByMembers.{has-without_other, has_from_with, has_from_without, same_has, with-without, without_absent}
-use Rattle.strip_mask.proofs.Below.{full-zero, full-more, has_full}
+use Rattle.std.proofs.lemmas.Nat.{and_le_l}
+use Rattle.strip_mask.specs.Set.{IsSet, LiesBelow, full, has, meet, members, size, with, without}
+use Rattle.strip_mask.proofs.ByMembers.{empty_from, has-empty, has-with_same, has-with_other}
+use Rattle.strip_mask.proofs.ByMembers.{has-without_other, has_from_with, has_from_without, same_has}
+use Rattle.strip_mask.proofs.Below.{has_full}
 use Rattle.strip_mask.proofs.Members.{Contains-members, members_in, members_rise}
-use Rattle.strip_mask.specs.Set.{sum_over}
-use Rattle.strip_mask.specs.Sums.{sum_below}
-use Rattle.strip_mask.proofs.Sums.{sum_below_mono, sum_below-slice}
-use Rattle.strip_mask.proofs.Totals.{sum_over_within}
 use Rattle.strip_mask.proofs.Sizes.{length-members}
 use Rattle.strip_group.specs.Places.{actor_at, picked, pick}
-
--- ---- tests
-
-pub refuted : (b : Bool) → (b ≡ true → ⊥) → b ≡ false
-refuted true not_so = absurd (not_so refl)
-refuted false not_so = refl
-
-pub same_test : (a b : Bool) → (a ≡ true → b ≡ true) → (b ≡ true → a ≡ true) → a ≡ b
-same_test true b there back = sym (there refl)
-same_test false true there back = back refl
-same_test false false there back = refl
-
-pub by_bit : (b : Bool) → (b ≡ true) ⊎ (b ≡ false)
-by_bit true = inl refl
-by_bit false = inr refl
-
--- ---- sets of a few numbers, as masks of as many bits
-
-pub with_small : (n set i : ℕ) → set < 2 ^ n → i < n → with set i < 2 ^ n
-unfolding with union
-with_small n set i small lt = or_lt n set (2 ^ i) small (pow_below i n lt)
-
-pub one_small : (n i : ℕ) → i < n → with 0 i < 2 ^ n
-one_small n i lt = with_small n 0 i (pow_above n) lt
-  where
-    pow_above : (n : ℕ) → 0 < 2 ^ n
-    pow_above n = pow_pos n
-
-with_more : (set i : ℕ) → set ≤ with set i
-unfolding with union
-with_more set i = le_or_l set (2 ^ i)
-
-pub without_less : (set i : ℕ) → has set i ≡ true → without set i < set
-without_less set i there =
-    let most : without set i ≤ set = subst (λ (n : ℕ). without set i ≤ n) (with-without set i there) (with_more (without set i) i) in
-    elim (cases_eq (without set i) set) [
-      | inl same ↦ absurd (false≢true (sym (has-without_same set i) ∙ ap (λ (s : ℕ). has s i) same ∙ there))
-      | inr other ↦ omega (arith, most, other)
-    ]
-
-pub without_most : (set i : ℕ) → without set i ≤ set
-without_most set i = elim (by_bit (has set i)) [
-  | inl there ↦ (let less : without set i < set = without_less set i there in omega (arith, less))
-  | inr missing ↦ (let same : without set i ≡ set = without_absent set i missing in omega (arith, same))
-]
-
-pub full_small : (n most : ℕ) → n ≤ most → full n < 2 ^ most
-full_small zero most le = subst (λ (s : ℕ). s < 2 ^ most) (sym full-zero) (pow_pos most)
-full_small (suc n) most le =
-    let more : suc n ≡ n + 1 = omega arith in
-    subst (λ (s : ℕ). s < 2 ^ most) (sym (ap full more ∙ full-more n)) (with_small most (full n) n (full_small n most (omega (arith, le))) (omega (arith, le)))
-
-pub lies_small : (n set : ℕ) → LiesBelow n set → set < 2 ^ n
-unfolding meet
-lies_small n set lies =
-    let same : set ≡ bit_and set (full n) = same_has set (meet set (full n)) (λ i. kept (has set i) (has (full n) i) (λ there. has_full n i (lies i there)) ∙ sym
-    (has-meet set (full n) i)) in
-    omega (arith, same, and_le_r set (full n), full_small n n (omega arith))
-  where
-    kept : (a b : Bool) → (a ≡ true → b ≡ true) → a ≡ (a && b)
-    kept true b within = sym (within refl)
-    kept false b within = refl
+use Rattle.strip_mask.proofs.Agree.{same_test}
 
 -- ---- the actor at a place
 
@@ -126,7 +61,7 @@ has_from_picked group set zero i there = absurd (false≢true (sym (has-empty i)
 has_from_picked group set (suc n) i there =
     let ih : has (picked group set n) i ≡ true → (place : ℕ) × (place < suc n) × (has set place ≡ true) × (actor_at group place ≡ i)
     = λ before. (let found = has_from_picked group set n i before in (found.0, omega (arith, found.1), found.2, found.3)) in
-    elim (by_bit (has set n)) [
+    elim (cases_Bool (has set n)) [
       | inl in_set ↦ elim (has_from_with (picked group set n) (actor_at group n) i (ap (λ (s : ℕ). has s i) (sym (picked_with group set n in_set)) ∙ there)) [
         | inl is ↦ (n, omega arith, in_set, is)
         | inr before ↦ ih before
@@ -140,7 +75,7 @@ has_picked group set (suc n) place lt there = elim (cases_eq place n) [
   | inl is ↦ ap (λ (s : ℕ). has s (actor_at group place)) (picked_with group set n (ap (has set) (sym is) ∙ there))
       ∙ ap (λ (k : ℕ). has (with (picked group set n) (actor_at group n)) (actor_at group k)) is ∙ has-with_same (picked group set n) (actor_at group n)
   | inr other ↦ (let before : has (picked group set n) (actor_at group place) ≡ true = has_picked group set n place (omega (arith, lt, other)) there in
-      elim (by_bit (has set n)) [
+      elim (cases_Bool (has set n)) [
         | inl in_set ↦ ap (λ (s : ℕ). has s (actor_at group place)) (picked_with group set n in_set) ∙ has_with (picked group set n) (actor_at group n)
             (actor_at group place) before
         | inr out ↦ ap (λ (s : ℕ). has s (actor_at group place)) (picked_past group set n out) ∙ before
@@ -160,7 +95,7 @@ pub has_pick : (group set place : ℕ) → place < size group → has set place 
 has_pick group set place lt there = has_picked group set (size group) place lt there
 
 pub pick-empty : (group : ℕ) → pick group 0 ≡ 0
-pick-empty group = empty_from (pick group 0) (λ i. refuted (has (pick group 0) i) (λ there. (let found = has_from_pick group 0 i there in false≢true (sym (has-empty found.0)
+pick-empty group = empty_from (pick group 0) (λ i. false_from_ne_true (has (pick group 0) i) (λ there. (let found = has_from_pick group 0 i there in false≢true (sym (has-empty found.0)
     ∙ found.2))))
 
 pub pick-full : (group : ℕ) → IsSet group → pick group (full (size group)) ≡ group
@@ -196,19 +131,6 @@ pick-without group set place lt = same_has (pick group (without set place)) (wit
 
 -- ---- numbers not yet written
 
-pub zeros : (n i : ℕ) → slice_index (replicate {A = ℕ} n 0) i ≡ 0
-zeros n i = elim (cases_lt i n) [
-  | inl lt ↦ get_or-replicate n i 0 0 lt
-  | inr past ↦ get_or_past (replicate {A = ℕ} n 0) i 0 (omega (arith, length-replicate {A = ℕ} n 0, past))
-]
-
--- a list of which the places below one are what a function says, when this one is written
-pub written : (xs : List ℕ) (i x : ℕ) (f : ℕ → ℕ) → i < length xs → ((k : ℕ) → k < i → slice_index xs k ≡ f k) → x ≡ f i → (k : ℕ) → k < i + 1 → slice_index (set xs i x) k ≡ f k
-written xs i x f within before here k lt = elim (cases_eq k i) [
-  | inl is ↦ subst (λ (j : ℕ). slice_index (set xs i x) j ≡ f j) (sym is) (get_or-set_same xs i x 0 within ∙ here)
-  | inr other ↦ get_or-set_other xs i k x 0 other ∙ before k (omega (arith, lt, other))
-]
-
 pub written_small : (xs : List ℕ) (i x most : ℕ) → i < length xs → ((k : ℕ) → slice_index xs k ≤ most) → x ≤ most → (k : ℕ) → slice_index (set xs i x) k ≤ most
 written_small xs i x most within before small k = elim (cases_eq k i) [
   | inl is ↦ subst (λ (j : ℕ). slice_index (set xs i x) j ≤ most) (sym is) (omega (arith, get_or-set_same xs i x 0 within, small))
@@ -225,17 +147,6 @@ pub meet_most : (a b : ℕ) → meet a b ≤ a
 unfolding meet
 meet_most a b = and_le_l a b
 
--- the days of a set are within those of all scenes
-pub sum_over_le_all : (v : List ℕ) (a : ℕ) → length v ≤ 64 → sum_over v a ≤ sum v
-sum_over_le_all v a long =
-    let part : sum_below (length v) (λ i. cond (has a i) (slice_index v i) 0) ≤ sum_below (length v) (slice_index v)
-    = sum_below_mono (length v) (λ i. cond (has a i) (slice_index v i) 0) (slice_index v) (λ i _. within (has a i) (slice_index v i)) in
-    omega (arith, sum_over_within v a (length v) long (omega arith), part, sum_below-slice v)
-  where
-    within : (b : Bool) (x : ℕ) → cond {A = ℕ} b x 0 ≤ x
-    within true x = omega arith
-    within false x = omega arith
-
 -- ---- the scenes without an actor, so far
 
 module _ (casts : List ℕ) (actor scene scenes : ℕ) (told : (s : ℕ) → s < scene → has scenes s ≡ not (has (slice_index casts s) actor)) where
@@ -247,7 +158,7 @@ module _ (casts : List ℕ) (actor scene scenes : ℕ) (told : (s : ℕ) → s <
 
   pub told_past : LiesBelow scene scenes → has (slice_index casts scene) actor ≡ true → (s : ℕ) → s < scene + 1 → has scenes s ≡ not (has (slice_index casts s) actor)
   told_past lies works s lt = elim (cases_eq scene s) [
-    | inl is ↦ subst (λ (k : ℕ). has scenes k ≡ not (has (slice_index casts k) actor)) is (refuted (has scenes scene) (λ there. (let below = lies scene there in omega
+    | inl is ↦ subst (λ (k : ℕ). has scenes k ≡ not (has (slice_index casts k) actor)) is (false_from_ne_true (has scenes scene) (λ there. (let below = lies scene there in omega
         (arith, below))) ∙ ap not (sym works))
     | inr other ↦ told s (omega (arith, lt, other))
   ]

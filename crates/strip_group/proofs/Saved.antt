@@ -1,60 +1,17 @@
 -- Savings by sets of places: those of the sets without a place and those with it.
-use Rattle.std.proofs.Common.{◌≡◌, ◌≢◌, ℕ, zero, suc, ◌+◌, ◌*◌, ◌^◌, ◌<◌, ◌≤◌, ◌⊎◌, Bool, true, false, not}
-use Rattle.std.proofs.Common.{◌&&◌, cond, eqb, max, List, length, slice_index, sum, refl, sym, ap, ◌∙◌, subst, inl, inr, arith}
-use Rattle.std.proofs.lemmas.Bool.{cases_lt, cases_eq, false≢true}
+use Rattle.std.proofs.Common.{◌≡◌, ◌≢◌, ℕ, zero, suc, ◌+◌, ◌*◌, ◌^◌, ◌<◌, ◌≤◌, ◌⊎◌, true, false}
+use Rattle.std.proofs.Common.{max, List, length, slice_index, sum, refl, sym, ap, ◌∙◌, subst, inl, inr, arith}
+use Rattle.std.proofs.lemmas.Bool.{cases_lt, cases_eq, false≢true, cases_Bool}
 use Rattle.std.proofs.lemmas.Nat.{mul-le}
 use Rattle.strip_mask.specs.Set.{IsSet, full, has, meet, sum_over, with, without}
-use Rattle.strip_mask.proofs.ByMembers.{below_width, has-empty, has-with_same, has-without, has-without_other, has-without_same, has_from_without, same_has, without-with}
+use Rattle.strip_mask.proofs.ByMembers.{below_width, has-empty, has-without_other, has-without_same, has_from_without, without_swap}
 use Rattle.strip_mask.proofs.Below.{LiesBelow-full, full-more, has_full}
-use Rattle.strip_mask.proofs.Totals.{sum_over-with, sum_over-without, sum_over_mono}
-use Rattle.strip_group.specs.Saved.{HasRoom, IsSavedMost, Saves, halves, left_by}
+use Rattle.strip_mask.proofs.Totals.{sum_over-with, sum_over-without, sum_over_mono, sum_over_le_sum}
+use Rattle.strip_group.specs.Saved.{HasRoom, IsSavedMost, Saves, left_by}
 use Rattle.strip_group.proofs.Left.{has_from_left, left_out, left_with, left_without}
-use Rattle.strip_group.proofs.Places.{by_bit, lies_small, refuted, slice_le_sum, sum_over_le_all, with_small, without_less}
-
--- ---- sets of one place more
-
-pub without_top : (n set : ℕ) → set < 2 ^ suc n → without set n < 2 ^ n
-without_top n set small = lies_small n (without set n) (λ i there. (let parts = has_from_without set n i there in
-    let lt : i < suc n = below_width set (suc n) i small parts.1 in omega (arith, lt, parts.0)))
-
-pub below_top : (n set : ℕ) → set < 2 ^ suc n → has set n ≡ false → set < 2 ^ n
-below_top n set small missing = lies_small n set (λ i there. (let lt : i < suc n = below_width set (suc n) i small there in elim (cases_eq n i) [
-  | inl same ↦ absurd (false≢true (sym missing ∙ ap (has set) same ∙ there))
-  | inr other ↦ omega (arith, lt, other)
-]))
-
-pub lacks_top : (n set : ℕ) → set < 2 ^ n → has set n ≡ false
-lacks_top n set small = refuted (has set n) (λ there. omega (arith, below_width set n n small there))
-
-pub halves_with : (n : ℕ) (f g : ℕ → ℕ) (set : ℕ) → has set n ≡ true → halves n f g set ≡ g (without set n)
-halves_with n f g set there = ap (λ (b : Bool). cond {A = ℕ} b (g (without set n)) (f set)) there
-
-pub halves_out : (n : ℕ) (f g : ℕ → ℕ) (set : ℕ) → has set n ≡ false → halves n f g set ≡ f set
-halves_out n f g set missing = ap (λ (b : Bool). cond {A = ℕ} b (g (without set n)) (f set)) missing
-
--- at a set below, with this place
-pub halves_at : (n : ℕ) (f g : ℕ → ℕ) (set : ℕ) → set < 2 ^ n → halves n f g (with set n) ≡ g set
-halves_at n f g set small = halves_with n f g (with set n) (has-with_same set n) ∙ ap g (without-with set n (lacks_top n set small))
-
-pub with_top : (n set : ℕ) → set < 2 ^ n → with set n < 2 ^ suc n
-with_top n set small = with_small (suc n) set n (wider n set small) (omega arith)
-  where
-    wider : (n set : ℕ) → set < 2 ^ n → set < 2 ^ suc n
-    wider n set lt = lies_small (suc n) set (λ i there. (let below : i < n = below_width set n i lt there in omega (arith, below)))
-
-pub wider_top : (n set : ℕ) → set < 2 ^ n → set < 2 ^ suc n
-wider_top n set lt = lies_small (suc n) set (λ i there. (let below : i < n = below_width set n i lt there in omega (arith, below)))
-
-without_swap : (set i j : ℕ) → without (without set i) j ≡ without (without set j) i
-without_swap set i j = same_has (without (without set i) j) (without (without set j) i) (λ k. has-without (without set i) j k ∙ ap (λ (b : Bool). not (eqb j k) && b)
-    (has-without set i k)
-    ∙ swap (not (eqb j k)) (not (eqb i k)) (has set k) ∙ sym (has-without (without set j) i k ∙ ap (λ (b : Bool). not (eqb i k) && b) (has-without set j k)))
-  where
-    swap : (a b c : Bool) → (a && (b && c)) ≡ (b && (a && c))
-    swap true true c = refl
-    swap true false c = refl
-    swap false true c = refl
-    swap false false c = refl
+use Rattle.strip_group.proofs.Places.{slice_le_sum}
+use Rattle.strip_sets.proofs.Sets.{below_top, halves_at, halves_out, halves_with, lacks_top, lies_small, with_top, without_less, without_top, wider_top}
+use Rattle.strip_sets.specs.Numbers.{halves}
 
 -- ---- savings
 
@@ -89,7 +46,7 @@ module _ (n : ℕ) (rates : List ℕ) (days_out days_in alone_out alone_in saved
   after_is set small = mid (without set n) (without_top n set small)
 
   least_alone : (set : ℕ) → set < 2 ^ suc n → alone set ≤ saved set
-  least_alone set small = elim (by_bit (has set n)) [
+  least_alone set small = elim (cases_Bool (has set n)) [
     | inl there ↦ (
         let le : after (without set n) ≤ saved_in (without set n) = high.alone_least (without set n) (without_top n set small) in
         omega (arith, halves_with n alone_out alone_in set there, halves_with n saved_out saved_in set there, le, after_is set small))
@@ -99,7 +56,7 @@ module _ (n : ℕ) (rates : List ℕ) (days_out days_in alone_out alone_in saved
   ]
 
   least_after : (set place : ℕ) → set < 2 ^ suc n → has set place ≡ true → saved (without set place) + slice_index rates place * days set ≤ saved set
-  least_after set place small member = elim (by_bit (has set n)) [
+  least_after set place small member = elim (cases_Bool (has set n)) [
     | inl there ↦ (
         let day : slice_index rates place * days set ≡ slice_index rates place * days_in (without set n) = ap (λ (d : ℕ). slice_index rates place * d)
         (halves_with n days_out days_in set there) in
@@ -127,7 +84,7 @@ module _ (n : ℕ) (rates : List ℕ) (days_out days_in alone_out alone_in saved
   Attained set = (saved set ≡ alone set) ⊎ ((place : ℕ) × (has set place ≡ true) × (saved set ≡ saved (without set place) + slice_index rates place * days set))
 
   reached : (set : ℕ) → set < 2 ^ suc n → Attained set
-  reached set small = elim (by_bit (has set n)) [
+  reached set small = elim (cases_Bool (has set n)) [
     | inl there ↦ (
         let here : saved set ≡ saved_in (without set n) = halves_with n saved_out saved_in set there in
         let day : days set ≡ days_in (without set n) = halves_with n days_out days_in set there in
@@ -254,25 +211,6 @@ module _ (n most : ℕ) (few : suc n ≤ 6) (rates : List ℕ) (days_out days_in
 -- ---- numbers of all sets by those of the parts
 
 module _ (n : ℕ) (f g : ℕ → ℕ) where
-  pub halves_full : halves n f g (full (suc n)) ≡ g (full n)
-  halves_full = (let next : suc n ≡ n + 1 = omega arith in ap (λ (k : ℕ). halves n f g (full k)) next) ∙ ap (halves n f g) (full-more n) ∙ halves_at n f g (full n)
-      (lies_small n (full n) (LiesBelow-full n))
-
-  -- a fact of each number
-  pub by_parts : (P : ℕ → ℕ → Type 0) → ((set : ℕ) → set < 2 ^ n → has set n ≡ false → P set (f set)) → ((set : ℕ) → set < 2 ^ suc n → has set n ≡ true → P set (g (without set n)))
-      → (set : ℕ) → set < 2 ^ suc n → P set (halves n f g set)
-  by_parts P out in_it set small = elim (by_bit (has set n)) [
-    | inl there ↦ subst (P set) (sym (halves_with n f g set there)) (in_it set small there)
-    | inr missing ↦ subst (P set) (sym (halves_out n f g set missing)) (out set (below_top n set small missing) missing)
-  ]
-
-  -- and of those of the parts
-  pub in_out : (P : ℕ → Type 0) → ((set : ℕ) → set < 2 ^ suc n → P (halves n f g set)) → (set : ℕ) → set < 2 ^ n → P (f set)
-  in_out P each set small = subst P (halves_out n f g set (lacks_top n set small)) (each set (wider_top n set small))
-
-  pub in_in : (P : ℕ → Type 0) → ((set : ℕ) → set < 2 ^ suc n → P (halves n f g set)) → (set : ℕ) → set < 2 ^ n → P (g set)
-  in_in P each set small = subst P (halves_at n f g set small) (each (with set n) (with_top n set small))
-
   module _ (h k : ℕ → ℕ) (rate most : ℕ) (fits : (set : ℕ) → set < 2 ^ suc n → halves n f g set + rate * halves n h k set ≤ most) where
     pub fits_out : (set : ℕ) → set < 2 ^ n → f set + rate * h set ≤ most
     fits_out set small =
@@ -287,7 +225,7 @@ module _ (n : ℕ) (f g : ℕ → ℕ) where
   pub after_halves : (h k a b r s : ℕ → ℕ) (rate : ℕ) → ((set : ℕ) → set < 2 ^ n → r set ≡ max (a set) (f set + rate * h set)) → ((set : ℕ) → set < 2 ^ n → s set ≡ max
       (b set) (g set + rate * k set))
       → (set : ℕ) → set < 2 ^ suc n → halves n r s set ≡ max (halves n a b set) (halves n f g set + rate * halves n h k set)
-  after_halves h k a b r s rate out in_it set small = elim (by_bit (has set n)) [
+  after_halves h k a b r s rate out in_it set small = elim (cases_Bool (has set n)) [
     | inl there ↦ (
         let pay : rate * halves n h k set ≡ rate * k (without set n) = ap (λ (d : ℕ). rate * d) (halves_with n h k set there) in
         omega (arith, pay, halves_with n r s set there, halves_with n a b set there, halves_with n f g set there, in_it (without set n) (without_top n set small)))
@@ -300,7 +238,7 @@ module _ (n : ℕ) (f g : ℕ → ℕ) where
       → ((set : ℕ) → set < 2 ^ n → r set ≡ f set + slice_index table (left_by stays n set scenes)) → ((set : ℕ) → set < 2 ^ n → s set ≡ g set + slice_index table
       (left_by stays n set left))
       → (set : ℕ) → set < 2 ^ suc n → halves n r s set ≡ halves n f g set + slice_index table (left_by stays (suc n) set scenes)
-  days_halves r s table stays scenes left is out in_it set small = elim (by_bit (has set n)) [
+  days_halves r s table stays scenes left is out in_it set small = elim (cases_Bool (has set n)) [
     | inl there ↦ (
         let same : left_by stays n (without set n) left ≡ left_by stays (suc n) set scenes = left_without stays n set left ∙ ap (left_by stays n set) is ∙ sym
         (left_with stays n set scenes there) in
@@ -365,7 +303,7 @@ room_of places most rates values stays scenes days alone told none few short rat
       omega (arith, told set lt, less));
   begun = λ set lt. (let nothing = none set lt in omega (arith, nothing));
   fits = (let within : sum_over rates (full places) * sum_over values scenes ≤ sum rates * sum_over values scenes
-      = mul-le (sum_over rates (full places)) (sum_over values scenes) (sum rates) (sum_over values scenes) (sum_over_le_all rates (full places) short) (omega arith) in omega
+      = mul-le (sum_over rates (full places)) (sum_over values scenes) (sum rates) (sum_over values scenes) (sum_over_le_sum rates (full places) short) (omega arith) in omega
       (arith, within, fits));
   rate = λ place. (let within = slice_le_sum rates place in omega (arith, within, rate));
 }

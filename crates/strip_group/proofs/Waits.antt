@@ -1,15 +1,10 @@
 -- The days of a list's scenes that pass a test, and those that the last one of a group waits.
 use Rattle.std.proofs.Common.{◌≡◌, ℕ, ◌+◌, ◌*◌, Bool, true, false, not, ◌&&◌, cond, eqb, List, [], ◌∷◌, filter, slice_index, sum_by, refl, sym, ap, ◌∙◌, inl, inr, arith}
-use Rattle.std.proofs.lemmas.Bool.{cases_eq, false≢true, eqb-true, eq-eqb}
+use Rattle.std.proofs.lemmas.Bool.{cases_eq, false≢true, eqb-true, eq-eqb, and_from, false_from_ne_true, cases_Bool}
 use Rattle.std.proofs.lemmas.List.Sums.{sum_by-cons}
 use Rattle.strip_mask.specs.Set.{has, meet, with, without}
 use Rattle.strip_mask.proofs.ByMembers.{has-empty, has-meet, has-with_same, has-without_other, has_from_meet, has_from_with, empty_from, same_has}
-use Rattle.strip_mask.proofs.Below.{and_true}
-use Rattle.strip_group.proofs.Places.{refuted, by_bit}
-
--- a test as a number
-abbrev pub mark : Bool → ℕ
-mark b = cond {A = ℕ} b 1 0
+use Rattle.strip_mask.proofs.Sizes.{mark}
 
 -- the days of those scenes of a list that pass a test
 abbrev pub days_of : List ℕ → (ℕ → Bool) → List ℕ → ℕ
@@ -36,16 +31,16 @@ days_split days p q r (x ∷ xs) split =
 
 -- the set has someone of the other, or no one
 pub met : (cast actors i : ℕ) → has cast i ≡ true → has actors i ≡ true → eqb (meet cast actors) 0 ≡ false
-met cast actors i here there = refuted (eqb (meet cast actors) 0) (λ none.
-    false≢true (sym (has-empty i) ∙ ap (λ (s : ℕ). has s i) (sym (eqb-true (meet cast actors) 0 none)) ∙ has-meet cast actors i ∙ and_true (has cast i) (has actors i) here there))
+met cast actors i here there = false_from_ne_true (eqb (meet cast actors) 0) (λ none.
+    false≢true (sym (has-empty i) ∙ ap (λ (s : ℕ). has s i) (sym (eqb-true (meet cast actors) 0 none)) ∙ has-meet cast actors i ∙ and_from (has cast i) (has actors i) here there))
 
 pub unmet : (cast actors : ℕ) → ((i : ℕ) → has cast i ≡ true → has actors i ≡ true → ⊥) → eqb (meet cast actors) 0 ≡ true
-unmet cast actors apart = eq-eqb (meet cast actors) 0 (empty_from (meet cast actors) (λ i. refuted (has (meet cast actors) i) (λ there.
+unmet cast actors apart = eq-eqb (meet cast actors) 0 (empty_from (meet cast actors) (λ i. false_from_ne_true (has (meet cast actors) i) (λ there.
     (let both = has_from_meet cast actors i there in apart i both.0 both.1))))
 
 pub waits : (cast actors actor : ℕ) → has actors actor ≡ true
     → mark (not (eqb (meet cast (without actors actor)) 0) && not (has cast actor)) + mark (eqb (meet cast actors) 0) ≡ mark (eqb (meet cast (with 0 actor)) 0)
-waits cast actors actor there = elim (by_bit (has cast actor)) [
+waits cast actors actor there = elim (cases_Bool (has cast actor)) [
   | inl works ↦ (
       let first : mark (not (eqb (meet cast (without actors actor)) 0) && not (has cast actor)) ≡ 0
       = ap (λ (b : Bool). mark (not (eqb (meet cast (without actors actor)) 0) && not b)) works ∙ never (not (eqb (meet cast (without actors actor)) 0)) in

@@ -1,6 +1,7 @@
 -- What a group of actors, all of whom are on location, is paid for waiting at least.
-use Rattle.std.specs.Prelude.{◌≡◌, ℕ, zero, suc, ◌+◌, ◌*◌, ◌≤◌, ◌==◌, min, Bool, true, not, ◌&&◌, List, [], ◌∷◌, All, filter, count_by, sum_by, slice_index}
+use Rattle.std.specs.Prelude.{◌≡◌, ℕ, zero, suc, ◌+◌, ◌*◌, ◌≤◌, ◌==◌, Bool, true, not, ◌&&◌, List, [], ◌∷◌, All, filter, count_by, sum_by, slice_index}
 use Rattle.strip_mask.specs.Set.{has, with, without, meet, members, size}
+use Rattle.strip_mask.specs.Least.{least_over}
 
 -- what a group's waiting goes by: who works in each scene, its days, and what each actor gets for a day of waiting
 pub record GroupData : Type 0 where
@@ -33,16 +34,6 @@ pub record IsLeaving (group : ℕ) (order : List ℕ) : Type 0 where
 pub record IsExtra (film : GroupData) (set group extra : ℕ) : Type 0 where
   pub attained : (order : List ℕ) × IsLeaving group order × (leaving_pay film set 0 order ≡ extra)
   pub least : (order : List ℕ) → IsLeaving group order → extra ≤ leaving_pay film set 0 order
-
--- the least of the values at a number and at those of a list
-abbrev pub least_at : (ℕ → ℕ) → ℕ → List ℕ → ℕ
-least_at f x [] = f x
-least_at f x (y ∷ ys) = min (f x) (least_at f y ys)
-
--- the least over the members of a list; 0 where there is none
-abbrev pub least_over : (ℕ → ℕ) → List ℕ → ℕ
-least_over f [] = 0
-least_over f (x ∷ xs) = least_at f x xs
 
 -- the extra, by who leaves last: the others of the group leave before him, in the order that is cheapest for them
 abbrev pub extra_by_last : GroupData → ℕ → ℕ → ℕ → ℕ

@@ -1,20 +1,12 @@
 -- What the actors of a group save of their pay for waiting, by sets of their places: alone each would wait on all days without
 -- him, and who leaves after others needn't wait on the days without all of them and him.
-use Rattle.std.specs.Prelude.{◌≡◌, ℕ, zero, suc, ◌+◌, ◌*◌, ◌^◌, ◌<◌, ◌≤◌, ◌⊎◌, true, cond, List, length, slice_index}
+use Rattle.std.specs.Prelude.{◌≡◌, ℕ, zero, suc, ◌+◌, ◌*◌, ◌^◌, ◌<◌, ◌≤◌, ◌⊎◌, true, cond, List, slice_index}
 use Rattle.strip_mask.specs.Set.{full, has, meet, sum_over, without}
-
--- a vector of four numbers
-abbrev pub AreLanes : List ℕ → Type 0
-AreLanes numbers = length numbers ≡ 4
 
 -- the scenes that stay at each of the first places that a set has
 abbrev pub left_by : List ℕ → ℕ → ℕ → ℕ → ℕ
 left_by stays zero set scenes = scenes
 left_by stays (suc n) set scenes = left_by stays n set (cond (has set n) (meet scenes (slice_index stays n)) scenes)
-
--- the numbers of the sets without a place and of those with it, as those of all sets
-abbrev pub halves : ℕ → (ℕ → ℕ) → (ℕ → ℕ) → ℕ → ℕ
-halves place without_it with_it set = cond {A = ℕ} (has set place) (with_it (without set place)) (without_it set)
 
 -- what each set of the first places saves at most: what it saves alone, or what the others save before a place of it whose rate
 -- is then saved on the days of the set

@@ -2,7 +2,8 @@
 ghost use Rattle.std.specs.Prelude.{◌≡◌, ℕ, ◌+◌, ◌*◌, ◌-◌, ◌^◌, ◌<◌, ◌≤◌, suc, max, length, slice_index};
 ghost use Rattle.strip_mask.specs.Set.{full, with};
 ghost use Rattle.strip_mask.specs.Sums.{sum_below};
-ghost use Rattle.strip_group.specs.Saved.{AreLanes, HasRoom, Saves, halves, left_by};
+ghost use Rattle.strip_sets.specs.Numbers.{AreLanes, halves};
+ghost use Rattle.strip_group.specs.Saved.{HasRoom, Saves, left_by};
 
 use std::simd::prelude::*;
 use strip_mask::Mask;

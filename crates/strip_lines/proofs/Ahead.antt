@@ -5,28 +5,19 @@ use Rattle.strip_mask.specs.Set.{LiesBelow, has, without, members}
 use Rattle.strip_mask.proofs.ByMembers.{has-empty, empty_from}
 use Rattle.strip_mask.proofs.Below.{is_set_below, LiesBelow-without}
 use Rattle.strip_mask.proofs.Members.{Contains-members, members-empty}
-use Rattle.strip_pay.proofs.Lists.{contains_cases, contains_none}
+use Rattle.strip_mask.proofs.Lists.{contains_none}
 use Rattle.strip_film.specs.Film.{IsFilm, LiesIn}
 use Rattle.strip_film.specs.Shoot.{step_cost}
 use Rattle.strip_film.specs.Finish.{IsAtMostFinish, steps_cost}
 use Rattle.strip_film.specs.Rules.{Rules, BoundsFinish, BeginLeast, FirstsAreReady}
-use Rattle.strip_lines.specs.Lines.{least_of, least_step, ahead}
+use Rattle.strip_lines.specs.Lines.{least_step, ahead}
 use Rattle.strip_film.proofs.Lists.{ready_there}
-
-least_of_le : (f : ℕ → ℕ) (x : ℕ) (xs : List ℕ) (y : ℕ) → Contains (x ∷ xs) y → least_of f x xs ≤ f y
-least_of_le f x [] y there = elim (contains_cases x [] y there) [
-  | inl same ↦ (let e : f x ≡ f y = ap f same in omega arith)
-  | inr none ↦ absurd (contains_none y none)
-]
-least_of_le f x (z ∷ zs) y there = elim (contains_cases x (z ∷ zs) y there) [
-  | inl same ↦ (let e : f x ≡ f y = ap f same in omega arith)
-  | inr later ↦ (let rest : least_of f z zs ≤ f y = least_of_le f z zs y later in omega arith)
-]
+use Rattle.strip_mask.proofs.Least.{least_at_le}
 
 pub least_step_le : (rules : Rules) (set none : ℕ) (scenes : List ℕ) (scene : ℕ) → Contains scenes scene
     → least_step rules set none scenes ≤ step_cost rules.film set scene + rules.bound (without set scene)
 least_step_le rules set none [] scene there = absurd (contains_none scene there)
-least_step_le rules set none (x ∷ xs) scene there = least_of_le (λ s. step_cost rules.film set s + rules.bound (without set s)) x xs scene there
+least_step_le rules set none (x ∷ xs) scene there = least_at_le (λ s. step_cost rules.film set s + rules.bound (without set s)) x xs scene there
 
 module _ (rules : Rules) (is : IsFilm rules.film) (bounds : BoundsFinish rules) (begin : BeginLeast rules) (ready_firsts : FirstsAreReady rules)
     (set : ℕ) (lies : LiesIn rules.film set) where

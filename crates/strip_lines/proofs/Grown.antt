@@ -12,7 +12,8 @@ use Rattle.strip_lines.specs.Lines.{known, IsJustified, AreJustified, GrowTo, no
 
 -- ---- what is known is the greatest
 
-at_most : (b : Bool) (x y most : ℕ) → (b ≡ true → x ≤ most) → y ≤ most → cond b (max x y) y ≤ most
+-- a maximum that is taken on a test
+pub at_most : (b : Bool) (x y most : ℕ) → (b ≡ true → x ≤ most) → y ≤ most → cond b (max x y) y ≤ most
 at_most true x y most first second = (let one : x ≤ most = first refl in omega arith)
 at_most false x y most first second = second
 

@@ -1,5 +1,5 @@
 -- What a justified list makes known is true.
-use Rattle.std.proofs.Common.{◌≡◌, ℕ, zero, suc, ◌+◌, ◌<◌, ◌≤◌, max, Bool, true, false, cond, eqb, List, [], ◌∷◌, length, get_or, All, inl, inr, refl, subst, arith}
+use Rattle.std.proofs.Common.{◌≡◌, ℕ, zero, suc, ◌+◌, ◌<◌, ◌≤◌, true, false, eqb, List, [], ◌∷◌, length, get_or, All, inl, inr, subst, arith}
 use Rattle.std.proofs.lemmas.Bool.Decides.{eqb_tells}
 use Rattle.std.proofs.lemmas.List.Elements.{All-head, All-tail}
 use Rattle.strip_mask.specs.Set.{has, without, size}
@@ -12,11 +12,7 @@ use Rattle.strip_film.specs.Finish.{IsAtMostFinish, steps_cost}
 use Rattle.strip_film.specs.Rules.{Rules, BoundsFinish, BeginLeast}
 use Rattle.strip_lines.specs.Lines.{known, IsJustified, AreJustified}
 use Rattle.strip_film.proofs.Lists.{ready_there}
-
--- a maximum that is taken on a test
-max_if : (b : Bool) (x y most : ℕ) → (b ≡ true → x ≤ most) → y ≤ most → cond b (max x y) y ≤ most
-max_if true x y most first second = (let one : x ≤ most = first refl in omega arith)
-max_if false x y most first second = second
+use Rattle.strip_lines.proofs.Grown.{at_most}
 
 module _ (rules : Rules) (lines : List Line) (is : IsFilm rules.film) (bounds : BoundsFinish rules) (begin : BeginLeast rules) where
   -- what is known of the film's sets of fewer than n scenes is true
@@ -43,7 +39,7 @@ module _ (rules : Rules) (lines : List Line) (is : IsFilm rules.film) (bounds : 
       → (set : ℕ) → LiesIn rules.film set → KnownBelow (size set) → IsAtMostFinish rules.film set (known rules some set)
   known_of [] are set lies smaller scenes each = bounds set lies scenes each
   known_of (line ∷ some) are set lies smaller scenes each =
-      max_if (eqb line.set set) line.bound (known rules some set) (steps_cost rules.film set scenes)
+      at_most (eqb line.set set) line.bound (known rules some set) (steps_cost rules.film set scenes)
       (λ test. elim (eqb_tells line.set set) [
         | inl same ↦ of_line same.1
         | inr other ↦ absurd (let e : eqb line.set set ≡ false = other.0 in cc)

@@ -1,5 +1,5 @@
 -- What a list of lines makes known, by the rules of a search.
-use Rattle.std.specs.Prelude.{◌≡◌, ◌≢◌, ℕ, ◌+◌, ◌<◌, ◌≤◌, ◌⊎◌, ◌==◌, max, min, true, if◌then◌else◌, List, [], ◌∷◌, length, slice_index_or, slice_set, All}
+use Rattle.std.specs.Prelude.{◌≡◌, ◌≢◌, ℕ, ◌+◌, ◌<◌, ◌≤◌, ◌⊎◌, ◌==◌, max, true, if◌then◌else◌, List, [], ◌∷◌, length, slice_index_or, slice_set, All}
 use Rattle.strip_mask.specs.Set.{has, without, members}
 use Rattle.strip_kind.specs.declared.kind.Kind.{Kind}
 use Rattle.strip_pay.specs.Film.{FilmData}
@@ -9,6 +9,7 @@ use Rattle.strip_film.specs.Shoot.{step_cost}
 use Rattle.strip_film.specs.Rules.{Rules}
 use Rattle.strip_bound.specs.Bounds.{bound}
 use Rattle.strip_rule.specs.Rule.{open_firsts}
+pub use Rattle.strip_mask.specs.Least.{least_at as least_of}
 
 -- the rules of a search by a film's static bounds of a kind and its open firsts
 abbrev pub rules_of : Kind → FilmData → Rules
@@ -18,11 +19,6 @@ rules_of kind film = record { film = film; bound = bound kind film; firsts = ope
 abbrev pub known : Rules → List Line → ℕ → ℕ
 known rules [] set = rules.bound set
 known rules (line ∷ lines) set = if line.set == set then max line.bound (known rules lines set) else known rules lines set
-
--- the least of the values at a number and at those of a list
-abbrev pub least_of : (ℕ → ℕ) → ℕ → List ℕ → ℕ
-least_of f x [] = f x
-least_of f x (y ∷ ys) = min (f x) (least_of f y ys)
 
 -- the least, over the scenes of a list, of a step and the static bound of what then remains; `none` where the list is empty
 abbrev pub least_step : Rules → ℕ → ℕ → List ℕ → ℕ

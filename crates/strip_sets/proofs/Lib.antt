@@ -1,8 +1,9 @@
-mod Sets
-mod Vectors
-mod Costs
+pub mod Sets
+pub mod Vectors
+pub mod FourSets
+pub mod Costs
 mod Passing
 mod TwoPlaces
 mod ByClass
-mod Parts
+pub mod Parts
 mod Once

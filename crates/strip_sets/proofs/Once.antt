@@ -1,14 +1,14 @@
 -- The laws: one result of a pass, and what is added at one set.
-use Rattle.std.proofs.Common.{◌≡◌, ◌≢◌, ℕ, zero, suc, ◌+◌, ◌^◌, ◌<◌, ◌≤◌, ◌==◌, Bool, true, false, not, ◌&&◌, cond, refl, sym, ap, ◌∙◌, subst, inl, inr, arith}
-use Rattle.std.proofs.lemmas.Bool.{cases_eq, false≢true}
+use Rattle.std.proofs.Common.{◌≡◌, ◌≢◌, ℕ, zero, suc, ◌+◌, ◌^◌, ◌<◌, ◌≤◌, ◌==◌, true, false, not, ◌&&◌, cond, sym, ap, ◌∙◌, subst, inl, inr, arith}
+use Rattle.std.proofs.lemmas.Bool.{cases_eq, false≢true, cases_Bool, false_from_ne_true}
 use Rattle.std.proofs.lemmas.Bool.Decides.{nat_tests}
 use Rattle.strip_mask.specs.Set.{has, minus, with, without}
 use Rattle.strip_mask.proofs.ByMembers.{empty_from, has-empty, has-minus, has-without, has-with_same, has_from_minus, has_from_without, with-without, without-with}
 use Rattle.strip_sets.specs.Numbers.{sum_within}
 use Rattle.strip_sets.specs.Pass.{Passes, counted}
 use Rattle.strip_sets.specs.Laws.{MoreInEachAbove, OneLeast}
-use Rattle.strip_sets.proofs.Parts.{counted_other, counted_same, within_same}
-use Rattle.strip_sets.proofs.Sets.{below_top, by_bit, lacks_top, without_less, without_top}
+use Rattle.strip_sets.proofs.Parts.{counted_other, counted_same, within_agree}
+use Rattle.strip_sets.proofs.Sets.{below_top, lacks_top, without_less, without_top}
 
 no_more : (places : ℕ) (cost : ℕ → ℕ → ℕ) (blocked first least other : ℕ → ℕ) → Passes places cost blocked first least → Passes places cost blocked first other
     → (m set : ℕ) → set < m → set < 2 ^ places → least set ≤ other set
@@ -30,10 +30,6 @@ one_least places cost blocked first least other a b set lt =
 
 -- ---- what is added at one set
 
--- numbers that agree below
-agree : (n : ℕ) (p q : ℕ → ℕ) (set : ℕ) → ((s : ℕ) → s < 2 ^ n → p s ≡ q s) → sum_within n p set ≡ sum_within n q set
-agree n p q set same = within_same n p q same set set (λ i lt. refl)
-
 -- whether a part lies in a set, by one place and the others
 test_same : (a b : ℕ) → ((a ≡ 0) → (b ≡ 0)) → ((b ≡ 0) → (a ≡ 0)) → (a == 0) ≡ (b == 0)
 test_same a b there back = elim (cases_eq a 0) [
@@ -43,18 +39,14 @@ test_same a b there back = elim (cases_eq a 0) [
 ]
 
 lies : (a set : ℕ) → minus a set ≡ 0 → (i : ℕ) → has a i ≡ true → has set i ≡ true
-lies a set none i there = elim (by_bit (has set i)) [
+lies a set none i there = elim (cases_Bool (has set i)) [
   | inl member ↦ member
   | inr missing ↦ absurd (false≢true (sym (has-empty i) ∙ ap (λ s. has s i) (sym none) ∙ has-minus a set i ∙ (λ k. there k && not (missing k))))
 ]
 
 none_out : (a set : ℕ) → ((i : ℕ) → has a i ≡ true → has set i ≡ true) → minus a set ≡ 0
-none_out a set part = empty_from (minus a set) (λ i. refuted (has (minus a set) i) (λ there. (let both = has_from_minus a set i there in
+none_out a set part = empty_from (minus a set) (λ i. false_from_ne_true (has (minus a set) i) (λ there. (let both = has_from_minus a set i there in
     false≢true (sym both.1 ∙ part i both.0))))
-  where
-    refuted : (b : Bool) → (b ≡ true → ⊥) → b ≡ false
-    refuted true not_so = absurd (not_so refl)
-    refuted false not_so = refl
 
 -- of a part with a place that the set has
 part_test : (n part set : ℕ) → has set n ≡ true → (minus (without part n) set == 0) ≡ (minus part set == 0)
@@ -73,23 +65,23 @@ more_in_each_above zero numbers part more set lt =
     let none : part ≡ 0 = omega (arith, lt) in
     let empty : minus part set ≡ 0 = none_out part set (λ i there. absurd (false≢true (sym (has-empty i) ∙ ap (λ s. has s i) (sym none) ∙ there))) in
     omega (arith, counted_same 0 part more (sym none), counted_same (minus part set) 0 more empty)
-more_in_each_above (suc n) numbers part more set lt = elim (by_bit (has part n)) [
+more_in_each_above (suc n) numbers part more set lt = elim (cases_Bool (has part n)) [
   | inl there ↦ (
       let rest : ℕ = without part n in
       let small : rest < 2 ^ n = without_top n part lt in
       let low : sum_within n (λ other. numbers other + counted (other == part) more) set ≡ sum_within n numbers set
-      = agree n (λ other. numbers other + counted (other == part) more) numbers set (λ other less. (
+      = within_agree n (λ other. numbers other + counted (other == part) more) numbers set (λ other less. (
       let apart : other ≢ part = λ same. false≢true (sym (lacks_top n other less) ∙ ap (λ s. has s n) same ∙ there) in
       omega (arith, counted_other other part more apart))) in
       let high : sum_within n (λ other. numbers (with other n) + counted (with other n == part) more) set
       ≡ sum_within n (λ other. numbers (with other n)) set + counted (minus rest set == 0) more
-      = agree n (λ other. numbers (with other n) + counted (with other n == part) more) (λ other. numbers (with other n) + counted (other == rest) more) set
+      = within_agree n (λ other. numbers (with other n) + counted (with other n == part) more) (λ other. numbers (with other n) + counted (other == rest) more) set
       (λ other less. ap (λ x. numbers (with other n) + x) (elim (cases_eq other rest) [
         | inl same ↦ counted_same (with other n) part more (ap (λ s. with s n) same ∙ with-without part n there) ∙ sym (counted_same other rest more same)
         | inr apart ↦ counted_other (with other n) part more (λ same. apart (sym (without-with other n (lacks_top n other less)) ∙ ap (λ s. without s n) same))
             ∙ sym (counted_other other rest more apart)
       ])) ∙ more_in_each_above n (λ other. numbers (with other n)) rest more set small in
-      elim (by_bit (has set n)) [
+      elim (cases_Bool (has set n)) [
         | inl member ↦ (
             let test : counted (minus rest set == 0) more ≡ counted (minus part set == 0) more = ap (λ t. counted t more) (part_test n part set member) in
             let new : cond {A = ℕ} (has set n) (sum_within n (λ other. numbers (with other n) + counted (with other n == part) more) set) 0
@@ -109,7 +101,7 @@ more_in_each_above (suc n) numbers part more set lt = elim (by_bit (has part n))
       let low : sum_within n (λ other. numbers other + counted (other == part) more) set ≡ sum_within n numbers set + counted (minus part set == 0) more
       = more_in_each_above n numbers part more set (below_top n part lt lacking) in
       let high : sum_within n (λ other. numbers (with other n) + counted (with other n == part) more) set ≡ sum_within n (λ other. numbers (with other n)) set
-      = agree n (λ other. numbers (with other n) + counted (with other n == part) more) (λ other. numbers (with other n)) set (λ other less. (
+      = within_agree n (λ other. numbers (with other n) + counted (with other n == part) more) (λ other. numbers (with other n)) set (λ other less. (
       let apart : with other n ≢ part = λ same. false≢true (sym lacking ∙ ap (λ s. has s n) (sym same) ∙ has-with_same other n) in
       omega (arith, counted_other (with other n) part more apart))) in
       let top : cond {A = ℕ} (has set n) (sum_within n (λ other. numbers (with other n) + counted (with other n == part) more) set) 0

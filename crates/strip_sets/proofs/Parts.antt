@@ -1,6 +1,6 @@
 -- What is computed for the sets without a place and for those with it, and so for all.
 use Rattle.std.proofs.Common.{◌≡◌, ◌≢◌, ℕ, zero, suc, ◌+◌, ◌-◌, ◌^◌, ◌<◌, ◌≤◌, ◌==◌, Bool, true, false, cond, List, [], ◌∷◌, length, slice_index, refl, sym, ap, ◌∙◌, inl, inr, arith}
-use Rattle.std.proofs.lemmas.Bool.{cases_eq, false≢true}
+use Rattle.std.proofs.lemmas.Bool.{cases_eq, false≢true, cases_Bool}
 use Rattle.std.proofs.lemmas.Bool.Decides.{nat_tests}
 use Rattle.strip_mask.specs.Set.{full, has, sum_over, union, with, without}
 use Rattle.strip_mask.proofs.ByMembers.{has-empty, has-without_other, has-without_same, with-without}
@@ -8,8 +8,8 @@ use Rattle.strip_mask.proofs.Below.{has_full}
 use Rattle.strip_mask.proofs.Totals.{sum_over-with}
 use Rattle.strip_sets.specs.Numbers.{halves, sum_within}
 use Rattle.strip_sets.specs.Pass.{counted}
-use Rattle.strip_sets.proofs.Sets.{by_bit, below_top, halves_at, halves_out, halves_with, lacks_top, sum_full_more, wider_top, with_is_more, with_top, without_top}
-use Rattle.strip_sets.proofs.TwoPlaces.{by_four}
+use Rattle.strip_sets.proofs.Sets.{below_top, halves_at, halves_out, halves_with, lacks_top, sum_full_more, wider_top, with_is_more, with_top, without_top}
+use Rattle.strip_sets.proofs.FourSets.{by_four}
 use Rattle.strip_sets.proofs.Vectors.{sum_at, sum_lanes}
 use lib.Lanes.{zip2}
 
@@ -19,7 +19,7 @@ module _ (n : ℕ) (a b f g h k : ℕ → ℕ) where
   -- what is made of them
   pub each_half : (op : ℕ → ℕ → ℕ → ℕ) (r s : ℕ → ℕ) → ((set : ℕ) → set < 2 ^ n → r set ≡ op (a set) (f set) (h set)) → ((set : ℕ) → set < 2 ^ n → s set ≡ op (b set) (g set) (k set))
       → (set : ℕ) → set < 2 ^ suc n → halves n r s set ≡ op (halves n a b set) (halves n f g set) (halves n h k set)
-  each_half op r s low high set small = elim (by_bit (has set n)) [
+  each_half op r s low high set small = elim (cases_Bool (has set n)) [
     | inl there ↦ halves_with n r s set there ∙ high (without set n) (without_top n set small)
         ∙ sym (λ i. op (halves_with n a b set there i) (halves_with n f g set there i) (halves_with n h k set there i))
     | inr missing ↦ halves_out n r s set missing ∙ low set (below_top n set small missing)
@@ -52,7 +52,7 @@ counted_other a b x other = (let t : (a == b) ≡ false = grind (arith, nat_test
 module _ (n : ℕ) (f g : ℕ → ℕ) (set number : ℕ) where
   pub adds_low : (r : ℕ → ℕ) → set < 2 ^ n → ((other : ℕ) → other < 2 ^ n → r other ≡ f other + counted (other == set) number) → (other : ℕ) → other < 2 ^ suc n
       → halves n r g other ≡ halves n f g other + counted (other == set) number
-  adds_low r lt added other small = elim (by_bit (has other n)) [
+  adds_low r lt added other small = elim (cases_Bool (has other n)) [
     | inl there ↦ (
         let apart : other ≢ set = λ same. false≢true (sym (lacks_top n set lt) ∙ ap (λ s. has s n) (sym same) ∙ there) in
         omega (arith, halves_with n r g other there, halves_with n f g other there, counted_other other set number apart))
@@ -62,7 +62,7 @@ module _ (n : ℕ) (f g : ℕ → ℕ) (set number : ℕ) where
   pub adds_high : (r : ℕ → ℕ) (place : ℕ) → place ≡ 2 ^ n → place ≤ set → set < 2 ^ suc n
       → ((other : ℕ) → other < 2 ^ n → r other ≡ g other + counted (other == set - place) number) → (other : ℕ) → other < 2 ^ suc n
       → halves n f r other ≡ halves n f g other + counted (other == set) number
-  adds_high r place is more small added other also = elim (by_bit (has other n)) [
+  adds_high r place is more small added other also = elim (cases_Bool (has other n)) [
     | inl there ↦ (
         let lt : without other n < 2 ^ n = without_top n other also in
         let value : other ≡ without other n + 2 ^ n = sym (with-without other n there) ∙ with_is_more n (without other n) lt in
@@ -80,7 +80,7 @@ module _ (n : ℕ) (f g : ℕ → ℕ) (set number : ℕ) where
 -- one number for the empty set, and another one for each other set
 pub apart_halves : (n : ℕ) (f g : ℕ → ℕ) (none others : ℕ) → ((set : ℕ) → set < 2 ^ n → f set ≡ cond {A = ℕ} (set == 0) none others)
     → ((set : ℕ) → set < 2 ^ n → g set ≡ others) → (set : ℕ) → set < 2 ^ suc n → halves n f g set ≡ cond {A = ℕ} (set == 0) none others
-apart_halves n f g none others low high set small = elim (by_bit (has set n)) [
+apart_halves n f g none others low high set small = elim (cases_Bool (has set n)) [
   | inl there ↦ (
       let some : set ≢ 0 = λ is. false≢true (sym (has-empty n) ∙ ap (λ s. has s n) (sym is) ∙ there) in
       let test : (set == 0) ≡ false = grind (arith, nat_tests) in
@@ -94,7 +94,7 @@ pub other_sums_halves : (numbers : List ℕ) (n : ℕ) → n < 64 → (first nex
     → ((set : ℕ) → set < 2 ^ n → f set + sum_over numbers set ≡ next + sum_over numbers (full n))
     → ((set : ℕ) → set < 2 ^ n → g set + sum_over numbers set ≡ first + sum_over numbers (full n)) → (set : ℕ) → set < 2 ^ suc n
     → halves n f g set + sum_over numbers set ≡ first + sum_over numbers (full (suc n))
-other_sums_halves numbers n few first next f g is low high set small = elim (by_bit (has set n)) [
+other_sums_halves numbers n few first next f g is low high set small = elim (cases_Bool (has set n)) [
   | inl there ↦ (
       let lt : without set n < 2 ^ n = without_top n set small in
       let more : sum_over numbers (with (without set n) n) ≡ sum_over numbers (without set n) + slice_index numbers n
@@ -127,6 +127,9 @@ within_same (suc n) p q same set other alike =
     let high : sum_within n (λ part. p (with part n)) set ≡ sum_within n (λ part. q (with part n)) other
     = within_same n (λ part. p (with part n)) (λ part. q (with part n)) (λ s lt. same (with s n) (with_top n s lt)) set other (λ i lt. alike i (omega (arith, lt))) in
     λ i. low i + cond {A = ℕ} (alike n (omega arith) i) (high i) 0
+
+pub within_agree : (n : ℕ) (p q : ℕ → ℕ) (set : ℕ) → ((s : ℕ) → s < 2 ^ n → p s ≡ q s) → sum_within n p set ≡ sum_within n q set
+within_agree n p q set same = within_same n p q same set set (λ i lt. refl)
 
 -- no more than of a greater set
 within_most : (n : ℕ) (p : ℕ → ℕ) (set other : ℕ) → ((i : ℕ) → i < n → has set i ≡ true → has other i ≡ true) → sum_within n p set ≤ sum_within n p other
@@ -181,7 +184,7 @@ module _ (n : ℕ) (f g : ℕ → ℕ) where
 
     pub below_halves : (both : ℕ → ℕ) → ((set : ℕ) → set < 2 ^ n → both set ≡ high set + low set) → (set : ℕ) → set < 2 ^ suc n
         → halves n low both set ≡ sum_within (suc n) (halves n f g) set
-    below_halves both sum set small = elim (by_bit (has set n)) [
+    below_halves both sum set small = elim (cases_Bool (has set n)) [
       | inl there ↦ (
           let lt : without set n < 2 ^ n = without_top n set small in
           omega (arith, halves_with n low both set there, sum (without set n) lt, lows (without set n) lt, highs (without set n) lt, within_with set there))

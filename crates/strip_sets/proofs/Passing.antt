@@ -1,13 +1,13 @@
 -- The least numbers of the sets without a place and of those with it.
 use Rattle.std.proofs.Common.{◌≡◌, ◌≢◌, ℕ, suc, ◌+◌, ◌*◌, ◌^◌, ◌<◌, ◌≤◌, ◌⊎◌, Bool, true, false, refl, sym, ap, ◌∙◌, subst, inl, inr, arith}
-use Rattle.std.proofs.lemmas.Bool.{cases_eq, false≢true}
+use Rattle.std.proofs.lemmas.Bool.{cases_eq, false≢true, cases_Bool}
 use Rattle.strip_mask.specs.Set.{has, with, without}
 use Rattle.strip_mask.specs.Sums.{sum_below}
-use Rattle.strip_mask.proofs.ByMembers.{has-empty, has-with_same, has-with_other, has-without_other, has-without_same, has_from_without, with-without, without-with}
+use Rattle.strip_mask.proofs.ByMembers.{has-empty, has-with_same, has-with_other, has-without_other, has-without_same, has_from_without, with-without, without-with, without_swap}
 use Rattle.strip_sets.specs.Numbers.{halves}
 use Rattle.strip_sets.specs.Pass.{HasRoom, Passes, cost, cost_from, counted, lowered}
 use Rattle.strip_sets.proofs.Costs.{costs_most, costs_same, lowered_equal, lowered_is, lowered_most, lowered_same, totals_same}
-use Rattle.strip_sets.proofs.Sets.{by_bit, below_top, halves_at, halves_out, halves_with, lacks_top, with_top, wider_top, without_less, without_most, without_swap, without_top, without_with}
+use Rattle.strip_sets.proofs.Sets.{below_top, halves_at, halves_out, halves_with, lacks_top, with_top, wider_top, without_less, without_most, without_top, without_with}
 
 -- numbers of classes, by those of the sets without a place and of those with it
 pub record AreParts (n : ℕ) (all out within : ℕ → ℕ → ℕ) : Type 0 where
@@ -98,7 +98,7 @@ module _ (n classes : ℕ) {weights days weights_out days_out weights_in days_in
     mid_at set small = between (without set n) (without_top n set small)
 
     kept_all : (set : ℕ) → set < 2 ^ suc n → least set ≤ first set
-    kept_all set small = elim (by_bit (has set n)) [
+    kept_all set small = elim (cases_Bool (has set n)) [
       | inl there ↦ omega (
         arith,
         halves_with n first_out first_in set there,
@@ -125,7 +125,7 @@ module _ (n classes : ℕ) {weights days weights_out days_out weights_in days_in
 
     lower_all : (set place : ℕ) → set < 2 ^ suc n → has set place ≡ true → blocked (without set place) ≡ blocked set
         → least set ≤ least (without set place) + cost classes weights days set (without set place)
-    lower_all set place small member same = elim (by_bit (has set n)) [
+    lower_all set place small member same = elim (cases_Bool (has set n)) [
       | inl there ↦ (
           let here : least set ≡ least_in (without set n) = halves_with n least_out least_in set there in
           let block : blocked set ≡ blocked_in (without set n) = halves_with n blocked_out blocked_in set there in
@@ -166,7 +166,7 @@ module _ (n classes : ℕ) {weights days weights_out days_out weights_in days_in
         × (least set ≡ least (without set place) + cost classes weights days set (without set place)))
 
     attained_all : (set : ℕ) → set < 2 ^ suc n → Attained set
-    attained_all set small = elim (by_bit (has set n)) [
+    attained_all set small = elim (cases_Bool (has set n)) [
       | inl there ↦ (
           let here : least set ≡ least_in (without set n) = halves_with n least_out least_in set there in
           let block : blocked set ≡ blocked_in (without set n) = halves_with n blocked_out blocked_in set there in
@@ -313,7 +313,7 @@ module _ (n classes most : ℕ) {weights days before weights_out days_out before
       → ((set : ℕ) → set < 2 ^ n → s set ≡ lowered (c set) (g set + cost_from classes weights_in days_in before_in set) (k set) (y set))
       → (set : ℕ) → set < 2 ^ suc n
       → halves n r s set ≡ lowered (halves n a c set) (halves n f g set + cost_from classes weights days before set) (halves n h k set) (halves n x y set)
-  lowered_halves a c f g h k x y r s low high set small = elim (by_bit (has set n)) [
+  lowered_halves a c f g h k x y r s low high set small = elim (cases_Bool (has set n)) [
     | inl there ↦ (
         let lt : without set n < 2 ^ n = without_top n set small in
         let price : cost_from classes weights_in days_in before_in (without set n) ≡ cost_from classes weights days before set = step_in (without set n) lt
@@ -331,7 +331,7 @@ module _ (n classes most : ℕ) {weights days before weights_out days_out before
 -- ---- what is blocked, where it counts
 
 pub counted_halves : (n : ℕ) (guards : Bool) (f g : ℕ → ℕ) (set : ℕ) → halves n (λ s. counted guards (f s)) (λ s. counted guards (g s)) set ≡ counted guards (halves n f g set)
-counted_halves n guards f g set = elim (by_bit (has set n)) [
+counted_halves n guards f g set = elim (cases_Bool (has set n)) [
   | inl there ↦ halves_with n (λ s. counted guards (f s)) (λ s. counted guards (g s)) set there ∙ ap (counted guards) (sym (halves_with n f g set there))
   | inr missing ↦ halves_out n (λ s. counted guards (f s)) (λ s. counted guards (g s)) set missing ∙ ap (counted guards) (sym (halves_out n f g set missing))
 ]

@@ -1,7 +1,7 @@
 -- Sets of a few places, as masks of as many bits.
-use Rattle.std.proofs.Common.{◌≡◌, ◌≢◌, ℕ, zero, suc, List, slice_index, bit_or, ◌+◌, ◌*◌, ◌-◌, ◌%◌, ◌^◌, ◌<◌, ◌≤◌, ◌⊎◌, Bool, true, false, not, cond, eqb, bit_and}
-use Rattle.std.proofs.Common.{◌&&◌, ◌||◌, refl, sym, ap, ◌∙◌, subst, inl, inr, arith, pow_pos}
-use Rattle.std.proofs.lemmas.Bool.{cases_eq, false≢true}
+use Rattle.std.proofs.Common.{◌≡◌, ◌≢◌, ℕ, zero, suc, List, slice_index, bit_or, ◌+◌, ◌*◌, ◌-◌, ◌%◌, ◌^◌, ◌<◌, ◌≤◌, Bool, true, false, not, cond, eqb, bit_and}
+use Rattle.std.proofs.Common.{◌&&◌, ◌||◌, sym, ap, ◌∙◌, subst, inl, inr, arith, pow_pos}
+use Rattle.std.proofs.lemmas.Bool.{cases_eq, false≢true, cases_Bool, false_from_ne_true}
 use Rattle.std.proofs.lemmas.Bool.Decides.{nat_tests}
 use Rattle.std.proofs.lemmas.Nat.{or_lt, pow_below, le_or_l, and_le_r}
 use Rattle.strip_mask.specs.Set.{LiesBelow, full, has, meet, sum_over, union, with, without}
@@ -11,21 +11,7 @@ use Rattle.strip_mask.proofs.ByMembers.{below_width, has-meet, has-with_same, ha
 use Rattle.strip_mask.proofs.ByMembers.{has_from_without, same_has, with-without, without-with, without_absent}
 use Rattle.strip_mask.proofs.Below.{LiesBelow-full, full-zero, full-more, has_full}
 use Rattle.strip_sets.specs.Numbers.{halves}
-
--- ---- tests
-
-pub refuted : (b : Bool) → (b ≡ true → ⊥) → b ≡ false
-refuted true not_so = absurd (not_so refl)
-refuted false not_so = refl
-
-pub same_test : (a b : Bool) → (a ≡ true → b ≡ true) → (b ≡ true → a ≡ true) → a ≡ b
-same_test true b there back = sym (there refl)
-same_test false true there back = back refl
-same_test false false there back = refl
-
-pub by_bit : (b : Bool) → (b ≡ true) ⊎ (b ≡ false)
-by_bit true = inl refl
-by_bit false = inr refl
+use Rattle.strip_mask.proofs.Agree.{and_implied}
 
 -- ---- sets of a few numbers, as masks of as many bits
 
@@ -52,7 +38,7 @@ without_less set i there =
     ]
 
 pub without_most : (set i : ℕ) → without set i ≤ set
-without_most set i = elim (by_bit (has set i)) [
+without_most set i = elim (cases_Bool (has set i)) [
   | inl there ↦ (let less : without set i < set = without_less set i there in omega (arith, less))
   | inr missing ↦ (let same : without set i ≡ set = without_absent set i missing in omega (arith, same))
 ]
@@ -66,13 +52,9 @@ full_small (suc n) most le =
 pub lies_small : (n set : ℕ) → LiesBelow n set → set < 2 ^ n
 unfolding meet
 lies_small n set lies =
-    let same : set ≡ bit_and set (full n) = same_has set (meet set (full n)) (λ i. kept (has set i) (has (full n) i) (λ there. has_full n i (lies i there)) ∙ sym
+    let same : set ≡ bit_and set (full n) = same_has set (meet set (full n)) (λ i. and_implied (has set i) (has (full n) i) (λ there. has_full n i (lies i there)) ∙ sym
     (has-meet set (full n) i)) in
     omega (arith, same, and_le_r set (full n), full_small n n (omega arith))
-  where
-    kept : (a b : Bool) → (a ≡ true → b ≡ true) → a ≡ (a && b)
-    kept true b within = sym (within refl)
-    kept false b within = refl
 
 -- ---- sets of one place more
 
@@ -87,7 +69,7 @@ below_top n set small missing = lies_small n set (λ i there. (let lt : i < suc 
 ]))
 
 pub lacks_top : (n set : ℕ) → set < 2 ^ n → has set n ≡ false
-lacks_top n set small = refuted (has set n) (λ there. omega (arith, below_width set n n small there))
+lacks_top n set small = false_from_ne_true (has set n) (λ there. omega (arith, below_width set n n small there))
 
 pub halves_with : (n : ℕ) (f g : ℕ → ℕ) (set : ℕ) → has set n ≡ true → halves n f g set ≡ g (without set n)
 halves_with n f g set there = ap (λ (b : Bool). cond {A = ℕ} b (g (without set n)) (f set)) there
@@ -107,17 +89,6 @@ with_top n set small = with_small (suc n) set n (wider n set small) (omega arith
 
 pub wider_top : (n set : ℕ) → set < 2 ^ n → set < 2 ^ suc n
 wider_top n set lt = lies_small (suc n) set (λ i there. (let below : i < n = below_width set n i lt there in omega (arith, below)))
-
-pub without_swap : (set i j : ℕ) → without (without set i) j ≡ without (without set j) i
-without_swap set i j = same_has (without (without set i) j) (without (without set j) i) (λ k. has-without (without set i) j k ∙ ap (λ (b : Bool). not (eqb j k) && b)
-    (has-without set i k)
-    ∙ swap (not (eqb j k)) (not (eqb i k)) (has set k) ∙ sym (has-without (without set j) i k ∙ ap (λ (b : Bool). not (eqb i k) && b) (has-without set j k)))
-  where
-    swap : (a b c : Bool) → (a && (b && c)) ≡ (b && (a && c))
-    swap true true c = refl
-    swap true false c = refl
-    swap false true c = refl
-    swap false false c = refl
 
 -- one number in, another one out
 pub without_with : (set i j : ℕ) → j ≢ i → without (with set i) j ≡ with (without set j) i
@@ -140,7 +111,7 @@ module _ (n : ℕ) (f g : ℕ → ℕ) where
   -- a fact of each number
   pub by_parts : (P : ℕ → ℕ → Type 0) → ((set : ℕ) → set < 2 ^ n → has set n ≡ false → P set (f set)) → ((set : ℕ) → set < 2 ^ suc n → has set n ≡ true → P set (g (without set n)))
       → (set : ℕ) → set < 2 ^ suc n → P set (halves n f g set)
-  by_parts P out in_it set small = elim (by_bit (has set n)) [
+  by_parts P out in_it set small = elim (cases_Bool (has set n)) [
     | inl there ↦ subst (P set) (sym (halves_with n f g set there)) (in_it set small there)
     | inr missing ↦ subst (P set) (sym (halves_out n f g set missing)) (out set (below_top n set small missing) missing)
   ]

@@ -1,96 +1,30 @@
--- The four sets of two places.
-use Rattle.std.proofs.Common.{◌≡◌, ℕ, suc, zero, ◌+◌, ◌<◌, ◌≤◌, ◌⊎◌, Bool, true, false, List, [], ◌∷◌, slice_index, refl, sym, ap, ◌∙◌, subst, inl, inr, arith}
-use Rattle.std.proofs.lemmas.Bool.{cases_lt, false≢true}
-use Rattle.strip_mask.specs.Set.{full, has, minus, sum_over, union, with, without}
-use Rattle.strip_mask.proofs.Totals.{sum_over-empty, sum_over-with}
-use Rattle.strip_mask.proofs.ByMembers.{below_width, has-empty}
+-- The four sets of two places, lowered from one another.
+use Rattle.std.proofs.Common.{◌≡◌, ℕ, ◌+◌, ◌<◌, ◌≤◌, ◌⊎◌, Bool, true, List, [], ◌∷◌, slice_index, refl, sym, ap, ◌∙◌, subst, inl, inr, arith}
+use Rattle.std.proofs.lemmas.Bool.{false≢true}
+use Rattle.strip_mask.specs.Set.{full, has, sum_over, without}
+use Rattle.strip_mask.proofs.Totals.{sum_over-empty}
+use Rattle.strip_mask.proofs.ByMembers.{empty_has}
 use Rattle.strip_sets.specs.declared.terms.Classes.{Classes}
 use Rattle.strip_sets.specs.Numbers.{AreLanes, CanStep, Steps, by_class, step_from, step_to}
 use Rattle.strip_sets.specs.Pass.{HasRoom, Passes, cost, counted, lowered}
+use Rattle.strip_sets.proofs.FourSets.{both_without_first, both_without_second, by_four, full_two, has_these, lacks, sum_both, sum_first, sum_second, two, without_first, without_second}
 use Rattle.strip_sets.proofs.Costs.{costs_most, costs_same, lowered_is, lowered_itself, lowered_most, lowered_same, totals_same}
-
-pub by_four : (P : ℕ → Type 0) → P 0 → P 1 → P 2 → P 3 → (set : ℕ) → set < 4 → P set
-by_four P none first second both zero lt = none
-by_four P none first second both (suc zero) lt = first
-by_four P none first second both (suc (suc zero)) lt = second
-by_four P none first second both (suc (suc (suc zero))) lt = both
-by_four P none first second both (suc (suc (suc (suc n)))) lt = absurd (omega (arith, lt))
 
 pub zero_at : (lane : ℕ) → lane < 4 → slice_index (0 ∷ 0 ∷ 0 ∷ 0 ∷ []) lane ≡ 0
 zero_at = by_four (λ lane. slice_index (0 ∷ 0 ∷ 0 ∷ 0 ∷ []) lane ≡ 0) refl refl refl refl
 
--- ---- the sets
-
-pub full_two : full 2 ≡ 3
-unfolding full with union
-full_two = refl
-
-with_first : with 0 0 ≡ 1
-unfolding with union
-with_first = refl
-
-with_second : with 0 1 ≡ 2
-unfolding with union
-with_second = refl
-
-with_both : with 1 1 ≡ 3
-unfolding with union
-with_both = refl
-
-has_none : (place : ℕ) → has 0 place ≡ true → ⊥
-has_none place there = false≢true (sym (has-empty place) ∙ there)
-
-without_first : without 1 0 ≡ 0
-unfolding without minus
-without_first = refl
-
-without_second : without 2 1 ≡ 0
-unfolding without minus
-without_second = refl
-
-both_without_first : without 3 0 ≡ 2
-unfolding without minus
-both_without_first = refl
-
-both_without_second : without 3 1 ≡ 1
-unfolding without minus
-both_without_second = refl
-
-lacks : (has 1 1 ≡ false) × (has 2 0 ≡ false)
-unfolding has
-lacks = (refl, refl)
-
-has_these : (has 1 0 ≡ true) × (has 2 1 ≡ true) × (has 3 0 ≡ true) × (has 3 1 ≡ true)
-unfolding has
-has_these = (refl, refl, refl, refl)
-
-two : (set place : ℕ) → has set place ≡ true → set < 4 → (place ≡ 0) ⊎ (place ≡ 1)
-two set place there small = (let below : place < 2 = below_width set 2 place small there in elim (cases_lt place 1) [
-  | inl zero_is ↦ inl (omega (arith, zero_is))
-  | inr one ↦ inr (omega (arith, one, below))
-])
-
 -- ---- sums
 
 module _ (numbers : List ℕ) where
-  sum_first : sum_over numbers 1 ≡ slice_index numbers 0
-  sum_first = ap (sum_over numbers) (sym with_first) ∙ sum_over-with numbers 0 0 (omega arith) (has-empty 0) ∙ (let none = sum_over-empty numbers in omega (arith, none))
-
-  sum_second : sum_over numbers 2 ≡ slice_index numbers 1
-  sum_second = ap (sum_over numbers) (sym with_second) ∙ sum_over-with numbers 0 1 (omega arith) (has-empty 1) ∙ (let none = sum_over-empty numbers in omega (arith, none))
-
-  pub sum_both : sum_over numbers 3 ≡ slice_index numbers 0 + slice_index numbers 1
-  sum_both = ap (sum_over numbers) (sym with_both) ∙ sum_over-with numbers 1 1 (omega arith) lacks.0 ∙ (let first = sum_first in omega (arith, first))
-
   pub sum_full : sum_over numbers (full 2) ≡ slice_index numbers 0 + slice_index numbers 1
-  sum_full = ap (sum_over numbers) full_two ∙ sum_both
+  sum_full = ap (sum_over numbers) full_two ∙ sum_both numbers
 
   pub sums_of_two : (first : ℕ) → (set : ℕ) → set < 4
       → slice_index (first ∷ (first + slice_index numbers 0) ∷ (first + slice_index numbers 1) ∷ (first + slice_index numbers 0 + slice_index numbers 1) ∷ []) set
       ≡ first + sum_over numbers set
   sums_of_two first = by_four (λ set. slice_index (first ∷ (first + slice_index numbers 0) ∷ (first + slice_index numbers 1)
       ∷ (first + slice_index numbers 0 + slice_index numbers 1) ∷ []) set ≡ first + sum_over numbers set)
-      (omega (arith, sum_over-empty numbers)) (omega (arith, sum_first)) (omega (arith, sum_second)) (omega (arith, sum_both))
+      (omega (arith, sum_over-empty numbers)) (omega (arith, sum_first numbers)) (omega (arith, sum_second numbers)) (omega (arith, sum_both numbers))
 
 -- ---- one step
 
@@ -351,7 +285,7 @@ module _ (costs : ℕ → ℕ → ℕ) (blocked begun one after least : ℕ → 
           after_both,
           lowered_most (begun 3) (least 1 + costs 3 1) (blocked 3) (blocked 1),
         ));
-    lower = λ set place lt. by_four Lower (λ place there. absurd (has_none place there)) lower_first lower_second lower_both set lt place;
+    lower = λ set place lt. by_four Lower (λ place there. absurd (empty_has place there)) lower_first lower_second lower_both set lt place;
     attained = by_four Attained (inl least_none) reached_first reached_second reached_both;
   }
 

@@ -9,8 +9,8 @@ use Rattle.strip_film.specs.Film.{all_scenes}
 use Rattle.strip_film.specs.Finish.{EachOnce, Remained, rest_after}
 use Rattle.strip_film.specs.Shoot.{ready}
 use Rattle.strip_film.proofs.ByPairs.{ready_is, is_ready}
-use Rattle.strip_film.proofs.Lists.{AllRemained-from_ready, has_from_list}
-use Rattle.strip_start.proofs.Parts.{AreFirsts-parts, AreFirsts-joined, rest_after-parts}
+use Rattle.strip_film.proofs.Lists.{AllRemained-from_ready, has_from_list, rest_after-parts}
+use Rattle.strip_start.proofs.Parts.{AreFirsts-parts, AreFirsts-joined}
 
 -- neighbours that begin a list can change places unless a pair puts the first before the second
 turned_first : (film : FilmData) (set first second : ℕ) (behind : List ℕ) → ¬ Precedes film.pairs first second

@@ -1,12 +1,12 @@
 -- Lists in two parts.
-use Rattle.std.proofs.Common.{◌≡◌, ℕ, ◌+◌, true, false, List, [], ◌∷◌, ◌++◌, Contains, inl, inr, refl, sym, ◌∙◌, subst, arith}
+use Rattle.std.proofs.Common.{◌≡◌, ℕ, ◌+◌, true, false, List, [], ◌∷◌, ◌++◌, Contains, inl, inr, sym, ◌∙◌, subst, arith}
 use Rattle.std.proofs.lemmas.Bool.Decides.{eqb_tells}
 use Rattle.strip_mask.specs.Set.{has, without}
 use Rattle.strip_mask.proofs.ByMembers.{has-without_same, has-without_other, still_out}
 use Rattle.strip_pay.specs.Film.{FilmData}
 use Rattle.strip_mask.proofs.Lists.{contains_here, contains_later, contains_cases, contains_none}
 use Rattle.strip_film.specs.Finish.{AreFirsts, rest_after, steps_cost}
-use Rattle.strip_film.proofs.Lists.{AllOnce}
+use Rattle.strip_film.proofs.Lists.{AllOnce, rest_after-parts}
 
 pub AreFirsts-parts : (firsts : ℕ → ℕ) (set : ℕ) (xs ys : List ℕ) → AreFirsts firsts set (xs ++ ys)
     → AreFirsts firsts set xs × AreFirsts firsts (rest_after set xs) ys
@@ -19,10 +19,6 @@ pub AreFirsts-joined : (firsts : ℕ → ℕ) (set : ℕ) (xs ys : List ℕ) →
     → AreFirsts firsts set (xs ++ ys)
 AreFirsts-joined firsts set [] ys front back = back
 AreFirsts-joined firsts set (x ∷ xs) ys front back = (front.0, AreFirsts-joined firsts (without set x) xs ys front.1 back)
-
-pub rest_after-parts : (set : ℕ) (xs ys : List ℕ) → rest_after set (xs ++ ys) ≡ rest_after (rest_after set xs) ys
-rest_after-parts set [] ys = refl
-rest_after-parts set (x ∷ xs) ys = rest_after-parts (without set x) xs ys
 
 pub steps_cost-parts : (film : FilmData) (set : ℕ) (xs ys : List ℕ)
     → steps_cost film set (xs ++ ys) ≡ steps_cost film set xs + steps_cost film (rest_after set xs) ys

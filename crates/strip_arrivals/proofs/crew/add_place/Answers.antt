@@ -6,7 +6,7 @@ use Rattle.strip_mask.proofs.ByMembers.{has-empty}
 use Rattle.strip_mask.proofs.Turns.{turn_below, turns_all}
 use Rattle.strip_arrivals.specs.Arrivals.{actors_of}
 use Rattle.strip_arrivals.proofs.ByPlace.{each_written, with_chosen}
-use Rattle.strip_group.proofs.Places.{with_small}
+use Rattle.strip_sets.proofs.Sets.{with_small}
 use Rattle.strip_arrivals.proofs.Sets.{actors_members}
 use Rattle.strip_arrivals.proofs.crew.add_place.Goals as goal
 

@@ -4,7 +4,7 @@ use Rattle.strip_mask.specs.Set.{has}
 use Rattle.strip_mask.proofs.ByMembers.{has-empty}
 use Rattle.strip_mask.proofs.Turns.{turn_member, turns_all}
 use Rattle.strip_arrivals.proofs.ByPlace.{each_written}
-use Rattle.strip_group.proofs.Places.{zeros}
+use Rattle.strip_mask.proofs.Lists.{zeros}
 use Rattle.strip_arrivals.proofs.Sets.{actors_members}
 use Rattle.strip_arrivals.proofs.crew.holds_at.Goals as goal
 

@@ -2,17 +2,16 @@ use Rattle.std.proofs.Common.{rules, ◌≡◌, ℕ, true, List, Contains, slice
 use Rattle.std.proofs.lemmas.Bool.{or_left, or_right}
 use Rattle.strip_mask.specs.Iter.{rest_of}
 use Rattle.strip_mask.specs.Set.{has}
-use Rattle.strip_mask.proofs.ByMembers.{has-union, has_from_union}
+use Rattle.strip_mask.proofs.ByMembers.{has-union, has_from_union, empty_has}
 use Rattle.strip_mask.proofs.Members.{Contains-members, has_from_members}
 use Rattle.strip_mask.proofs.Turns.{turn_below, turns_all}
 use Rattle.strip_arrivals.proofs.ByPlace.{listed_before, listed_last, listed_more}
-use Rattle.strip_arrivals.proofs.Casts.{nobody}
-use Rattle.strip_arrivals.proofs.Lists.{contains_none}
+use Rattle.strip_mask.proofs.Lists.{contains_none}
 use Rattle.strip_arrivals.proofs.crew.works_in.Goals as goal
 
 pub loop-scene-init : goal.loop-scene-init
 loop-scene-init c = record {
-  some = λ place there. absurd (nobody place there);
+  some = λ place there. absurd (empty_has place there);
   all = λ scene place listed there. absurd (contains_none scene listed);
   turns = ap rest_of c.into_iter-scene-iterator.ensures.into_iter_gives ∙ c.iter-scene-items.ensures.left;
 }

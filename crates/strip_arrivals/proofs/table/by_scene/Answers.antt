@@ -1,7 +1,7 @@
 use Rattle.std.proofs.Common.{◌≡◌, ℕ, ◌<◌, length, slice_index, slice_set, sym, ◌∙◌, subst, inl, inr, arith, length-set, get_or-set_other, get_or-set_same}
 use Rattle.std.proofs.lemmas.Bool.{cases_eq, cases_lt}
 use Rattle.std.proofs.lemmas.List.{get_or_past, length-replicate}
-use Rattle.strip_group.proofs.Places.{zeros}
+use Rattle.strip_mask.proofs.Lists.{zeros}
 use Rattle.strip_arrivals.proofs.table.by_scene.Goals as goal
 
 pub loop-scene-init : goal.loop-scene-init

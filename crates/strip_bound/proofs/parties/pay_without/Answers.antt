@@ -1,5 +1,5 @@
 use Rattle.std.proofs.Common.{refl, arith}
-use Rattle.strip_bound.proofs.Steps.{zeros}
+use Rattle.strip_mask.proofs.Lists.{zeros}
 use Rattle.strip_bound.proofs.parties.pay_without.Goals as goal
 
 pub loop-actor-init : goal.loop-actor-init

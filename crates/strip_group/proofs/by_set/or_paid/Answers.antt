@@ -1,6 +1,7 @@
 use Rattle.std.proofs.Common.{◌≡◌, ◌+◌, ◌*◌, ◌∙◌, ℕ, ap, arith, length, max, slice_index}
 use lib.Lanes.{zip2}
-use Rattle.strip_group.proofs.Lanes.{greater_at, greater_lanes, product_at, product_lanes, products_fit, sum_at, sum_lanes, sums_fit}
+use Rattle.strip_sets.proofs.Vectors.{products_fit, sums_fit, product_at, sum_at, product_lanes, sum_lanes}
+use Rattle.strip_group.proofs.Lanes.{greater_at, greater_lanes}
 use Rattle.strip_group.proofs.by_set.or_paid.Goals as goal
 
 pub overflow_mul-result : goal.overflow_mul-result

@@ -1,6 +1,6 @@
 use Rattle.std.proofs.Common.{◌∙◌, arith, length-set, slice_index}
 use Rattle.strip_group.specs.Days.{block_of}
-use Rattle.strip_group.proofs.Places.{written}
+use Rattle.strip_mask.proofs.Lists.{written}
 use Rattle.strip_group.proofs.days.blocks_of.Goals as goal
 
 pub loop-place-preserved : goal.loop-place-preserved

@@ -4,7 +4,8 @@ use Rattle.strip_mask.specs.Set.{IsSet, has, sum_over, without}
 use Rattle.strip_mask.proofs.ByMembers.{below_64}
 use Rattle.strip_mask.proofs.Sizes.{first_is, first_none}
 use Rattle.strip_group.proofs.Blocks.{drop_sum, table_next, table_none}
-use Rattle.strip_group.proofs.Places.{without_less, written, zeros}
+use Rattle.strip_mask.proofs.Lists.{zeros, written}
+use Rattle.strip_sets.proofs.Sets.{without_less}
 use Rattle.strip_group.proofs.days.table_from.Goals as goal
 
 pub loop-number-init : goal.loop-number-init

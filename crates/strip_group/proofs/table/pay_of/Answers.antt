@@ -1,7 +1,7 @@
 use Rattle.std.proofs.Common.{◌∙◌, arith}
 use Rattle.strip_group.specs.Saved.{left_by}
 use Rattle.strip_group.proofs.Alone.{alone_of_six}
-use Rattle.strip_group.proofs.Places.{sum_over_le_all}
+use Rattle.strip_mask.proofs.Totals.{sum_over_le_sum}
 use Rattle.strip_group.proofs.Saved.{room_of, saved_of_six}
 use Rattle.strip_group.proofs.table.pay_of.Goals as goal
 
@@ -12,7 +12,7 @@ saved-requires-clause-room g c = room_of g.T.BySet.places g.T.BySet.most c.args.
 
 pub paid_alone-requires-clause-days : goal.paid_alone-requires-clause-days
 paid_alone-requires-clause-days g c = λ set lt. (
-    let all = sum_over_le_all c.args.sums.now (left_by c.args.stays.now g.T.BySet.places set c.args.q.0) c.requires.short in
+    let all = sum_over_le_sum c.args.sums.now (left_by c.args.stays.now g.T.BySet.places set c.args.q.0) c.requires.short in
     let told = c.by_set-days.ensures set lt in
     omega (arith, all, told, c.requires.day_sum))
 

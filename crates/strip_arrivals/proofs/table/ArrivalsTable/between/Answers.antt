@@ -1,5 +1,5 @@
-use Rattle.std.proofs.Common.{◌≡◌, ℕ, ◌+◌, ◌*◌, ◌^◌, ◌<◌, ◌≤◌, Bool, true, false, cond, eqb, [], ◌∷◌, min, slice_index, subst, sym, arith}
-use Rattle.std.proofs.Math.Nat.{min-le_left, pow-le-pow_right}
+use Rattle.std.proofs.Common.{◌≡◌, ℕ, ◌+◌, ◌*◌, ◌^◌, ◌<◌, ◌≤◌, eqb, [], ◌∷◌, slice_index, subst, sym, arith}
+use Rattle.std.proofs.Math.Nat.{pow-le-pow_right}
 use Rattle.std.proofs.lemmas.Bool.{eq-eqb, eqb-true}
 use Rattle.strip_mask.specs.Set.{size, with}
 use Rattle.strip_mask.proofs.ByMembers.{below_64, has-with_same}
@@ -14,14 +14,7 @@ use Rattle.strip_arrivals.proofs.Room.{days_low, one_low}
 use Rattle.strip_arrivals.proofs.Staged.{guarded_row, one_days, one_prices, one_room, rates_all_low, two_of}
 use Rattle.strip_arrivals.proofs.Stages.{stage_between}
 use Rattle.strip_arrivals.proofs.table.ArrivalsTable.between.Goals as goal
-
--- what is lowered is no more
-lowered_most : (number other blocked before : ℕ) → lowered number other blocked before ≤ number
-lowered_most number other blocked before = by_test (eqb blocked before)
-  where
-    by_test : (b : Bool) → cond {A = ℕ} b (min number other) number ≤ number
-    by_test true = min-le_left number other
-    by_test false = omega arith
+use Rattle.strip_sets.proofs.Costs.{lowered_most}
 
 pub plus-requires : goal.plus-requires
 plus-requires g c = λ places lt.

@@ -1,17 +1,12 @@
-use Rattle.std.proofs.Common.{◌≡◌, ◌<◌, ℕ, [], ◌∷◌, true, ap, arith, sym, subst, ◌∙◌}
-use Rattle.std.proofs.lemmas.Bool.{and_parts}
-use Rattle.strip_mask.specs.Set.{has, meet}
-use Rattle.strip_mask.proofs.ByMembers.{below_64, has-meet}
+use Rattle.std.proofs.Common.{◌≡◌, ◌<◌, ℕ, [], ◌∷◌, ap, arith, subst, ◌∙◌}
+use Rattle.strip_mask.specs.Set.{meet}
+use Rattle.strip_mask.proofs.ByMembers.{below_64}
 use Rattle.strip_mask.proofs.Totals.{sum_over-ext}
 use Rattle.strip_group.specs.Group.{GroupData}
 use Rattle.strip_arrivals.specs.Company.{AreCounted, just}
-use Rattle.strip_arrivals.proofs.Masks.{both_is, counted_alike, two, with_either_is}
+use Rattle.strip_arrivals.proofs.Masks.{both_is, counted_alike, two, with_either_is, in_set}
 use Rattle.strip_arrivals.proofs.Room.{days_fit, mates_low, rates_low}
 use Rattle.strip_arrivals.proofs.table.ArrivalsTable.both.Goals as goal
-
--- a scene of both is one of the set
-in_set : (scenes plays set scene : ℕ) → scenes ≡ meet plays set → has scenes scene ≡ true → has set scene ≡ true
-in_set scenes plays set scene is there = (and_parts (has plays scene) (has set scene) (sym (has-meet plays set scene) ∙ ap (λ (s : ℕ). has s scene) (sym is) ∙ there)).1
 
 pub mates-together-requires-clause-within : goal.mates-together-requires-clause-within
 mates-together-requires-clause-within g c = λ scene there. in_set c.meet-either.result.0 c.union.result.0 c.args.party.now.crew.set.0 scene c.meet-either.ensures there

@@ -1,23 +1,25 @@
-use Rattle.std.proofs.Common.{◌≡◌, ℕ, ◌&&◌, Bool, true, false, length, slice_index, refl, sym, ap, ◌∙◌, subst, inl, inr, arith, append_assoc}
+use Rattle.std.proofs.Common.{◌≡◌, ℕ, ◌&&◌, length, slice_index, refl, sym, ap, ◌∙◌, subst, inl, inr, arith, append_assoc}
 use Rattle.std.proofs.lemmas.Bool.{cases_eq}
 use Rattle.std.proofs.lemmas.List.{length_push}
 use Rattle.strip_mask.specs.Iter.{rest_of}
 use Rattle.strip_mask.specs.Set.{has}
-use Rattle.strip_mask.proofs.ByMembers.{has-meet}
+use Rattle.strip_mask.proofs.ByMembers.{has-meet, empty_has}
 use Rattle.strip_mask.proofs.Sizes.{length-members}
 use Rattle.strip_mask.proofs.Turns.{turn_member, turns_all}
 use Rattle.strip_group.specs.Places.{actor_at}
 use Rattle.strip_arrivals.proofs.ByPlace.{cast_more}
-use Rattle.strip_arrivals.proofs.Casts.{nobody}
-use Rattle.strip_group.proofs.Places.{lies_small, turn_at, zeros}
+use Rattle.strip_mask.proofs.Lists.{zeros}
+use Rattle.strip_sets.proofs.Sets.{lies_small}
+use Rattle.strip_group.proofs.Places.{turn_at}
 use Rattle.strip_arrivals.proofs.table.ArrivalsTable.casts_of.Goals as goal
+use Rattle.std.proofs.Math.Bool.{and-true}
 
 pub loop-actor-init : goal.loop-actor-init
 loop-actor-init c = record {
   long = refl;
   place = refl;
   told = λ scene place there lt. absurd (omega (arith, lt));
-  lies = λ scene i there. absurd (nobody i (ap (λ (s : ℕ). has s i) (sym (zeros 64 scene)) ∙ there));
+  lies = λ scene i there. absurd (empty_has i (ap (λ (s : ℕ). has s i) (sym (zeros 64 scene)) ∙ there));
   turns = ap rest_of c.into_iter-actor-iterator.ensures.into_iter_gives ∙ c.iter-actor-items.ensures.left;
 }
 
@@ -47,17 +49,13 @@ loop-actor-preserved c =
       told = λ scene i there lt. elim (cases_eq i place) [
         | inl is ↦ subst (λ (k : ℕ). has (slice_index c.add_place.new.casts scene) k ≡ has (slice_index c.args.self.now.casts scene) (actor_at c.args.group.0 k)) (sym is)
             ((more scene).0 ∙ ap (λ (s : ℕ). has s scene) c.meet.ensures ∙ has-meet c.plays.result.0 c.args.set.0 scene
-            ∙ (λ k. c.plays.ensures scene k && there k) ∙ always (has (slice_index c.args.self.now.casts scene) c.in-Some.actor)
+            ∙ (λ k. c.plays.ensures scene k && there k) ∙ and-true (has (slice_index c.args.self.now.casts scene) c.in-Some.actor)
             ∙ ap (has (slice_index c.args.self.now.casts scene)) (sym actor))
         | inr other ↦ (more scene).1 i other ∙ c.loop-actor.invariant.told scene i there (omega (arith, lt, other))
       ];
       lies = λ scene. (more scene).2;
       turns = rw append_assoc (rw (← c.in-Some.ensures.steps) c.loop-actor.invariant.turns);
     }
-  where
-    always : (b : Bool) → (b && true) ≡ b
-    always true = refl
-    always false = refl
 
 pub returns-clause-casts : goal.returns-clause-casts
 returns-clause-casts c = λ scene place there lt. c.loop-actor.invariant.told scene place there (omega (

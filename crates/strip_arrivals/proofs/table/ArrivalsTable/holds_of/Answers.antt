@@ -4,7 +4,8 @@ use Rattle.strip_mask.specs.Iter.{rest_of}
 use Rattle.strip_mask.proofs.Sizes.{length-members}
 use Rattle.strip_mask.proofs.Turns.{turn_member, turns_all}
 use Rattle.strip_group.specs.Places.{actor_at}
-use Rattle.strip_group.proofs.Places.{turn_at, written, zeros}
+use Rattle.strip_mask.proofs.Lists.{zeros, written}
+use Rattle.strip_group.proofs.Places.{turn_at}
 use Rattle.strip_arrivals.proofs.table.ArrivalsTable.holds_of.Goals as goal
 
 pub loop-actor-init : goal.loop-actor-init

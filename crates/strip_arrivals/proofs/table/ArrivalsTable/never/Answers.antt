@@ -1,13 +1,12 @@
 use Rattle.std.proofs.Common.{◌≡◌, ℕ, ◌+◌, ◌*◌, ◌≤◌, true, false, List, length, sum, ap, ◌∙◌, arith}
 use Rattle.std.proofs.Math.Nat.{mul-le-mul}
 use Rattle.strip_mask.specs.Set.{has, sum_over, union}
-use Rattle.strip_mask.proofs.Totals.{sum_over-union}
-use Rattle.strip_group.proofs.Places.{sum_over_le_all}
+use Rattle.strip_mask.proofs.Totals.{sum_over-union, sum_over_le_sum}
 use Rattle.strip_arrivals.proofs.table.ArrivalsTable.never.Goals as goal
 
 -- no set of actors gets more than all do
 set_low : {holds read : List ℕ} (set : ℕ) → length holds ≤ 64 → sum holds ≤ 64000000000 → read ≡ holds → sum_over read set ≤ 64000000000
-set_low {holds} set few low is = omega (arith, ap (λ (v : List ℕ). sum_over v set) is, sum_over_le_all holds set few, low)
+set_low {holds} set few low is = omega (arith, ap (λ (v : List ℕ). sum_over v set) is, sum_over_le_sum holds set few, low)
 
 -- nor do two sets without a common actor together
 both_low : {holds read again : List ℕ} {rates more : ℕ} (group newcomers : ℕ) → length holds ≤ 64 → sum holds ≤ 64000000000
@@ -19,7 +18,7 @@ both_low {holds} group newcomers few low apart is is_again rates more =
       rates ∙ ap (λ (v : List ℕ). sum_over v group) is,
       more ∙ ap (λ (v : List ℕ). sum_over v newcomers) is_again,
       sum_over-union holds newcomers group apart,
-      sum_over_le_all holds (union newcomers group) few,
+      sum_over_le_sum holds (union newcomers group) few,
       low,
     )
 

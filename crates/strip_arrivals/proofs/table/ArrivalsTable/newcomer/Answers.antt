@@ -2,12 +2,12 @@ use Rattle.std.proofs.Common.{◌≡◌, ◌<◌, ℕ, [], ◌∷◌, true, not,
 use Rattle.std.proofs.Math.Nat.{min-le_right}
 use Rattle.std.proofs.lemmas.Bool.{and_parts, cases_eq, false≢true}
 use Rattle.strip_mask.specs.Set.{has, meet, minus, with, without}
-use Rattle.strip_mask.proofs.ByMembers.{below_64, has-meet, has-minus, has-without_other, has-without_same}
+use Rattle.strip_mask.proofs.ByMembers.{below_64, has-minus, has-without_other, has-without_same}
 use Rattle.strip_mask.proofs.Totals.{sum_over-ext}
 use Rattle.strip_group.specs.Group.{GroupData}
 use Rattle.strip_arrivals.specs.Arrivals.{is_without}
 use Rattle.strip_arrivals.specs.Company.{AreCounted, just}
-use Rattle.strip_arrivals.proofs.Masks.{alone_is, counted_alike, with_one_is}
+use Rattle.strip_arrivals.proofs.Masks.{alone_is, counted_alike, with_one_is, in_set}
 use Rattle.strip_arrivals.proofs.Room.{days_fit, hold_low, rates_low}
 use Rattle.strip_arrivals.proofs.table.ArrivalsTable.newcomer.Goals as goal
 
@@ -17,10 +17,6 @@ scenes_with-requires g c = λ i there. c.requires.party.company.known_newcomers 
       ∙ ap (has (without c.args.party.now.newcomers.0 c.args.actor)) is ∙ ap (λ (s : ℕ). has s i) (sym c.without.ensures) ∙ there))
   | inr other ↦ sym (has-without_other c.args.party.now.newcomers.0 c.args.actor i other) ∙ ap (λ (s : ℕ). has s i) (sym c.without.ensures) ∙ there
 ])
-
--- a scene of both is one of the set
-in_set : (scenes plays set scene : ℕ) → scenes ≡ meet plays set → has scenes scene ≡ true → has set scene ≡ true
-in_set scenes plays set scene is there = (and_parts (has plays scene) (has set scene) (sym (has-meet plays set scene) ∙ ap (λ (s : ℕ). has s scene) (sym is) ∙ there)).1
 
 alone_in_set : (alone scenes others plays set scene : ℕ) → alone ≡ minus scenes others → scenes ≡ meet plays set → has alone scene ≡ true → has set scene ≡ true
 alone_in_set alone scenes others plays set scene is_alone is there =

@@ -3,10 +3,9 @@ use Rattle.std.proofs.lemmas.Bool.{and_parts}
 use Rattle.strip_mask.specs.Set.{has, sum_over}
 use Rattle.strip_mask.specs.declared.mask.Mask.{Mask}
 use Rattle.strip_mask.proofs.ByMembers.{below_64, has-minus}
-use Rattle.strip_mask.proofs.Totals.{sum_over-ext}
+use Rattle.strip_mask.proofs.Totals.{sum_over-ext, sum_over_le_sum}
 use Rattle.strip_arrivals.specs.Company.{AreCounted, IsCompany, just, most_paid}
 use Rattle.strip_arrivals.proofs.Masks.{counted_alike, none_is}
-use Rattle.strip_group.proofs.Places.{sum_over_le_all}
 use Rattle.strip_arrivals.proofs.table.ArrivalsTable.party.Goals as goal
 
 pub counted-days-requires-clause-within : goal.counted-days-requires-clause-within
@@ -28,7 +27,7 @@ counted-days-requires-clause-fits g c =
     omega (
       arith,
       sum_over-ext c.scene_days.result.now c.args.self.now.days c.minus-without.result.0 (λ scene _. c.scene_days.ensures.days scene),
-      sum_over_le_all c.args.self.now.days c.minus-without.result.0 short,
+      sum_over_le_sum c.args.self.now.days c.minus-without.result.0 short,
       limits.day_sum,
       c.requires.wide,
     )

@@ -1,6 +1,6 @@
 use Rattle.std.proofs.Common.{◌≡◌, ℕ, ◌+◌, ◌*◌, ◌^◌, ◌<◌, ◌≤◌, [], length, sum, sym, ap, ◌∙◌, subst, arith}
 use Rattle.std.proofs.Math.Nat.{mul-le-mul}
-use Rattle.std.proofs.lemmas.Bool.{false≢true}
+use Rattle.std.proofs.lemmas.Bool.{false≢true, false_from_ne_true}
 use Rattle.strip_mask.specs.Set.{IsSet, full, has, minus, size, sum_over}
 use Rattle.strip_mask.specs.declared.mask.Mask.{Mask}
 use Rattle.strip_mask.proofs.ByMembers.{empty_from, has_from_minus}
@@ -10,7 +10,9 @@ use Rattle.strip_arrivals.specs.Arrivals.{arrivals_value, at_first}
 use Rattle.strip_arrivals.specs.Company.{IsCompany, IsRow}
 use Rattle.strip_arrivals.specs.Gross.{IsGross, own_pay}
 use Rattle.strip_arrivals.proofs.Own.{value_from}
-use Rattle.strip_group.proofs.Places.{full_small, pick-full, refuted, sum_over_le_all}
+use Rattle.strip_mask.proofs.Totals.{sum_over_le_sum}
+use Rattle.strip_sets.proofs.Sets.{full_small}
+use Rattle.strip_group.proofs.Places.{pick-full}
 use Rattle.strip_arrivals.proofs.Small.{value_low}
 use Rattle.strip_arrivals.proofs.table.ArrivalsTable.value_by.Goals as goal
 
@@ -18,7 +20,7 @@ use Rattle.strip_arrivals.proofs.table.ArrivalsTable.value_by.Goals as goal
 none_left : (group : ℕ) → IsSet group → minus group (pick group (full (size group))) ≡ 0
 none_left group small =
     ap (minus group) (pick-full group small)
-    ∙ empty_from (minus group group) (λ i. refuted (has (minus group group) i) (λ there.
+    ∙ empty_from (minus group group) (λ i. false_from_ne_true (has (minus group group) i) (λ there.
     let parts = has_from_minus group group i there in
     false≢true (sym parts.1 ∙ parts.0)))
 
@@ -73,8 +75,8 @@ returns-clause-small g c =
     = paid c.party-party.ensures.set c.party-party.ensures.group c.party-party.ensures.newcomers known c.first_row.ensures
     (c.below-all.ensures ∙ ap full c.size.ensures) c.at.ensures (c.own_pay.ensures c.args.newcomers.0) in
     let short : length film.days ≤ 64 = omega (arith, known.limits.day_count, known.limits.scene_count) in
-    let low = value_low film c.args.group.0 c.args.newcomers.0 (sum film.holds) (λ actors. sum_over_le_all film.holds actors known.limits.actor_count)
+    let low = value_low film c.args.group.0 c.args.newcomers.0 (sum film.holds) (λ actors. sum_over_le_sum film.holds actors known.limits.actor_count)
     set known.small_set known.small known.small_newcomers known.apart in
     let same : sum film.holds ≤ sum film.holds = omega arith in
-    let most : sum_over film.days set * sum film.holds ≤ sum film.days * sum film.holds = mul-le-mul (sum_over_le_all film.days set short) same in
+    let most : sum_over film.days set * sum film.holds ≤ sum film.days * sum film.holds = mul-le-mul (sum_over_le_sum film.days set short) same in
     omega (arith, is, low, most)

@@ -1,5 +1,5 @@
 use Rattle.std.proofs.Common.{◌≡◌, ◌+◌, ◌*◌, ◌∙◌, ◌∷◌, [], max, slice_index, refl}
-use Rattle.strip_group.proofs.Four.{by_four}
+use Rattle.strip_sets.proofs.FourSets.{by_four}
 use Rattle.strip_group.proofs.by_set.ArrayU324BySet.or_after.Goals as goal
 
 pub returns : goal.returns

@@ -1,6 +1,6 @@
 use Rattle.std.proofs.Common.{◌++◌, arith, slice_index}
 use Rattle.strip_group.proofs.Four.{IsFirst, IsSecond, IsWithin, alone_within, first_fits, first_is, first_within, second_fits, second_is, second_within, three_steps}
-use Rattle.strip_group.proofs.Lanes.{lane_of}
+use Rattle.strip_sets.proofs.Vectors.{lane_of}
 use Rattle.strip_group.proofs.by_set.ArrayU324BySet.saved.Goals as goal
 
 pub or_paid-saved-requires-clause-fits : goal.or_paid-saved-requires-clause-fits

@@ -1,8 +1,9 @@
 use Rattle.std.proofs.Common.{◌≡◌, ◌+◌, ◌<◌, ◌≤◌, ◌∙◌, ◌∷◌, [], ℕ, List, ap, arith, refl, slice_index, sym}
 use Rattle.strip_mask.specs.Set.{meet}
 use Rattle.strip_group.specs.Saved.{left_by}
-use Rattle.strip_group.proofs.Four.{by_four, left_both, left_first, left_none, left_second}
-use Rattle.strip_group.proofs.Lanes.{sum_at, sums_fit}
+use Rattle.strip_sets.proofs.FourSets.{by_four}
+use Rattle.strip_group.proofs.Four.{left_both, left_first, left_none, left_second}
+use Rattle.strip_sets.proofs.Vectors.{sums_fit, sum_at}
 use Rattle.strip_group.proofs.Places.{meet_most}
 use Rattle.strip_group.proofs.by_set.ArrayU324BySet.with_days.Goals as goal
 

@@ -1,5 +1,5 @@
 use Rattle.std.proofs.Common.{◌∙◌, sym}
-use Rattle.strip_group.proofs.Saved.{halves_full}
+use Rattle.strip_sets.proofs.Sets.{halves_full}
 use Rattle.strip_group.proofs.by_set.HalvesBySet.last.Goals as goal
 
 pub returns : goal.returns

@@ -1,5 +1,5 @@
 use Rattle.std.proofs.Common.{◌≡◌}
-use Rattle.strip_group.proofs.Saved.{by_parts, without_top}
+use Rattle.strip_sets.proofs.Sets.{without_top, by_parts}
 use Rattle.strip_group.proofs.by_set.HalvesBySet.none.Goals as goal
 
 pub returns : goal.returns

@@ -2,8 +2,7 @@ use Rattle.std.proofs.Common.{◌*◌, ◌≤◌, ap, arith, slice_index}
 use Rattle.std.proofs.Math.Nat.{mul-le-mul}
 use Rattle.strip_mask.specs.Set.{with}
 use Rattle.strip_group.proofs.Alone.{alone_more, alone_most, halves_top}
-use Rattle.strip_group.proofs.Places.{one_small}
-use Rattle.strip_group.proofs.Saved.{in_out}
+use Rattle.strip_sets.proofs.Sets.{one_small, in_out}
 use Rattle.strip_group.proofs.by_set.HalvesBySet.paid_alone.Goals as goal
 
 pub paid_alone-requires-clause-days : goal.paid_alone-requires-clause-days

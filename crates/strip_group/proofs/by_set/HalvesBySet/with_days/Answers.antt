@@ -1,6 +1,7 @@
 use Rattle.std.proofs.Common.{◌+◌, ◌≤◌, ◌∙◌, ℕ, ap, arith, slice_index}
 use Rattle.strip_mask.specs.Set.{meet}
-use Rattle.strip_group.proofs.Saved.{days_halves, in_in, in_out}
+use Rattle.strip_sets.proofs.Sets.{in_out, in_in}
+use Rattle.strip_group.proofs.Saved.{days_halves}
 use Rattle.strip_group.proofs.Places.{meet_most}
 use Rattle.strip_group.proofs.by_set.HalvesBySet.with_days.Goals as goal
 

@@ -3,7 +3,8 @@ use Rattle.strip_mask.specs.Set.{sum_over}
 use Rattle.strip_mask.specs.Sums.{sum_below}
 use Rattle.strip_group.specs.Days.{block_of}
 use Rattle.strip_group.specs.Saved.{left_by}
-use Rattle.strip_group.proofs.Blocks.{block_left, block_more, block_none, blocks_all, drop_sum, entry_is, part}
+use Rattle.strip_mask.proofs.Totals.{part}
+use Rattle.strip_group.proofs.Blocks.{block_left, block_more, block_none, blocks_all, drop_sum, entry_is}
 use Rattle.strip_group.proofs.days.DaySums.by_set.Goals as goal
 
 pub loop-number-init : goal.loop-number-init

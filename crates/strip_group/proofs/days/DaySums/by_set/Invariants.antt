@@ -1,7 +1,7 @@
 use Rattle.std.proofs.Common.{◌≡◌, ℕ, ◌*◌, ◌^◌, ◌<◌, ◌≤◌}
 use Rattle.strip_mask.specs.Sums.{sum_below}
 use Rattle.strip_group.specs.Saved.{left_by}
-use Rattle.strip_group.proofs.Blocks.{part}
+use Rattle.strip_mask.proofs.Totals.{part}
 use Rattle.strip_group.proofs.days.DaySums.by_set.Given as goal
 
 -- the days of each set in the tables so far

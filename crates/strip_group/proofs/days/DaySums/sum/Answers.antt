@@ -1,5 +1,6 @@
 use Rattle.std.proofs.Common.{◌≡◌, ◌+◌, ◌*◌, ◌<◌, ◌∙◌, ℕ, List, ap, arith, drop, length, slice_index}
-use Rattle.strip_group.proofs.Blocks.{block_more, block_none, blocks_all, entry_is, part}
+use Rattle.strip_mask.proofs.Totals.{part}
+use Rattle.strip_group.proofs.Blocks.{block_more, block_none, blocks_all, entry_is}
 use Rattle.strip_mask.specs.Set.{sum_over}
 use Rattle.strip_mask.specs.Sums.{sum_below}
 use Rattle.strip_group.specs.Days.{block_of}

@@ -7,7 +7,7 @@ use Rattle.strip_group.specs.Group.{GroupData, group_extra}
 use Rattle.strip_group.specs.Places.{actor_at}
 use Rattle.strip_group.specs.Saved.{IsSavedMost, left_by}
 use Rattle.strip_group.proofs.Extra.{paid_and_saved}
-use Rattle.strip_group.proofs.Places.{sum_over_le_all}
+use Rattle.strip_mask.proofs.Totals.{sum_over_le_sum}
 use Rattle.strip_group.proofs.table.GroupTable.extra.Goals.{then-most, else-most}
 use Rattle.strip_group.proofs.table.GroupTable.extra.Goals as goal
 
@@ -21,7 +21,7 @@ overflow_mul-most c =
 pub pay_of-pay-requires-clause-room : goal.pay_of-pay-requires-clause-room
 pay_of-pay-requires-clause-room c =
     let short : length c.self.inside.sums ≤ 64 = omega (arith, c.self.invariant.limits.day_count, c.self.invariant.limits.scene_count) in
-    let days : sum_over c.self.inside.sums c.args.q.0 ≤ c.max.result = omega (arith, c.max.ensures, c.all.ensures, sum_over_le_all c.self.inside.sums c.args.q.0 short) in
+    let days : sum_over c.self.inside.sums c.args.q.0 ≤ c.max.result = omega (arith, c.max.ensures, c.all.ensures, sum_over_le_sum c.self.inside.sums c.args.q.0 short) in
     let rates : sum c.by_place-places.result.rates ≤ c.total.result = omega (arith, c.total.ensures.same) in
     let pay : sum c.by_place-places.result.rates * sum_over c.self.inside.sums c.args.q.0 ≤ c.total.result * c.max.result = mul-le-mul rates days in
     omega (arith, pay, c.if-most.true)
@@ -29,7 +29,7 @@ pay_of-pay-requires-clause-room c =
 pub pay_of-pay-requires-else-most-clause-room : goal.pay_of-pay-requires-else-most-clause-room
 pay_of-pay-requires-else-most-clause-room c =
     let short : length c.self.inside.sums ≤ 64 = omega (arith, c.self.invariant.limits.day_count, c.self.invariant.limits.scene_count) in
-    let days : sum_over c.self.inside.sums c.args.q.0 ≤ 19800 = omega (arith, sum_over_le_all c.self.inside.sums c.args.q.0 short, c.self.invariant.limits.day_sum) in
+    let days : sum_over c.self.inside.sums c.args.q.0 ≤ 19800 = omega (arith, sum_over_le_sum c.self.inside.sums c.args.q.0 short, c.self.invariant.limits.day_sum) in
     let rates : sum c.by_place-places.result.rates ≤ 384000000000 = omega (arith, c.total.ensures.same, c.total.ensures.small) in
     let pay : sum c.by_place-places.result.rates * sum_over c.self.inside.sums c.args.q.0 ≤ 384000000000 * 19800 = mul-le-mul rates days in
     omega (arith, pay)

@@ -1,5 +1,5 @@
 use Rattle.std.proofs.Common.{◌≡◌, ◌+◌, ◌∙◌, ◌∷◌, [], ℕ, List, ap, arith, refl, slice_index}
-use Rattle.strip_sets.proofs.TwoPlaces.{by_four}
+use Rattle.strip_sets.proofs.FourSets.{by_four}
 use Rattle.strip_sets.proofs.Vectors.{sum_at, sums_fit}
 use Rattle.strip_sets.proofs.by_set.ArrayU324BySet.more_than.Goals as goal
 

@@ -1,7 +1,7 @@
 use Rattle.std.proofs.Common.{◌≡◌, ◌+◌, ◌*◌, ◌∙◌, ◌∷◌, [], ℕ, List, ap, arith, cond, eqb, length, min, refl, slice_index}
 use lib.Lanes.{zip2}
 use Rattle.strip_sets.specs.Pass.{lowered}
-use Rattle.strip_sets.proofs.TwoPlaces.{by_four}
+use Rattle.strip_sets.proofs.FourSets.{by_four}
 use Rattle.strip_sets.proofs.Vectors.{chosen_at, lesser, lesser_at, lesser_lanes, product_at, product_lanes, products_fit, sum_at, sum_lanes, sums_fit}
 use Rattle.strip_sets.proofs.by_set.ArrayU324BySet.or_open.Goals as goal
 
