@@ -1,6 +1,6 @@
 -- What a program claims of its jobs, and what is due for words and files.
-use Rattle.std.specs.Prelude.{◌≡◌, ◌⊎◌, ℕ, List, [], codes, None}
-use Rattle.strip_text.specs.Told.{ToldData}
+use Rattle.std.specs.Prelude.{◌≡◌, ◌⊎◌, ℕ, List, codes, None}
+use Rattle.strip_text.specs.Told.{ToldData, told_alone}
 use Rattle.strip_answer.specs.declared.status.Status.{Status}
 use Rattle.strip_answer.specs.declared.status.Status.TheVariants.{NoJob}
 use Rattle.strip_answer.specs.Rows.{error_row}
@@ -26,7 +26,7 @@ AsksFor {Job} claims words file = (job : Job) × claims.Names words job × claim
 
 -- what is told of words that name no job
 abbrev pub no_job_told : ToldData
-no_job_told = record { name = codes "Words"; first = None; second = None; names = [] }
+no_job_told = told_alone (codes "Words") None None
 
 -- what is due for the words: they name no job, or a job that they name asks for it
 abbrev pub IsDue : {Job : Type 0} → Claims Job → List (List ℕ) → FilesData → FilesData → Status → List ℕ → Type 0

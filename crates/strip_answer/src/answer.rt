@@ -44,16 +44,7 @@ impl Answer {
         ensures status { IfOk result (λ answer. answer.status ≡ NoJob) }
         ensures row { IfOk result (λ answer. answer_text answer ≡ error_row no_job_told) }
     {
-        let name = "Words";
-        let first = None;
-        let second = None;
-        let told = Told {
-            name,
-            first,
-            second,
-            names: &[],
-        };
-        Answer::error(alloc, Status::NoJob, told)
+        Answer::error(alloc, Status::NoJob, Told::alone("Words", None, None))
     }
 }
 

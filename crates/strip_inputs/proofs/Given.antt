@@ -1,12 +1,11 @@
 -- What is given of files that are fit, and of those that aren't.
-use Rattle.std.proofs.Common.{◌≡◌, ◌∙◌, ◌≤◌, ℕ, List, [], Option, Result, Ok, Err, IfOk, All, length, refl, sym, ap, subst}
+use Rattle.std.proofs.Common.{◌≡◌, ◌∙◌, ◌≤◌, ℕ, List, Option, Result, Ok, Err, IfOk, length, refl, sym, ap, subst}
 use Rattle.std.proofs.lemmas.List.Elements.{All-weaker}
 use Rattle.strip_model.specs.Data.{InstanceData, IsInstance}
 use Rattle.strip_instance.specs.Field.{is_scene_name}
 use Rattle.strip_instance.specs.Text.{HasReadableNames, IsReadableName, says as film_says}
 use Rattle.strip_proof.specs.declared.plan.Plan.{Plan}
-use Rattle.strip_proof.specs.Plan.{PlanData, plan_data}
-use Rattle.strip_proof.specs.Text.{HasReadableScenes}
+use Rattle.strip_proof.specs.Plan.{PlanData}
 use Rattle.strip_text.specs.Told.{ToldData}
 use Rattle.strip_answer.specs.declared.answer.Answer.{Answer}
 use Rattle.strip_answer.specs.Run.{FilesData}

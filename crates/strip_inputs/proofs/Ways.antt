@@ -1,17 +1,16 @@
 -- What two files say, one after the other.
-use Rattle.std.proofs.Common.{◌≡◌, ◌∙◌, ◌⊎◌, inl, inr, ◌≤◌, ◌<◌, ◌+◌, ℕ, List, Option, None, Some, Result, Ok, Err, length, sym, ap, subst, arith}
-use Rattle.strip_io.specs.Counts.{Rose}
+use Rattle.std.proofs.Common.{◌≡◌, ◌∙◌, inl, inr, ℕ, List, Option, Result, Ok, Err, sym, ap, subst, arith}
 use Rattle.strip_model.specs.Data.{InstanceData}
 use Rattle.strip_proof.specs.Plan.{PlanData}
 use Rattle.strip_proof.specs.Text.{IsReadablePlan}
 use Rattle.strip_text.specs.Told.{ToldData}
 use Rattle.strip_answer.specs.declared.status.Status.{Status}
 use Rattle.strip_answer.specs.declared.status.Status.TheVariants.{BadInstance, BadPlan}
-use Rattle.strip_answer.specs.Run.{FilesData, FilesStay, HasReadFault}
+use Rattle.strip_answer.specs.Run.{FilesData, FilesStay}
 use Rattle.strip_inputs.specs.Input.{HasInput}
 use Rattle.strip_inputs.specs.Said.{IsSaidFilm, film_said, plan_said}
 use Rattle.strip_inputs.specs.Both.{Ways, BothSay, FilmSays, PlanSays, IsBothDue, IsEither, ways_due}
-use Rattle.strip_inputs.specs.Fit.{AreFit, AreTold, AreUnfit, IsNoFilm, IsNoPlan}
+use Rattle.strip_inputs.specs.Fit.{AreTold, AreUnfit}
 
 -- what holds of a file's text, by what else holds of it
 pub input_so : (name : List ℕ) (limit : ℕ) (before after : FilesData) (P Q : List ℕ → Type 0) → ((text : List ℕ) → P text → Q text)

@@ -1,5 +1,5 @@
 -- What the text of a file says, and what is given of it.
-use Rattle.std.specs.Prelude.{◌≡◌, ℕ, nat_le, List, [], length, Option, None, Some, Result, Ok, Err, codes, if◌then◌else◌}
+use Rattle.std.specs.Prelude.{◌≡◌, ℕ, nat_le, List, length, Option, None, Some, Result, Ok, Err, codes, if◌then◌else◌}
 use Rattle.strip_model.specs.Data.{InstanceData, IsInstance}
 use Rattle.strip_instance.specs.Fault.{FaultData}
 use Rattle.strip_instance.specs.Text.{says as film_says}
@@ -9,7 +9,7 @@ use Rattle.strip_proof.specs.declared.fault.PlanFault.{PlanFault}
 use Rattle.strip_proof.specs.Plan.{PlanData, plan_data}
 use Rattle.strip_proof.specs.Text.{HasReadableScenes, IsReadablePlan, says as plan_says}
 use Rattle.strip_proof.specs.Told.{told_of as plan_told}
-use Rattle.strip_text.specs.Told.{ToldData}
+use Rattle.strip_text.specs.Told.{ToldData, told_alone}
 use Rattle.strip_answer.specs.declared.status.Status.{Status}
 use Rattle.strip_answer.specs.declared.status.Status.TheVariants.{BadInstance, BadPlan}
 use Rattle.strip_answer.specs.Ending.{answer_text}
@@ -18,10 +18,10 @@ use Rattle.strip_inputs.specs.declared.input.Input.{Input}
 use Rattle.strip_inputs.specs.declared.input.Input.TheVariants.{Said, Refused}
 
 abbrev pub too_long_told : ToldData
-too_long_told = record { name = codes "TooLong"; first = None; second = None; names = [] }
+too_long_told = told_alone (codes "TooLong") None None
 
 abbrev pub too_many_told : ℕ → ToldData
-too_many_told count = record { name = codes "TooManyClasses"; first = Some count; second = None; names = [] }
+too_many_told count = told_alone (codes "TooManyClasses") (Some count) None
 
 -- an instance, or what is told of a text that says none
 abbrev pub film_of_says : Result InstanceData FaultData → Result InstanceData (Option ToldData)

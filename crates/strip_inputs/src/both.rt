@@ -1,17 +1,60 @@
 // The file of a film, and then that of a plan.
-ghost use Rattle.std.specs.Prelude.{◌≡◌, Err, IfOk, string_bytes};
+ghost use Rattle.std.specs.Prelude.{◌≡◌, ℕ, List, Err, IfOk, string_bytes};
+ghost use Rattle.strip_model.specs.Data.{InstanceData};
+ghost use Rattle.strip_proof.specs.Plan.{PlanData, plan_data};
+ghost use Rattle.strip_proof.specs.Text.{HasReadableScenes, IsReadablePlan};
+ghost use Rattle.strip_answer.specs.declared.status.Status.{Status};
+ghost use Rattle.strip_answer.specs.Ending.{answer_text};
 ghost use Rattle.strip_answer.specs.Run.{FilesStay, HasReadFault, files_data};
-ghost use Rattle.strip_inputs.specs.Both.{AreSaid, BothSay, IsEither, ways_of_input};
+ghost use Rattle.strip_inputs.specs.Both.{AreSaid, BothSay, IsBothDue, IsEither, ways_of_input};
 
 use crate::film::film_input;
 use crate::input::Input;
 use crate::plan::plan_input;
 use std::alloc::Global;
-use strip_answer::Stop;
-use strip_io::Files;
+use strip_answer::{Answer, Stop};
+use strip_io::{Files, Memory};
 use strip_model::Instance;
 use strip_proof::Plan;
 use strip_words::PlanFiles;
+
+/// What is done with an instance and a plan of it.
+pub trait PlanJob {
+    // what is due for the two, by status and text
+    ghost Due: { InstanceData → PlanData → Status → List ℕ → Type 0 };
+
+    /// The answer to the two, which texts say.
+    fn answer(alloc: Global, inst: &Instance, plan: Plan) -> Result<Answer, Memory>
+        requires names { HasReadableScenes inst.now }
+        requires readable { IsReadablePlan inst.now (plan_data plan) }
+        ensures { IfOk result (λ answer. Due inst.now (plan_data plan) answer.status (answer_text answer)) };
+}
+
+/// The answer to a film's file and a plan's: that of the job for the instance and the plan that they say, or
+/// that which refuses the first of the two that isn't fit.
+pub fn answer_plan<J: PlanJob, F: Files>(
+    alloc: Global,
+    files: &mut F,
+    names: &PlanFiles,
+) -> Result<Answer, Stop>
+    ensures due { IfOk result (λ answer. IsBothDue J.Due (string_bytes names.now.film) (string_bytes names.now.plan)
+        (files_data (F.holds files.old) (F.bytes files.old) (F.faults files.old) (F.came files.old))
+        (files_data (F.holds files.new) (F.bytes files.new) (F.faults files.new) (F.came files.new))
+        answer.status (answer_text answer)) }
+    ensures read { result ≡ Err Stop.Read → HasReadFault
+        (files_data (F.holds files.old) (F.bytes files.old) (F.faults files.old) (F.came files.old))
+        (files_data (F.holds files.new) (F.bytes files.new) (F.faults files.new) (F.came files.new))
+        (IsEither (string_bytes names.now.film) (string_bytes names.now.plan)) }
+    ensures files { FilesStay
+        (files_data (F.holds files.old) (F.bytes files.old) (F.faults files.old) (F.came files.old))
+        (files_data (F.holds files.new) (F.bytes files.new) (F.faults files.new) (F.came files.new))
+        (IsEither (string_bytes names.now.film) (string_bytes names.now.plan)) (result ≡ Err Stop.Read) }
+{
+    match both_inputs(alloc, files, names)? {
+        Input::Said((inst, plan)) => Ok(J::answer(alloc, &inst, plan)?),
+        Input::Refused(answer) => Ok(answer),
+    }
+}
 
 /// The instance that the film's file says and the plan that the plan's says of it, or the answer to the
 /// first of the two that isn't fit. The plan's file is read only where the film's is fit.

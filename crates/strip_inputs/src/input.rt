@@ -24,19 +24,7 @@ pub(crate) fn too_long(alloc: Global, status: Status) -> Result<Answer, Memory>
     ensures status { IfOk result (λ answer. answer.status ≡ status) }
     ensures row { IfOk result (λ answer. answer_text answer ≡ error_row too_long_told) }
 {
-    let name = "TooLong";
-    let first = None;
-    let second = None;
-    Answer::error(
-        alloc,
-        status,
-        Told {
-            name,
-            first,
-            second,
-            names: &[],
-        },
-    )
+    Answer::error(alloc, status, Told::alone("TooLong", None, None))
 }
 
 /// The answer to a film of so many classes, which are more than are solved or checked.
@@ -44,17 +32,6 @@ pub fn too_many_classes(alloc: Global, count: u64) -> Result<Answer, Memory>
     ensures status { IfOk result (λ answer. answer.status ≡ BadInstance) }
     ensures row { IfOk result (λ answer. answer_text answer ≡ error_row (too_many_told count)) }
 {
-    let name = "TooManyClasses";
-    let first = Some(count);
-    let second = None;
-    Answer::error(
-        alloc,
-        Status::BadInstance,
-        Told {
-            name,
-            first,
-            second,
-            names: &[],
-        },
-    )
+    let told = Told::alone("TooManyClasses", Some(count), None);
+    Answer::error(alloc, Status::BadInstance, told)
 }

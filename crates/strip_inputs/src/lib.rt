@@ -6,7 +6,7 @@ mod film;
 mod input;
 mod plan;
 
-pub use both::both_inputs;
+pub use both::{PlanJob, answer_plan, both_inputs};
 pub use film::{MAX_FILM, film_input};
 pub use input::{Input, too_many_classes};
 pub use plan::{MAX_PLAN, plan_input};

@@ -5,11 +5,11 @@ use Rattle.std.specs.Str.{bytes_eq, is_utf8}
 use Rattle.strip_pay.specs.declared.pair.Pair.{Pair}
 use Rattle.strip_text.specs.Field.{Field}
 use Rattle.strip_text.specs.Number.{is_number}
-use Rattle.strip_text.specs.Rows.{Row, field_of, is_empty_row}
+use Rattle.strip_text.specs.Rows.{Row, field_of, is_empty_row, row_of}
 use Rattle.strip_text.specs.Checks.{check, checks_of_one, below}
 use Rattle.strip_instance.specs.Fault.{FaultData, Empty, BadHeader, NoRateRow, Width, BadName, DuplicateScene, DuplicateActor, BadDays, BadRate, BadHold, BadMark, BadBefore, Cycle, NoScene, TooManyScenes, TooManyActors, NotUtf8}
 use Rattle.strip_instance.specs.Field.{is_word, is_name, is_scene_name, is_mark}
-use Rattle.strip_instance.specs.Parts.{Parts, parts_of, row_of, actor_fields}
+use Rattle.strip_instance.specs.Parts.{Parts, parts_of, actor_fields}
 use Rattle.strip_instance.specs.Befores.{pairs_of, said_pair, shortest_way}
 use Rattle.strip_instance.specs.Checks.{Checks}
 

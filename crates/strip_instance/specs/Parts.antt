@@ -1,13 +1,9 @@
 -- The parts of an instance text, over its rows.
-use Rattle.std.specs.Prelude.{ℕ, Bool, List, [], length, drop, codes, slice_index_or, Option, None, Some, if◌then◌else◌}
+use Rattle.std.specs.Prelude.{ℕ, Bool, List, length, drop, codes, Option, None, Some, if◌then◌else◌}
 use Rattle.std.specs.List.{before_first}
 use Rattle.strip_text.specs.Field.{Field}
-use Rattle.strip_text.specs.Rows.{Row, field_of}
+use Rattle.strip_text.specs.Rows.{Row, field_of, row_of}
 use Rattle.strip_instance.specs.Field.{is_word}
-
--- past the end a row has no fields
-abbrev pub row_of : List Row → ℕ → Row
-row_of rows place = slice_index_or rows place []
 
 -- the fields behind the first two, one for each actor
 abbrev pub actor_fields : Row → List Field

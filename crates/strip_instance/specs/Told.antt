@@ -1,12 +1,7 @@
 -- What a fault of an instance text tells, and the sentence that says it.
-use Rattle.std.specs.Prelude.{ℕ, List, [], ◌++◌, codes, Option, None, Some}
-use Rattle.std.specs.Fmt.{decimal}
-use Rattle.strip_text.specs.Told.{ToldData}
+use Rattle.std.specs.Prelude.{ℕ, List, codes, Option, None, Some}
+use Rattle.strip_text.specs.Told.{ToldData, column_sentence, field_sentence, row_sentence, told_at}
 use Rattle.strip_instance.specs.Fault.{FaultData, Empty, BadHeader, NoRateRow, Width, BadName, DuplicateScene, DuplicateActor, BadDays, BadRate, BadHold, BadMark, BadBefore, Cycle, NoScene, TooManyScenes, TooManyActors, NotUtf8, Memory}
-
--- a name, and the row and the column where they are told
-abbrev pub told_at : List ℕ → Option ℕ → Option ℕ → Option ToldData
-told_at name row col = Some (record { name = name; first = row; second = col; names = [] })
 
 -- each fault's own name, its row first and its column second, and the names of a cycle's scenes; want of memory is no fault of a text
 abbrev pub told_of : FaultData → Option ToldData
@@ -28,16 +23,6 @@ told_of TooManyScenes = told_at (codes "TooManyScenes") None None
 told_of TooManyActors = told_at (codes "TooManyActors") None None
 told_of (NotUtf8 row col) = told_at (codes "NotUtf8") (Some row) (Some col)
 told_of Memory = None
-
--- a sentence about a row, about a column, and about a field
-abbrev pub row_sentence : ℕ → List ℕ → List ℕ
-row_sentence row words = codes "row " ++ decimal row ++ words
-
-abbrev pub column_sentence : ℕ → List ℕ → List ℕ
-column_sentence col words = codes "column " ++ decimal col ++ words
-
-abbrev pub field_sentence : ℕ → ℕ → List ℕ → List ℕ
-field_sentence row col words = codes "row " ++ (decimal row ++ (codes ", column " ++ (decimal col ++ words)))
 
 abbrev pub sentence : FaultData → List ℕ
 sentence Empty = codes "there is no row"

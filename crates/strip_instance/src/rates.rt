@@ -2,9 +2,9 @@
 ghost use Rattle.std.specs.Prelude.{◌≡◌, ◌+◌, ◌<◌, ◌≤◌, true, drop, length, map, IfOk, IfErr, OnOk};
 ghost use Rattle.strip_model.specs.Instance.{actor_data};
 ghost use Rattle.strip_text.specs.Number.{number_of};
-ghost use Rattle.strip_text.specs.Rows.{field_of};
+ghost use Rattle.strip_text.specs.Rows.{field_of, row_of};
 ghost use Rattle.strip_instance.specs.declared.fault.InstanceFault.TheVariants.{Memory as OutOfMemory};
-ghost use Rattle.strip_instance.specs.Parts.{actor_fields, body_of, first_of, hold_of, row_of};
+ghost use Rattle.strip_instance.specs.Parts.{actor_fields, body_of, first_of, hold_of};
 ghost use Rattle.strip_instance.specs.Checks.{Makes};
 ghost use Rattle.strip_instance.specs.Faults.{hold_row_checks, pay_row_checks, rate_check, rate_checks, rate_row_checks};
 ghost use Rattle.strip_instance.specs.Shown.{rate_fault, rows_from, strs};

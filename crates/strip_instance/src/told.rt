@@ -40,11 +40,6 @@ impl InstanceFault {
             InstanceFault::NotUtf8 { row, col } => ("NotUtf8", Some(*row), Some(*col)),
             InstanceFault::Memory => return None,
         };
-        Some(Told {
-            name,
-            first,
-            second,
-            names: &[],
-        })
+        Some(Told::alone(name, first, second))
     }
 }

@@ -1,4 +1,3 @@
-mod Named
 mod Regrouped
 mod Plain
 mod Digits

@@ -1,11 +1,11 @@
 -- The checks of a plan text's rows in the order in which their faults are told.
-use Rattle.std.specs.Prelude.{ℕ, ◌+◌, Bool, true, false, ◌==◌, ◌&&◌, nat_le, nat_lt, List, [], ◌∷◌, ◌++◌, length, drop, codes, slice_index_or, Result}
+use Rattle.std.specs.Prelude.{ℕ, ◌+◌, Bool, true, false, ◌==◌, ◌&&◌, nat_le, nat_lt, List, [], ◌∷◌, ◌++◌, length, drop, codes, Result}
 use Rattle.std.specs.List.{list_all}
 use Rattle.std.specs.Str.{bytes_eq}
 use Rattle.strip_model.specs.Data.{InstanceData}
 use Rattle.strip_text.specs.Field.{Field}
 use Rattle.strip_text.specs.Number.{number_of}
-use Rattle.strip_text.specs.Rows.{Row, field_of}
+use Rattle.strip_text.specs.Rows.{Row, field_of, row_of}
 use Rattle.strip_text.specs.Checks.{Check, MakesOr, check, checks_of_one, below}
 use Rattle.strip_proof.specs.declared.fault.PlanFault.{PlanFault}
 use Rattle.strip_proof.specs.declared.fault.PlanFault.TheVariants.{BadRow, Missing, UnknownScene, TooManyLines, Memory}
@@ -17,10 +17,6 @@ Checks = List (Check PlanFault)
 -- what a call answers that makes these checks: no fault where all hold, else the first one's, or want of memory
 abbrev pub Makes : {T : Type 0} → Checks → Result T PlanFault → Type 0
 Makes checks result = MakesOr Memory checks result
-
--- the row at a place, from 0; past the end it has no fields
-abbrev pub row_of : List Row → ℕ → Row
-row_of rows place = slice_index_or rows place []
 
 -- the row has so many fields, of which the first is the word
 abbrev pub begins : Field → ℕ → Row → Bool

@@ -6,9 +6,9 @@ use Rattle.strip_kind.specs.declared.kind.Kind.TheVariants.{Pairs}
 use Rattle.strip_model.specs.Data.{InstanceData}
 use Rattle.strip_text.specs.Field.{Field}
 use Rattle.strip_text.specs.Number.{number_of}
-use Rattle.strip_text.specs.Rows.{Row, field_of}
+use Rattle.strip_text.specs.Rows.{Row, field_of, row_of}
 use Rattle.strip_proof.specs.Field.{is_kind, kind_of}
-use Rattle.strip_proof.specs.Faults.{Checks, row_of, is_pair, row_is, count_checks, due, plan_row_checks, lines_checks}
+use Rattle.strip_proof.specs.Faults.{Checks, is_pair, row_is, count_checks, due, plan_row_checks, lines_checks}
 
 -- the value of the row at a place, which stands behind its word
 abbrev pub value_of : List Row → ℕ → Field

@@ -6,14 +6,13 @@ use Rattle.strip_film.specs.declared.shared.Line.{Line}
 use Rattle.strip_model.specs.Data.{InstanceData}
 use Rattle.strip_text.specs.Field.{trimmed}
 use Rattle.strip_text.specs.Number.{number_of}
-use Rattle.strip_text.specs.Rows.{Row, field_of, rows_of}
+use Rattle.strip_text.specs.Rows.{Row, field_of, rows_of, row_of}
 use Rattle.strip_text.specs.Checks.{first_fault}
 use Rattle.strip_proof.specs.declared.plan.Plan.{Plan}
 use Rattle.strip_proof.specs.declared.fault.PlanFault.{PlanFault}
 use Rattle.strip_proof.specs.declared.fault.PlanFault.TheVariants.{Memory}
 use Rattle.strip_proof.specs.Plan.{PlanData, plan_data}
 use Rattle.strip_proof.specs.Field.{status_of, set_of, scene_of}
-use Rattle.strip_proof.specs.Faults.{row_of}
 use Rattle.strip_proof.specs.Format.{Format, format_of, plan_checks, value_of}
 
 abbrev pub line_of : Row → Line

@@ -4,7 +4,8 @@ ghost use Rattle.std.specs.List.{list_all};
 ghost use Rattle.strip_text.specs.Checks.{checks_of_one};
 ghost use Rattle.strip_proof.specs.declared.fault.PlanFault.TheVariants.{UnknownScene};
 ghost use Rattle.strip_proof.specs.Field.{is_scene, scene_of};
-ghost use Rattle.strip_proof.specs.Faults.{Makes, due, is_order_row, order_checks, row_of};
+ghost use Rattle.strip_text.specs.Rows.{row_of};
+ghost use Rattle.strip_proof.specs.Faults.{Makes, due, is_order_row, order_checks};
 
 use crate::fault::PlanFault;
 use crate::field::scene_of;

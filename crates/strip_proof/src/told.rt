@@ -19,11 +19,6 @@ impl PlanFault {
             PlanFault::TooManyLines => ("TooManyLines", None),
             PlanFault::Memory => return None,
         };
-        Some(Told {
-            name,
-            first,
-            second: None,
-            names: &[],
-        })
+        Some(Told::alone(name, first, None))
     }
 }

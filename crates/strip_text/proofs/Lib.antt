@@ -12,3 +12,5 @@ mod Flexible
 pub mod Trimmed
 pub mod Unmarked
 pub mod OnLiterals
+pub mod Spared
+pub mod Named

@@ -12,6 +12,10 @@ Row = List Field
 abbrev pub field_of : Row → ℕ → Field
 field_of row place = slice_index_or row place []
 
+-- the row at a place, counted from 0; past the end it has no fields
+abbrev pub row_of : List Row → ℕ → Row
+row_of rows place = slice_index_or rows place []
+
 -- all fields are empty
 abbrev pub is_empty_row : Row → Bool
 is_empty_row row = list_all (λ field. length field == 0) row

@@ -1,4 +1,6 @@
 // What a fault tells.
+ghost use Rattle.std.specs.Prelude.{◌≡◌};
+ghost use Rattle.strip_text.specs.Told.{told_alone, told_data};
 
 /// A fault's name, the one or two numbers that say where or how many, and the names that it lists.
 #[derive(Clone, Copy, Debug, PartialEq, Eq)]
@@ -11,4 +13,18 @@ pub struct Told<'a> {
     pub second: Option<u64>,
     /// Names that the fault lists, in its order; none of most faults.
     pub names: &'a [String],
+}
+
+impl Told<'static> {
+    /// That which tells this name and these numbers, and lists no names.
+    pub fn alone(name: &'static str, first: Option<u64>, second: Option<u64>) -> Told<'static>
+        ensures { told_data result ≡ told_alone name.now first second }
+    {
+        Told {
+            name,
+            first,
+            second,
+            names: &[],
+        }
+    }
 }

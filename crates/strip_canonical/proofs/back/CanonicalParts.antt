@@ -5,9 +5,9 @@ use Rattle.std.proofs.Math.Seq.{drop-append_seam}
 use Rattle.strip_pay.specs.declared.pair.Pair.{Pair}
 use Rattle.strip_model.specs.Data.{SceneData, ActorData, InstanceData}
 use Rattle.strip_text.specs.Field.{Field}
-use Rattle.strip_text.specs.Rows.{Row, field_of}
+use Rattle.strip_text.specs.Rows.{Row, field_of, row_of}
 use Rattle.strip_instance.specs.Field.{is_word, is_scene_name}
-use Rattle.strip_instance.specs.Parts.{befores_part, parts_of, row_of, scenes_part}
+use Rattle.strip_instance.specs.Parts.{befores_part, parts_of, scenes_part}
 use Rattle.strip_canonical.specs.Canonical.{header_fields, rate_fields, hold_fields, scene_fields, has_own_holds, body_rows, canonical_rows, names_of, pair_fields}
 use Rattle.strip_instance.proofs.read.SceneRows.{scenes_part-end, scenes_part-next}
 use Rattle.strip_canonical.proofs.back.TextNames.{IsTextName}

@@ -12,10 +12,9 @@ use Rattle.strip_pay.specs.Pairs.{FitPairs, IsKnownPair}
 use Rattle.strip_pay.proofs.Fits.{fit-take, last_not_back}
 use Rattle.strip_text.specs.Field.{Field, trimmed}
 use Rattle.strip_text.specs.Checks.{first_fault}
-use Rattle.strip_text.specs.Rows.{Row, field_of}
+use Rattle.strip_text.specs.Rows.{Row, field_of, row_of}
 use Rattle.strip_text.proofs.Held.{Hold, hold-below}
 use Rattle.strip_instance.specs.Befores.{each_once, number_of_scene, pair_between, pairs_of, said_pair, same_pair}
-use Rattle.strip_instance.specs.Parts.{row_of}
 use Rattle.strip_instance.specs.Faults.{before_checks, befores_checks, later_checks}
 use Rattle.strip_instance.proofs.pairs.Fit.{row_passes}
 use Rattle.strip_instance.proofs.pairs.Ways.{same_pair-true}

@@ -14,12 +14,11 @@ use Rattle.strip_model.specs.declared.scene.Scene.{Scene}
 use Rattle.strip_model.specs.Data.{SceneData}
 use Rattle.strip_model.specs.Instance.{scene_data}
 use Rattle.strip_text.specs.Field.{Field}
-use Rattle.strip_text.specs.Rows.{Row, field_of, is_empty_row}
+use Rattle.strip_text.specs.Rows.{Row, field_of, is_empty_row, row_of}
 use Rattle.strip_text.specs.Checks.{below, check, first_fault}
 use Rattle.strip_text.proofs.Held.{Hold}
 use Rattle.strip_text.proofs.Passed.{held-below, held-fewer}
 use Rattle.strip_instance.specs.Fault.{Cycle}
-use Rattle.strip_instance.specs.Parts.{row_of}
 use Rattle.strip_instance.specs.Befores.{joined, pairs_of, said_pair, same_pair, shortest_way}
 use Rattle.strip_instance.specs.Faults.{before_checks, later_checks, pair_checks, way_checks}
 use Rattle.strip_instance.specs.Shown.{names_of}

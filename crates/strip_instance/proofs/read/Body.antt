@@ -2,12 +2,11 @@
 use Rattle.std.proofs.Common.{◌≡◌, ◌<◌, ◌+◌, ℕ, Bool, true, false, List, [], ◌∷◌, ◌++◌, length, take, None, refl, sym, ap, ◌∙◌, subst, arith, append_assoc}
 use Rattle.std.proofs.Math.Seq.{take-append_seam, get_or-append_seam}
 use Rattle.std.proofs.lemmas.List.{append-nil, length-append}
-use Rattle.strip_text.specs.Rows.{Row}
+use Rattle.strip_text.specs.Rows.{Row, row_of}
 use Rattle.strip_text.specs.Checks.{below, first_fault}
 use Rattle.strip_text.proofs.Making.{makes-at, below-more}
 use Rattle.strip_instance.specs.Fault.{FaultData}
 use Rattle.strip_instance.specs.Checks.{Checks}
-use Rattle.strip_instance.specs.Parts.{row_of}
 use Rattle.strip_instance.specs.Shown.{rows_from}
 use Rattle.strip_instance.proofs.read.Whole.{Tells, tells-same}
 

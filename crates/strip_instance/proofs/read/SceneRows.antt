@@ -5,9 +5,9 @@ use Rattle.std.proofs.lemmas.Bool.Decides.{nat_tests}
 use Rattle.std.proofs.lemmas.List.{take_more, append-nil, map-append}
 use Rattle.std.proofs.lemmas.List.Elements.{filter-append}
 use Rattle.strip_text.specs.Checks.{first_fault}
-use Rattle.strip_text.specs.Rows.{Row, is_empty_row}
+use Rattle.strip_text.specs.Rows.{Row, is_empty_row, row_of}
 use Rattle.strip_model.specs.Data.{SceneData}
-use Rattle.strip_instance.specs.Parts.{befores_part, is_before_row, row_of, scenes_part}
+use Rattle.strip_instance.specs.Parts.{befores_part, is_before_row, scenes_part}
 use Rattle.strip_instance.specs.Faults.{scene_rows, scene_checks, body_checks}
 use Rattle.strip_instance.specs.Text.{scene_of}
 

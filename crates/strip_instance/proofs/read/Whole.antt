@@ -5,7 +5,7 @@ use Rattle.std.proofs.lemmas.List.{length-drop, length-map}
 use Rattle.strip_pay.specs.declared.pair.Pair.{Pair}
 use Rattle.strip_text.specs.Field.{Field}
 use Rattle.strip_text.specs.Number.{number_of}
-use Rattle.strip_text.specs.Rows.{Row}
+use Rattle.strip_text.specs.Rows.{Row, row_of}
 use Rattle.strip_text.specs.Checks.{first_fault}
 use Rattle.strip_text.proofs.Held.{Hold}
 use Rattle.strip_text.proofs.Passed.{held as its_check, others}
@@ -14,7 +14,7 @@ use Rattle.strip_model.specs.Data.{SceneData, ActorData}
 use Rattle.strip_instance.specs.Fault.{FaultData, Memory, BadRate, BadHold}
 use Rattle.strip_instance.specs.Befores.{pairs_of}
 use Rattle.strip_instance.specs.Checks.{Checks}
-use Rattle.strip_instance.specs.Parts.{parts_of, row_of, hold_of, body_of, first_of, scenes_part, befores_part, actor_fields}
+use Rattle.strip_instance.specs.Parts.{parts_of, hold_of, body_of, first_of, scenes_part, befores_part, actor_fields}
 use Rattle.strip_instance.specs.Faults.{header_checks, pay_row_checks, rate_row_checks, hold_row_checks, scene_names, scene_rows, body_parts_checks, all_checks}
 use Rattle.strip_instance.specs.Shown.{rows_from}
 use Rattle.strip_instance.specs.Text.{actors_of, holds_of, instance_of, rates_of, scene_of}

@@ -7,12 +7,12 @@ use Rattle.std.proofs.lemmas.List.Elements.{All-head, All-drop, All-take, All-fi
 use Rattle.strip_model.specs.Data.{ActorData, SceneData}
 use Rattle.strip_text.specs.Field.{Field, trimmed}
 use Rattle.strip_text.specs.Checks.{below}
-use Rattle.strip_text.specs.Rows.{Row, field_of, is_empty_row}
+use Rattle.strip_text.specs.Rows.{Row, field_of, is_empty_row, row_of}
 use Rattle.strip_text.proofs.Held.{Hold}
 use Rattle.strip_text.proofs.Trimmed.{IsTrimmedRow, trimmed-field_of}
 use Rattle.strip_text.proofs.Passed.{held, others, front, back, held-below}
 use Rattle.strip_instance.specs.Field.{is_name, is_scene_name}
-use Rattle.strip_instance.specs.Parts.{Parts, parts_of, has_hold_row, body_of, is_before_row, row_of, actor_fields}
+use Rattle.strip_instance.specs.Parts.{Parts, parts_of, has_hold_row, body_of, is_before_row, actor_fields}
 use Rattle.strip_instance.specs.Faults.{actor_name_checks, header_checks, pay_checks, scene_rows, scene_checks, body_checks, scenes_checks, scene_names, befores_checks, some_scene_checks, body_parts_checks, all_checks}
 use Rattle.strip_instance.specs.Text.{IsReadableName, HasReadableNames, actor_of, actors_of, holds_of, rates_of, scene_of, instance_of}
 use Rattle.strip_instance.proofs.read.SceneRows.{body_checks-scene}

@@ -12,10 +12,10 @@ use Rattle.strip_instance.specs.Fault.{FaultData, BadRate, BadHold}
 use Rattle.strip_text.specs.Field.{Field}
 use Rattle.strip_text.specs.Number.{number_of}
 use Rattle.strip_text.specs.Checks.{below}
-use Rattle.strip_text.specs.Rows.{Row, field_of, is_empty_row}
+use Rattle.strip_text.specs.Rows.{Row, field_of, is_empty_row, row_of}
 use Rattle.strip_text.proofs.Held.{Hold}
 use Rattle.strip_text.proofs.Passed.{held, others, front, back, held-below, held-fewer}
-use Rattle.strip_instance.specs.Parts.{Parts, parts_of, row_of, actor_fields}
+use Rattle.strip_instance.specs.Parts.{Parts, parts_of, actor_fields}
 use Rattle.strip_instance.specs.Faults.{actor_name_checks, header_checks, rate_check, pay_row_checks, rate_row_checks, hold_row_checks, pay_checks, scene_rows, scene_checks, body_checks, scenes_checks, scene_names, befores_checks, some_scene_checks, body_parts_checks, all_checks}
 use Rattle.strip_instance.specs.Befores.{pairs_of}
 use Rattle.strip_instance.specs.Text.{actor_of, actors_of, holds_of, rates_of, scene_of, instance_of}

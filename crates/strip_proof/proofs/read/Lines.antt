@@ -3,12 +3,12 @@ use Rattle.std.proofs.Common.{◌≡◌, ◌≤◌, ◌<◌, ◌+◌, ◌⊎◌,
 use Rattle.std.proofs.lemmas.Bool.{lt-leb, le-leb}
 use Rattle.std.proofs.lemmas.List.{drop-drop, get_or-drop, length-append, length-drop, length-map, length-take, map-append, take_all, take_more}
 use Rattle.strip_film.specs.declared.shared.Line.{Line}
-use Rattle.strip_text.specs.Rows.{Row}
+use Rattle.strip_text.specs.Rows.{Row, row_of}
 use Rattle.strip_text.specs.Checks.{below, check, checks_of_one, first_fault}
 use Rattle.strip_text.proofs.Making.{below-more, fails, first_fault-append, makes-at, makes-front, passes}
 use Rattle.strip_proof.specs.declared.fault.PlanFault.{PlanFault}
 use Rattle.strip_proof.specs.declared.fault.PlanFault.TheVariants.{BadRow, Memory, Missing}
-use Rattle.strip_proof.specs.Faults.{Checks, due, has_row, line_checks, line_due, lines_checks, row_of}
+use Rattle.strip_proof.specs.Faults.{Checks, due, has_row, line_checks, line_due, lines_checks}
 use Rattle.strip_proof.specs.Text.{line_of}
 
 -- the fault that some checks give, or want of memory

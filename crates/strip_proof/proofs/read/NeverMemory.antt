@@ -1,62 +1,33 @@
 -- No check of a text's rows has want of memory for its fault.
-use Rattle.std.proofs.Common.{◌≡◌, ◌≢◌, ◌+◌, ℕ, zero, suc, Bool, true, false, List, [], ◌∷◌, ◌++◌, length, drop, Option, None, Some, Err, sym, ◌∙◌, inl, inr, nat_le, codes, if◌then◌else◌}
+use Rattle.std.proofs.Common.{◌≡◌, ◌≢◌, ◌+◌, ℕ, Bool, true, false, List, ◌++◌, length, drop, Option, None, Some, Err, nat_le, codes, if◌then◌else◌}
 use Rattle.std.specs.Str.{bytes_eq}
-use Rattle.std.proofs.lemmas.Bool.{cases_Bool, cond-false, cond-true}
 use Rattle.strip_model.specs.Data.{InstanceData}
-use Rattle.strip_text.specs.Rows.{Row, field_of, rows_of}
-use Rattle.strip_text.specs.Checks.{below, check, checks_of_one, first_fault}
+use Rattle.strip_text.specs.Rows.{Row, field_of, rows_of, row_of}
+use Rattle.strip_text.specs.Checks.{checks_of_one, below, first_fault}
+use Rattle.strip_text.proofs.Spared.{Spares, spares-nil, spares-cons, spares-append, spares-below}
 use Rattle.strip_proof.specs.declared.fault.PlanFault.{PlanFault}
 use Rattle.strip_proof.specs.declared.fault.PlanFault.TheVariants.{BadRow, Memory}
-use Rattle.strip_proof.specs.Faults.{Checks, line_due, lines_checks, plan_row_checks, row_of}
+use Rattle.strip_proof.specs.Faults.{Checks, line_due, lines_checks, plan_row_checks}
 use Rattle.strip_proof.specs.Format.{Format, checks_in, first_format, plan_checks, second_format}
 use Rattle.strip_proof.specs.Text.{reading_of, says}
 
--- the first fault isn't want of memory
-record Spares (checks : Checks) : Type 0 where
-  never : first_fault checks ≢ Some Memory
-
-some_same : (a b : PlanFault) → Some a ≡ Some b → a ≡ b
-some_same a b same = cc
-
-spares-nil : Spares []
-spares-nil = record { never = λ found. cc }
-
-spares-cons : (holds : Bool) (fault : PlanFault) (checks : Checks) → fault ≢ Memory → Spares checks → Spares (check holds fault ∷ checks)
-spares-cons true fault checks other rest = record { never = rest.never }
-spares-cons false fault checks other rest = record { never = λ found. other (some_same fault Memory found) }
-
-spares-append : (xs ys : Checks) → Spares xs → Spares ys → Spares (xs ++ ys)
-spares-append [] ys one two = two
-spares-append (x ∷ xs) ys one two = elim (cases_Bool x.holds) [
-  | inl holds ↦ (let rest : Spares xs = record { never = λ found. one.never (cond-true x.holds (first_fault xs) (Some x.fault) holds ∙ found) } in
-      record { never = λ found. (spares-append xs ys rest two).never (sym (cond-true x.holds (first_fault (xs ++ ys)) (Some x.fault) holds) ∙ found) })
-  | inr fails ↦ record {
-    never = λ found. one.never (cond-false x.holds (first_fault xs) (Some x.fault) fails
-        ∙ sym (cond-false x.holds (first_fault (xs ++ ys)) (Some x.fault) fails) ∙ found);
-  }
-]
-
-spares-below : (n : ℕ) (checks : ℕ → Checks) → ((k : ℕ) → Spares (checks k)) → Spares (below n checks)
-spares-below zero checks each = spares-nil
-spares-below (suc n) checks each = spares-append (below n checks) (checks n) (spares-below n checks each) (each n)
-
 -- the five rows
-five-spare : (inst : InstanceData) (first : ℕ) (rows : List Row) → Spares (plan_row_checks inst first rows)
+five-spare : (inst : InstanceData) (first : ℕ) (rows : List Row) → Spares Memory (plan_row_checks inst first rows)
 five-spare inst first rows =
     spares-cons _ _ _ (λ e. cc) (spares-cons _ _ _ (λ e. cc)
     (spares-cons _ _ _ (λ e. cc) (spares-cons _ _ _ (λ e. cc)
     (spares-cons _ _ _ (λ e. cc) (spares-cons _ _ _ (λ e. cc)
     (spares-cons _ _ _ (λ e. cc) (spares-cons _ _ _ (λ e. cc)
-    (spares-cons _ _ _ (λ e. cc) (spares-cons _ _ _ (λ e. cc) (spares-cons _ _ _ (λ e. cc) spares-nil))))))))))
+    (spares-cons _ _ _ (λ e. cc) (spares-cons _ _ _ (λ e. cc) (spares-cons _ _ _ (λ e. cc) (spares-nil Memory)))))))))))
 
 -- the line rows
-lines-spare : (first count : ℕ) (rows : List Row) → Spares (lines_checks first count rows)
+lines-spare : (first count : ℕ) (rows : List Row) → Spares Memory (lines_checks first count rows)
 lines-spare first count rows =
     spares-append (below count (line_due first rows)) (checks_of_one (nat_le (length rows) count) (BadRow (first + count)))
-    (spares-below count (line_due first rows) (λ k. spares-cons _ _ _ (λ e. cc) (spares-cons _ _ _ (λ e. cc) (spares-cons _ _ _ (λ e. cc) spares-nil))))
-    (spares-cons _ _ _ (λ e. cc) spares-nil)
+    (spares-below count (line_due first rows) (λ k. spares-cons _ _ _ (λ e. cc) (spares-cons _ _ _ (λ e. cc) (spares-cons _ _ _ (λ e. cc) (spares-nil Memory)))))
+    (spares-cons _ _ _ (λ e. cc) (spares-nil Memory))
 
-in-format : (inst : InstanceData) (rows : List Row) (format : Format) → Spares format.front → Spares format.back → Spares (checks_in inst rows format)
+in-format : (inst : InstanceData) (rows : List Row) (format : Format) → Spares Memory format.front → Spares Memory format.back → Spares Memory (checks_in inst rows format)
 in-format inst rows format one two =
     let five : Checks = plan_row_checks inst (format.before + 1) (drop format.before rows) in
     let lines : Checks = lines_checks (format.heads + 1) format.lines (drop format.heads rows) in
@@ -65,12 +36,12 @@ in-format inst rows format one two =
     (spares-append format.front five one (five-spare inst (format.before + 1) (drop format.before rows))) two)
     (lines-spare (format.heads + 1) format.lines (drop format.heads rows))
 
-either-spares : (inst : InstanceData) (rows : List Row) (second : Bool) → Spares (checks_in inst rows (if second then second_format rows else first_format rows))
+either-spares : (inst : InstanceData) (rows : List Row) (second : Bool) → Spares Memory (checks_in inst rows (if second then second_format rows else first_format rows))
 either-spares inst rows true =
     in-format inst rows (second_format rows)
-    (spares-cons _ _ _ (λ e. cc) (spares-cons _ _ _ (λ e. cc) (spares-cons _ _ _ (λ e. cc) (spares-cons _ _ _ (λ e. cc) spares-nil))))
-    (spares-cons _ _ _ (λ e. cc) (spares-cons _ _ _ (λ e. cc) (spares-cons _ _ _ (λ e. cc) spares-nil)))
-either-spares inst rows false = in-format inst rows (first_format rows) spares-nil spares-nil
+    (spares-cons _ _ _ (λ e. cc) (spares-cons _ _ _ (λ e. cc) (spares-cons _ _ _ (λ e. cc) (spares-cons _ _ _ (λ e. cc) (spares-nil Memory)))))
+    (spares-cons _ _ _ (λ e. cc) (spares-cons _ _ _ (λ e. cc) (spares-cons _ _ _ (λ e. cc) (spares-nil Memory))))
+either-spares inst rows false = in-format inst rows (first_format rows) (spares-nil Memory) (spares-nil Memory)
 
 -- rows are never read as want of memory
 not_memory : (inst : InstanceData) (rows : List Row) (found : Option PlanFault) → found ≢ Some Memory → reading_of inst rows found ≢ Err Memory

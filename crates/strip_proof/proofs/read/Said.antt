@@ -11,7 +11,7 @@ use Rattle.std.proofs.lemmas.List.Elements.{All-from_get_or, All-map}
 use Rattle.std.proofs.lemmas.List.Sums.{AllPass-from_list_all}
 use Rattle.strip_model.specs.Data.{InstanceData}
 use Rattle.strip_text.specs.Field.{Field}
-use Rattle.strip_text.specs.Rows.{Row, field_of, rows_of}
+use Rattle.strip_text.specs.Rows.{Row, field_of, rows_of, row_of}
 use Rattle.strip_text.specs.Checks.{below, checks_of_one, first_fault}
 use Rattle.strip_text.proofs.Digits.{and-left, and-right}
 use Rattle.strip_text.proofs.Held.{Hold}
@@ -21,7 +21,7 @@ use Rattle.strip_proof.specs.declared.fault.PlanFault.TheVariants.{BadRow, Missi
 use Rattle.strip_proof.specs.declared.plan.Plan.{Plan}
 use Rattle.strip_proof.specs.Plan.{PlanData, plan_data}
 use Rattle.strip_proof.specs.Field.{is_amount, is_scene, is_set, is_status, scene_of, set_of}
-use Rattle.strip_proof.specs.Faults.{Checks, Makes, begins, due, has_row, is_line_row, is_order_row, is_pair, line_checks, line_due, lines_checks, order_checks, plan_row_checks, row_is, row_of}
+use Rattle.strip_proof.specs.Faults.{Checks, Makes, begins, due, has_row, is_line_row, is_order_row, is_pair, line_checks, line_due, lines_checks, order_checks, plan_row_checks, row_is}
 use Rattle.strip_proof.specs.Format.{Format, checks_in, format_of, plan_checks, value_of}
 use Rattle.strip_proof.specs.Text.{IsReadableLine, IsReadablePlan, line_of, plan_in, plan_of, reading_of, says}
 use Rattle.strip_text.specs.Number.{number_of}

@@ -1,5 +1,4 @@
 use Rattle.std.proofs.Common.{ap, sym, subst, refl, Err}
-use Rattle.strip_answer.specs.Run.{files_data}
 use Rattle.strip_inputs.specs.declared.input.Input.TheVariants.{Refused}
 use Rattle.strip_inputs.specs.Said.{IsFilmGiven, film_said, too_long_told}
 use Rattle.strip_inputs.proofs.Long.{long_film, long_input}

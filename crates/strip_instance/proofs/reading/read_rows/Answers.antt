@@ -5,7 +5,8 @@ use Rattle.strip_text.specs.Checks.{first_fault}
 use Rattle.strip_pay.specs.Pairs.{FitPairs}
 use Rattle.strip_model.specs.Data.{InstanceData, IsInstance}
 use Rattle.strip_model.specs.Instance.{actor_data, scene_data}
-use Rattle.strip_instance.specs.Parts.{row_of, body_of, first_of, hold_of, scenes_part, befores_part}
+use Rattle.strip_text.specs.Rows.{row_of}
+use Rattle.strip_instance.specs.Parts.{body_of, first_of, hold_of, scenes_part, befores_part}
 use Rattle.strip_instance.specs.Befores.{pairs_of}
 use Rattle.strip_instance.specs.Faults.{all_checks, scene_names}
 use Rattle.strip_instance.specs.Shown.{rows_from, strs}

@@ -2,7 +2,7 @@ use Rattle.std.proofs.Common.{◌≡◌, ◌<◌, [], get_or, length, map, arith
 use Rattle.std.specs.Str.{bytes_eq}
 use borrow.Author.Count.{below_more}
 use Rattle.strip_model.specs.Instance.{scene_data}
-use Rattle.strip_proof.proofs.Named.{value_at}
+use Rattle.strip_text.proofs.Named.{value_at}
 use Rattle.strip_proof.proofs.read.Scenes.{first_scene, there_is, there_is_none}
 use Rattle.strip_proof.proofs.field.scene_of.Goals as goal
 

@@ -1,6 +1,6 @@
 use Rattle.std.proofs.Common.{◌∙◌, [], sym}
 use Rattle.strip_model.specs.Instance.{scene_data}
-use Rattle.strip_proof.proofs.Named.{value_at}
+use Rattle.strip_text.proofs.Named.{value_at}
 use Rattle.strip_proof.proofs.head.name_of.Goals as goal
 
 pub returns : goal.returns
