@@ -6,9 +6,7 @@ use Rattle.strip_kind.specs.declared.kind.Kind.{Kind}
 use Rattle.strip_pay.specs.Film.{FilmData}
 use Rattle.strip_film.specs.declared.shared.Line.{Line}
 use Rattle.strip_film.specs.Film.{IsFilm, LiesIn, all_scenes}
-use Rattle.strip_film.proofs.Costs.{steps_limit}
-use Rattle.strip_film.proofs.Least.{finish_exists}
-use Rattle.strip_film.proofs.Lists.{AllRemained-from_ready}
+use Rattle.strip_film.proofs.Small.{finish_small}
 use Rattle.strip_bound.specs.Bounds.{bound}
 use Rattle.strip_bound.proofs.Finish.{bound_finishes}
 use Rattle.strip_rule.proofs.Open.{open_begins_least}
@@ -21,16 +19,13 @@ use Rattle.strip_front.specs.Calls.{AreFound, Learns}
 use Rattle.strip_front.specs.Filled.{HasLine, IsFilled}
 use Rattle.strip_front.specs.Front.{FrontData, task_at}
 use Rattle.strip_front.proofs.Grown.{grow_self, grow_then, line_grows}
-use Rattle.strip_front.proofs.Tasks.{set_is}
 
 -- what is known of a set is at most the cost of finishing it
 pub known_small : (hand : HandData) (set : ℕ) → IsHand hand → LiesIn hand.search.film set → known (search_rules hand.search) hand.lines set < 2 ^ 63
 known_small hand set is lies =
     let film = hand.search.film in
-    let finish = finish_exists film is.film set (set_is film is.film set lies) in
-    let most = known_is_true (search_rules hand.search) hand.lines is.film (λ q. bound_finishes hand.search.kind film q is.film) (open_begins_least film is.film) is.lines set lies
-    finish.1.attained.0 finish.1.attained.1 in
-    omega (arith, most, steps_limit film set finish.1.attained.0 is.film (set_is film is.film set lies) (AllRemained-from_ready film set finish.1.attained.0 finish.1.attained.1.0))
+    finish_small film set (known (search_rules hand.search) hand.lines set) is.film lies
+    (known_is_true (search_rules hand.search) hand.lines is.film (λ q. bound_finishes hand.search.kind film q is.film) (open_begins_least film is.film) is.lines set lies)
 
 -- the static bound of no scenes is nothing
 pub bound-empty : (kind : Kind) (film : FilmData) → IsFilm film → bound kind film 0 ≡ 0
@@ -48,6 +43,24 @@ learns_then before between after one two = record {
   no_fewer = omega (arith, one.no_fewer, two.no_fewer);
 }
 
+-- the front's lines, and what was found of its tasks, where more is known, by the search of the earlier hand
+module _ (before after : HandData) (front : FrontData) (grow : GrowTo before.lines after.lines) where
+  pub filled_grows : IsFilled before front → IsFilled (record after { search = before.search }) front
+  filled_grows filled = record {
+    lines = record {
+      root = λ line at. line_grows before.lines after.lines line (all_scenes before.search.film) grow (filled.lines.root line at);
+      firsts = λ scene line at. (
+          let old = filled.lines.firsts scene line at in
+          (old.0, old.1, old.2, line_grows before.lines after.lines line (without (all_scenes before.search.film) scene) grow old.3)
+          );
+    };
+    wanted = filled.wanted;
+  }
+
+  pub found_grows : (found : List ℕ) → AreFound before front found → AreFound (record after { search = before.search }) front found
+  found_grows found are = λ task within wanted.
+      omega (arith, are task within wanted, known-grows (search_rules before.search) before.lines after.lines (task_at front task).rest grow)
+
 module _ (before after : HandData) (learns : Learns before after) where
   pub same_search : after.search ≡ before.search
   same_search = ap (λ (h : HandData). h.search) learns.only
@@ -58,19 +71,14 @@ module _ (before after : HandData) (learns : Learns before after) where
       (known-grows (search_rules before.search) before.lines after.lines set learns.grow)
 
   pub filled_still : (front : FrontData) → IsFilled before front → IsFilled after front
-  filled_still front filled = subst (λ (h : HandData). IsFilled h front) (sym learns.only) (record {
-    lines = record {
-      root = λ line at. line_grows before.lines after.lines line (all_scenes before.search.film) learns.grow (filled.lines.root line at);
-      firsts = λ scene line at. (
-          let old = filled.lines.firsts scene line at in
-          (old.0, old.1, old.2, line_grows before.lines after.lines line (without (all_scenes before.search.film) scene) learns.grow old.3)
-          );
-    };
-    wanted = filled.wanted;
-  })
+  filled_still front filled =
+      subst (λ (search : SearchData). IsFilled (record after { search = search }) front) (sym same_search)
+      (filled_grows before after front learns.grow filled)
 
   pub found_still : (front : FrontData) (found : List ℕ) → AreFound before front found → AreFound after front found
-  found_still front found are = λ task within wanted. omega (arith, are task within wanted, known_still (task_at front task).rest)
+  found_still front found are =
+      subst (λ (search : SearchData). AreFound (record after { search = search }) front found) (sym same_search)
+      (found_grows before after front learns.grow found are)
 
 -- a line that has a bound makes it known of its set
 pub line_makes_known : (search : SearchData) (before after : List Line) (line set number : ℕ) → HasLine before line set → GrowTo before after → number ≤ (line_at after line).bound

@@ -19,6 +19,10 @@ pub record SearchData : Type 0 where
 abbrev pub search_rules : SearchData → Rules
 search_rules search = rules_of search.kind search.film
 
+-- it is one over this film, with static bounds of this kind
+abbrev pub GoesBy : Kind → FilmData → SearchData → Type 0
+GoesBy kind film search = (search.film ≡ film) × (search.kind ≡ kind)
+
 -- how many scenes a task has
 abbrev pub depth_of : SearchData → ℕ
 depth_of search = min 2 (length search.film.casts)

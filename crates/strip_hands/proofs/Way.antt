@@ -1,27 +1,27 @@
 -- A search over a hand stays on its way.
-use Rattle.std.proofs.Common.{◌≡◌, ℕ, suc, ◌<◌, ◌≤◌, true, Option, Some, None, List, length, nat_eq, slice_index_or, slice_set, All, inl, inr, refl, sym, ap, ◌∙◌, subst, arith}
-use Rattle.std.proofs.lemmas.Bool.{cases_eq}
-use Rattle.std.proofs.lemmas.List.{length-set, get_or-set_same, get_or-set_other}
+use Rattle.std.proofs.Common.{◌≡◌, ℕ, suc, ◌<◌, ◌≤◌, true, Some, None, List, length, nat_eq, slice_index_or, slice_set, All, sym, ap, ◌∙◌, subst, arith}
+use Rattle.std.proofs.lemmas.List.{length-set}
 use Rattle.std.specs.List.{starts_with}
 use Rattle.strip_kind.specs.declared.kind.Kind.{Kind}
 use Rattle.strip_pay.specs.Film.{FilmData}
-use Rattle.strip_film.specs.declared.shared.Line.{Line}
 use Rattle.strip_film.specs.Path.{PathData}
-use Rattle.strip_film.specs.Rules.{IsOpen, Rules}
+use Rattle.strip_film.specs.Rules.{IsOpen}
 use Rattle.strip_film.specs.Shown.{CursorData}
-use Rattle.strip_lines.specs.Lines.{GrowTo, known, line_at, rules_of}
-use Rattle.strip_lines.proofs.Grown.{known-grows, known-line, known-static}
+use Rattle.strip_lines.specs.Lines.{GrowTo, known, rules_of}
 use Rattle.strip_count.specs.Parts.{lies_in, no_task}
 use Rattle.strip_hand.specs.Calls.{Claims}
-use Rattle.strip_hand.specs.Hand.{HandData, Knows}
+use Rattle.strip_hand.specs.Hand.{HandData}
 use Rattle.strip_hand.specs.Search.{SearchData, depth_of, search_rules}
 use Rattle.strip_front.specs.Front.{FrontData, task_at}
 use Rattle.strip_front.specs.Tasks.{tasks_of}
-use Rattle.strip_front.proofs.Grown.{grow_same, line_grows}
+use Rattle.strip_front.proofs.Grown.{grow_same}
+use Rattle.strip_front.proofs.Small.{filled_grows, found_grows}
 use Rattle.strip_walk.specs.declared.found.Found.{Found}
 use Rattle.strip_walk.specs.Found.{IsFound, MayExplore}
 use Rattle.strip_walk.specs.Walked.{Walks}
 use Rattle.strip_walk.proofs.Lists.{starts_itself}
+use Rattle.strip_walk.proofs.Bounds.{bound_known}
+use Rattle.strip_team.proofs.Settled.{found_with}
 use Rattle.strip_hands.specs.Way.{IsOnItsWay}
 
 -- ---- the hand goes on
@@ -33,21 +33,9 @@ module _ (kind : Kind) (film : FilmData) (before after : HandData) (front : Fron
   later_way = record {
     search = record { same_film = was.search.same_film; same_kind = was.search.same_kind; tasks = was.search.tasks };
     front_of = was.front_of;
-    filled = record {
-      lines = record {
-        root = λ line at. line_grows before.lines after.lines line _ grow (was.filled.lines.root line at);
-        firsts = λ scene line at. (let first = was.filled.lines.firsts scene line at in (
-          first.0,
-          first.1,
-          first.2,
-          line_grows before.lines after.lines line _ grow first.3,
-        ));
-      };
-      wanted = was.filled.wanted;
-    };
+    filled = filled_grows before after front grow was.filled;
     long = was.long;
-    known = λ task within wanted.
-        omega (arith, was.known task within wanted, known-grows (search_rules before.search) before.lines after.lines (task_at front task).rest grow);
+    known = found_grows before after front grow found was.known;
   }
 
   pub goes_on : after.search ≡ before.search → IsOnItsWay kind film after front found
@@ -96,17 +84,6 @@ module _ (kind : Kind) (film : FilmData) (before after : HandData) (front : Fron
 
 -- ---- a task is walked
 
--- a bound that a line has, or else the static one has, is at most what is known
-found_known : (rules : Rules) (lines : List Line) (set bound : ℕ) (line : Option ℕ)
-    → ((n : ℕ) → line ≡ Some n → Knows lines (record { line = n; set = set; bound = bound }))
-    → (line ≡ None → bound ≤ rules.bound set) → bound ≤ known rules lines set
-found_known rules lines set bound None some none = omega (arith, none refl, known-static rules lines set)
-found_known rules lines set bound (Some n) some none =
-    let is = some n refl in
-    let most : (line_at lines n).bound ≤ known rules lines set
-    = subst (λ (q : ℕ). (line_at lines n).bound ≤ known rules lines q) is.set (known-line rules lines n is.there) in
-    omega (arith, most, is.as_great)
-
 module _ (kind : Kind) (film : FilmData) (before after : HandData) (front : FrontData) (found : List ℕ) (task : ℕ) (cursor cursor_after : CursorData)
     (path : PathData) (answer : Found) (was : IsOnItsWay kind film before front found) (within : task < length front.tasks) (is : path ≡ task_at front task)
     (walks : Walks before cursor path after cursor_after) (finds : IsFound after cursor_after path answer) where
@@ -116,7 +93,7 @@ module _ (kind : Kind) (film : FilmData) (before after : HandData) (front : Fron
   own_known : answer.bound ≤ known (search_rules after.search) after.lines (task_at front task).rest
   own_known =
       subst (λ (p : PathData). answer.bound ≤ known (search_rules after.search) after.lines p.rest) is
-      (found_known (search_rules after.search) after.lines path.rest answer.bound answer.line (λ n named. (finds.line n named).0) finds.none)
+      (bound_known (search_rules after.search) after.lines path answer.line answer.bound (λ n named. (finds.line n named).0) finds.none)
 
   pub way_walked : IsOnItsWay kind film after front (slice_set found task answer.bound)
   way_walked = record {
@@ -124,10 +101,5 @@ module _ (kind : Kind) (film : FilmData) (before after : HandData) (front : Fron
     front_of = then_way.front_of;
     filled = then_way.filled;
     long = length-set found task answer.bound ∙ then_way.long;
-    known = λ other below wanted. elim (cases_eq other task) [
-      | inl same ↦ subst (λ (t : ℕ). slice_index_or (slice_set found task answer.bound) t 0 ≤ known (search_rules after.search) after.lines (task_at front t).rest)
-          (sym same)
-          (omega (arith, own_known, get_or-set_same found task answer.bound 0 (omega (arith, within, was.long))))
-      | inr apart ↦ omega (arith, then_way.known other below wanted, get_or-set_other found task other answer.bound 0 apart)
-    ];
+    known = found_with after front found task answer.bound (omega (arith, within, was.long)) own_known then_way.known;
   }

@@ -4,23 +4,35 @@
 ghost use Rattle.std.specs.Prelude.{◌≤◌, IfOk};
 ghost use Rattle.strip_film.specs.Path.{IsComplete};
 ghost use Rattle.strip_film.specs.Shown.{path_data};
+ghost use Rattle.strip_bound.specs.Kept.{Keeps};
+ghost use Rattle.strip_hand.specs.Search.{GoesBy};
 ghost use Rattle.strip_race.specs.Sound.{IsSound};
 
 use crate::paths::{film, path, plain_triangle, triangle};
 use std::alloc::Global;
 use std::test::Fail;
+use strip_bound::{BoundTables, Kept, static_reach};
 use strip_film::{Film, Known, Line, Listed, Noted, Path, Probe};
 use strip_front::laws::tasks_are_starts;
 use strip_front::layers;
 use strip_kind::Kind;
+use strip_mask::Mask;
+use strip_race::laws::what_was_seen_stays_true;
 use strip_race::{Event, Limits, Reply, World};
 use strip_start::greedy;
 
-fn world(alloc: Global, film: &Film, start: &Path, kind: Kind, cap: u32) -> Result<World, Fail>
-    requires start { IsComplete film.now (path_data start.now) }
+fn world<F: Fn(u64, u64) -> u64>(
+    alloc: Global,
+    kept: &Kept<F>,
+    start: &Path,
+    cap: u32,
+) -> Result<World, Fail>
+    requires start { IsComplete kept.now.film.now (path_data start.now) }
     requires cap { (1 ≤ cap) × (cap ≤ 16777216) }
-    ensures { IfOk result IsSound }
+    ensures sound { IfOk result IsSound }
+    ensures search { IfOk result (λ world. GoesBy kept.now.kind kept.now.film.now world.search) }
 {
+    let film = kept.film();
     film.keeps_limits();
     tasks_are_starts();
     let limits = Limits {
@@ -29,7 +41,7 @@ fn world(alloc: Global, film: &Film, start: &Path, kind: Kind, cap: u32) -> Resu
         entries: 64,
     };
     let front = layers(alloc, film)?;
-    let world = World::new(alloc, film, kind, start, &front.tasks, &limits)?;
+    let world = World::new(alloc, film, kept.kind(), start, &front.tasks, &limits)?;
     Ok(world)
 }
 
@@ -45,12 +57,16 @@ fn order(film: &Film, scenes: &[u32]) -> Result<Path, Fail>
 }
 
 /// The reply to an event, where it may come.
-fn reply(world: &mut World, event: &Event) -> Option<Reply>
-    requires { IsSound world.old }
-    ensures { IsSound world.new }
+fn reply<F: Fn(u64, u64) -> u64>(kept: &Kept<F>, world: &mut World, event: &Event) -> Option<Reply>
+    requires sound { IsSound world.old }
+    requires keeps { Keeps (F.pre kept.now.f) (F.post kept.now.f) kept.now.kind kept.now.film.now }
+    requires search { GoesBy kept.now.kind kept.now.film.now world.old.search }
+    ensures sound { IsSound world.new }
+    ensures search { GoesBy kept.now.kind kept.now.film.now world.new.search }
 {
-    if world.allows(event) {
-        Some(world.step(event))
+    what_was_seen_stays_true();
+    if world.allows(kept, event) {
+        Some(world.step(kept, event))
     } else {
         None
     }
@@ -64,18 +80,24 @@ fn known(line: u32, set: u64, bound: u64) -> Known {
 fn nine_events(rt: HostRuntime) -> Result<(), Fail> {
     let alloc = rt.alloc();
     let film = plain_triangle(alloc)?;
-    let mut world = world(alloc, &film, &greedy(&film), Kind::Pairs, 1)?;
+    let tables = BoundTables::of(alloc, &film)?;
+    let kept = Kept::new(
+        &film,
+        Kind::Pairs,
+        |q, need| static_reach(&film, &tables, Kind::Pairs, Mask(q), need),
+    );
+    let mut world = world(alloc, &kept, &greedy(&film), 1)?;
     let whole = known(0, 7, 13);
     assert_eq!(rt;
-        reply(&mut world, &Event::Look { who: 0 }),
+        reply(&kept, &mut world, &Event::Look { who: 0 }),
         Some(Reply::Least(13))
     );
     assert_eq!(rt;
-        reply(&mut world, &Event::Claim { who: 0 }),
+        reply(&kept, &mut world, &Event::Claim { who: 0 }),
         Some(Reply::Task(Some(0)))
     );
     assert_eq!(rt;
-        reply(&mut world, &Event::Claim { who: 1 }),
+        reply(&kept, &mut world, &Event::Claim { who: 1 }),
         Some(Reply::Task(Some(1)))
     );
     let first = Event::Enlist {
@@ -84,7 +106,7 @@ fn nine_events(rt: HostRuntime) -> Result<(), Fail> {
         path: Path::start(&film),
     };
     assert_eq!(rt;
-        reply(&mut world, &first),
+        reply(&kept, &mut world, &first),
         Some(Reply::Listed(Listed::Line(0)))
     );
     let raise = Event::Raise {
@@ -92,22 +114,31 @@ fn nine_events(rt: HostRuntime) -> Result<(), Fail> {
         line: 0,
         bound: 13,
     };
-    assert_eq!(rt; reply(&mut world, &raise), Some(Reply::Raised));
+    assert_eq!(rt; reply(&kept, &mut world, &raise), Some(Reply::Raised));
     let note = Event::Note {
         who: 0,
         known: whole,
     };
-    assert_eq!(rt; reply(&mut world, &note), Some(Reply::Noted(Noted::Fresh)));
+    assert_eq!(rt;
+        reply(&kept, &mut world, &note),
+        Some(Reply::Noted(Noted::Fresh))
+    );
     let hit = Some(Reply::Probed(Probe::Hit(whole)));
-    assert_eq!(rt; reply(&mut world, &Event::Probe { who: 1, set: 7 }), hit);
+    assert_eq!(rt;
+        reply(&kept, &mut world, &Event::Probe { who: 1, set: 7 }),
+        hit
+    );
     let miss = Some(Reply::Probed(Probe::Miss));
-    assert_eq!(rt; reply(&mut world, &Event::Probe { who: 1, set: 6 }), miss);
+    assert_eq!(rt;
+        reply(&kept, &mut world, &Event::Probe { who: 1, set: 6 }),
+        miss
+    );
     let above = Event::Raise {
         who: 0,
         line: 0,
         bound: 14,
     };
-    assert_eq!(rt; reply(&mut world, &above), None);
+    assert_eq!(rt; reply(&kept, &mut world, &above), None);
     assert_eq!(rt; world.least(), 13);
     assert!(rt; world.lines() == [Line { set: 7, bound: 13 }].as_slice());
     Ok(())
@@ -115,15 +146,18 @@ fn nine_events(rt: HostRuntime) -> Result<(), Fail> {
 
 // The world of the triangle with plain bounds and an order that costs 14, in which worker 0 has the front and worker 1 the first task,
 // and the empty path and that of scene 1 are enlisted, with the bounds 12 and 9.
-fn begun(alloc: Global, film: &Film) -> Result<World, Fail>
-    ensures { IfOk result IsSound }
+fn begun<F: Fn(u64, u64) -> u64>(alloc: Global, kept: &Kept<F>) -> Result<World, Fail>
+    requires keeps { Keeps (F.pre kept.now.f) (F.post kept.now.f) kept.now.kind kept.now.film.now }
+    ensures sound { IfOk result IsSound }
+    ensures search { IfOk result (λ world. GoesBy kept.now.kind kept.now.film.now world.search) }
 {
-    let mut world = world(alloc, film, &order(film, &[0, 2, 1])?, Kind::Plain, 9)?;
-    reply(&mut world, &Event::Look { who: 0 });
-    reply(&mut world, &Event::Claim { who: 0 });
-    reply(&mut world, &Event::Claim { who: 1 });
-    reply(&mut world, &enlist(0, 0, path(film, &[])?));
-    reply(&mut world, &enlist(0, 0, path(film, &[0])?));
+    let film = kept.film();
+    let mut world = world(alloc, kept, &order(film, &[0, 2, 1])?, 9)?;
+    reply(kept, &mut world, &Event::Look { who: 0 });
+    reply(kept, &mut world, &Event::Claim { who: 0 });
+    reply(kept, &mut world, &Event::Claim { who: 1 });
+    reply(kept, &mut world, &enlist(0, 0, path(film, &[])?));
+    reply(kept, &mut world, &enlist(0, 0, path(film, &[0])?));
     Ok(world)
 }
 
@@ -135,15 +169,27 @@ fn enlist(who: u32, task: u32, path: Path) -> Event {
 fn spent_lines(rt: HostRuntime) -> Result<(), Fail> {
     let alloc = rt.alloc();
     let film = plain_triangle(alloc)?;
-    let mut world = world(alloc, &film, &greedy(&film), Kind::Plain, 1)?;
+    let tables = BoundTables::of(alloc, &film)?;
+    let kept = Kept::new(
+        &film,
+        Kind::Plain,
+        |q, need| static_reach(&film, &tables, Kind::Plain, Mask(q), need),
+    );
+    let mut world = world(alloc, &kept, &greedy(&film), 1)?;
     assert_eq!(rt;
-        reply(&mut world, &Event::Claim { who: 0 }),
+        reply(&kept, &mut world, &Event::Claim { who: 0 }),
         Some(Reply::Task(Some(0)))
     );
     let line = Some(Reply::Listed(Listed::Line(0)));
-    assert_eq!(rt; reply(&mut world, &enlist(0, 0, path(&film, &[])?)), line);
+    assert_eq!(rt;
+        reply(&kept, &mut world, &enlist(0, 0, path(&film, &[])?)),
+        line
+    );
     let spent = Some(Reply::Listed(Listed::Spent { lines: 1 }));
-    assert_eq!(rt; reply(&mut world, &enlist(0, 0, path(&film, &[0])?)), spent);
+    assert_eq!(rt;
+        reply(&kept, &mut world, &enlist(0, 0, path(&film, &[0])?)),
+        spent
+    );
     Ok(())
 }
 
@@ -216,16 +262,22 @@ fn unfit(unfinished: Path) -> [Event; 9] {
 fn events_that_may_not_come(rt: HostRuntime) -> Result<(), Fail> {
     let alloc = rt.alloc();
     let film = plain_triangle(alloc)?;
-    let world = begun(alloc, &film)?;
+    let tables = BoundTables::of(alloc, &film)?;
+    let kept = Kept::new(
+        &film,
+        Kind::Plain,
+        |q, need| static_reach(&film, &tables, Kind::Plain, Mask(q), need),
+    );
+    let world = begun(alloc, &kept)?;
     for event in &unknown_workers(greedy(&film), path(&film, &[1])?) {
-        assert!(rt; !world.allows(event));
+        assert!(rt; !world.allows(&kept, event));
     }
     for event in &unfit(path(&film, &[0, 1])?) {
-        assert!(rt; !world.allows(event));
+        assert!(rt; !world.allows(&kept, event));
     }
     for (who, task, scenes) in &PATHS {
         let event = enlist(*who, *task, path(&film, scenes)?);
-        assert!(rt; !world.allows(&event));
+        assert!(rt; !world.allows(&kept, &event));
     }
     Ok(())
 }
@@ -250,10 +302,16 @@ fn paths_that_are_not_open(rt: HostRuntime) -> Result<(), Fail> {
     let alloc = rt.alloc();
     // The scenes of one actor each come before that of both.
     let film = film(alloc, &[0b01, 0b10, 0b11], &[1, 1, 1], &[10, 20])?;
-    let mut world = world(alloc, &film, &greedy(&film), Kind::Plain, 9)?;
-    reply(&mut world, &Event::Claim { who: 0 });
-    assert!(rt; !world.allows(&enlist(0, 0, path(&film, &[2])?)));
-    assert!(rt; world.allows(&enlist(0, 0, path(&film, &[1])?)));
+    let tables = BoundTables::of(alloc, &film)?;
+    let kept = Kept::new(
+        &film,
+        Kind::Plain,
+        |q, need| static_reach(&film, &tables, Kind::Plain, Mask(q), need),
+    );
+    let mut world = world(alloc, &kept, &greedy(&film), 9)?;
+    reply(&kept, &mut world, &Event::Claim { who: 0 });
+    assert!(rt; !world.allows(&kept, &enlist(0, 0, path(&film, &[2])?)));
+    assert!(rt; world.allows(&kept, &enlist(0, 0, path(&film, &[1])?)));
     Ok(())
 }
 
@@ -262,14 +320,20 @@ fn paths_of_other_films(rt: HostRuntime) -> Result<(), Fail> {
     let alloc = rt.alloc();
     let film = plain_triangle(alloc)?;
     let other = triangle(alloc, &[1, 2, 4], &[1, 2, 4], &[])?;
-    let world = begun(alloc, &film)?;
+    let tables = BoundTables::of(alloc, &film)?;
+    let kept = Kept::new(
+        &film,
+        Kind::Plain,
+        |q, need| static_reach(&film, &tables, Kind::Plain, Mask(q), need),
+    );
+    let world = begun(alloc, &kept)?;
     let finished = Event::Offer {
         who: 0,
         path: greedy(&other),
     };
-    assert!(rt; !world.allows(&finished));
-    assert!(rt; !world.allows(&enlist(0, 0, path(&other, &[1])?)));
-    assert!(rt; world.allows(&enlist(0, 0, path(&film, &[2])?)));
+    assert!(rt; !world.allows(&kept, &finished));
+    assert!(rt; !world.allows(&kept, &enlist(0, 0, path(&other, &[1])?)));
+    assert!(rt; world.allows(&kept, &enlist(0, 0, path(&film, &[2])?)));
     Ok(())
 }
 
@@ -277,11 +341,17 @@ fn paths_of_other_films(rt: HostRuntime) -> Result<(), Fail> {
 fn paths_that_a_bound_rules_out(rt: HostRuntime) -> Result<(), Fail> {
     let alloc = rt.alloc();
     let film = plain_triangle(alloc)?;
-    let mut world = world(alloc, &film, &greedy(&film), Kind::Pairs, 9)?;
-    reply(&mut world, &Event::Claim { who: 0 });
-    reply(&mut world, &enlist(0, 0, path(&film, &[])?));
+    let tables = BoundTables::of(alloc, &film)?;
+    let kept = Kept::new(
+        &film,
+        Kind::Pairs,
+        |q, need| static_reach(&film, &tables, Kind::Pairs, Mask(q), need),
+    );
+    let mut world = world(alloc, &kept, &greedy(&film), 9)?;
+    reply(&kept, &mut world, &Event::Claim { who: 0 });
+    reply(&kept, &mut world, &enlist(0, 0, path(&film, &[])?));
     // The first scene pays 3, and to finish costs 10 at least: no less than 13, which was told.
-    assert!(rt; !world.allows(&enlist(0, 0, path(&film, &[0])?)));
+    assert!(rt; !world.allows(&kept, &enlist(0, 0, path(&film, &[0])?)));
     Ok(())
 }
 
@@ -289,11 +359,17 @@ fn paths_that_a_bound_rules_out(rt: HostRuntime) -> Result<(), Fail> {
 fn paths_that_no_probe_lets_through(rt: HostRuntime) -> Result<(), Fail> {
     let alloc = rt.alloc();
     let film = plain_triangle(alloc)?;
-    let mut world = begun(alloc, &film)?;
+    let tables = BoundTables::of(alloc, &film)?;
+    let kept = Kept::new(
+        &film,
+        Kind::Plain,
+        |q, need| static_reach(&film, &tables, Kind::Plain, Mask(q), need),
+    );
+    let mut world = begun(alloc, &kept)?;
     let event = enlist(1, 1, path(&film, &[0, 1])?);
-    reply(&mut world, &Event::Probe { who: 1, set: 2 });
-    assert!(rt; !world.allows(&event));
-    reply(&mut world, &Event::Probe { who: 1, set: 4 });
-    assert!(rt; world.allows(&event));
+    reply(&kept, &mut world, &Event::Probe { who: 1, set: 2 });
+    assert!(rt; !world.allows(&kept, &event));
+    reply(&kept, &mut world, &Event::Probe { who: 1, set: 4 });
+    assert!(rt; world.allows(&kept, &event));
     Ok(())
 }

@@ -56,8 +56,8 @@ module _ (world : WorldData) (sound : IsSound world) where
 -- ---- counts
 
 -- tasks of which different sets remain are along different scenes
-tasks_of : (search : SearchData) → AreStarts search → AreTasks (depth_of search) search.tasks
-tasks_of search starts = record {
+pub tasks_apart : (search : SearchData) → AreStarts search → AreTasks (depth_of search) search.tasks
+tasks_apart search starts = record {
   long = starts.long;
   apart = λ i j d rising within same.
       starts.apart i j d rising within
@@ -67,17 +67,17 @@ tasks_of search starts = record {
 module _ (world : WorldData) (sound : IsSound world) where
   pub most_lines : length world.lines ≤ few (search_rules world.search) world.search.start
   most_lines =
-      lines_few (search_rules world.search) world.search.start (depth_of world.search) world.search.tasks sound.film (tasks_of world.search sound.tasks) world.lines
+      lines_few (search_rules world.search) world.search.start (depth_of world.search) world.search.tasks sound.film (tasks_apart world.search sound.tasks) world.lines
       (λ part. (part_at world part).last) (λ part. (part_at world part).number) sound.counts
 
   pub most_of_set : (set : ℕ) → count_by (λ line. eqb line.set set) world.lines ≤ ways (search_rules world.search) world.search.start set
   most_of_set =
-      lines_ways (search_rules world.search) world.search.start (depth_of world.search) world.search.tasks sound.film (tasks_of world.search sound.tasks) world.lines
+      lines_ways (search_rules world.search) world.search.start (depth_of world.search) world.search.tasks sound.film (tasks_apart world.search sound.tasks) world.lines
       (λ part. (part_at world part).last) (λ part. (part_at world part).number) sound.counts
 
   pub room_for_more : (who part : ℕ) (path : PathData) → who < length world.workers → MayEnlist world who part path
       → length world.lines + 1 ≤ few (search_rules world.search) world.search.start
   room_for_more who part path lt may =
-      lines_room (search_rules world.search) world.search.start (depth_of world.search) world.search.tasks sound.film (tasks_of world.search sound.tasks) world.lines
+      lines_room (search_rules world.search) world.search.start (depth_of world.search) world.search.tasks sound.film (tasks_apart world.search sound.tasks) world.lines
       (λ p. (part_at world p).last) (λ p. (part_at world p).number) sound.counts part path (part_within world who part path lt sound may)
       (may.is_open.0, may.some) may.later may.lies (is_candidate_of_start world who part path lt sound may)

@@ -7,12 +7,13 @@ ghost use Rattle.strip_film.specs.Path.{IsPath};
 ghost use Rattle.strip_film.specs.Shoot.{step_cost};
 ghost use Rattle.strip_film.specs.Shown.{path_data};
 ghost use Rattle.strip_bound.specs.Bounds.{bound};
+ghost use Rattle.strip_bound.specs.Kept.{Keeps};
 ghost use Rattle.strip_rule.specs.Rule.{open_firsts};
 ghost use Rattle.strip_lines.specs.Lines.{IsJustified, known};
 ghost use Rattle.strip_count.specs.Paths.{ComesAfter};
 ghost use Rattle.strip_count.specs.Parts.{lies_in};
 ghost use Rattle.strip_race.specs.Shown.{probe_data};
-ghost use Rattle.strip_hand.specs.Search.{depth_of, search_rules};
+ghost use Rattle.strip_hand.specs.Search.{GoesBy, depth_of, search_rules};
 ghost use Rattle.strip_race.specs.World.{part_at};
 ghost use Rattle.strip_hand.specs.Hand.{Knows, Lets, LetsThrough};
 ghost use Rattle.strip_race.specs.Allowed.{IsAllowed, IsFitting, MayEnlist, MayRaise, actor_of};
@@ -22,7 +23,7 @@ use crate::event::Event;
 use crate::paths::{is_complete, is_open};
 use crate::state::Asked;
 use crate::world::World;
-use strip_bound::static_bound;
+use strip_bound::Kept;
 use strip_film::{Film, Known, Path, Probe, step};
 use strip_mask::Mask;
 use strip_rule::open_firsts;
@@ -31,11 +32,13 @@ impl World {
     /// Whether the event may come now: its worker is one of the world's, and what it does is justified. A
     /// path is walked anew, and a bound takes a turn for each line with each open first of its set. It takes
     /// no memory.
-    pub fn allows(&self, event: &Event) -> bool
-        requires { IsSound self.now }
+    pub fn allows<F: Fn(u64, u64) -> u64>(&self, kept: &Kept<F>, event: &Event) -> bool
+        requires sound { IsSound self.now }
+        requires keeps { Keeps (F.pre kept.now.f) (F.post kept.now.f) kept.now.kind kept.now.film.now }
+        requires search { GoesBy kept.now.kind kept.now.film.now self.now.search }
         ensures { IsTrue result ↔ IsAllowed self.now event.now }
     {
-        self.has_worker(actor_of(event)) && self.is_fitting(event)
+        self.has_worker(actor_of(event)) && self.is_fitting(kept, event)
     }
 
     /// Whether a worker has this number.
@@ -46,24 +49,34 @@ impl World {
     }
 
     /// Whether the event of one of the workers may come now.
-    fn is_fitting(&self, event: &Event) -> bool
+    fn is_fitting<F: Fn(u64, u64) -> u64>(&self, kept: &Kept<F>, event: &Event) -> bool
         requires sound { IsSound self.now }
+        requires keeps { Keeps (F.pre kept.now.f) (F.post kept.now.f) kept.now.kind kept.now.film.now }
+        requires search { GoesBy kept.now.kind kept.now.film.now self.now.search }
         requires worker { actor_of event.now < length self.now.workers }
         ensures { IsTrue result ↔ IsFitting self.now event.now }
     {
         match event {
             Event::Look { .. } | Event::Claim { .. } => true,
             Event::Offer { path, .. } => is_complete(&self.film, path),
-            Event::Enlist { who, task, path } => self.may_enlist(*who, *task, path),
-            Event::Raise { line, bound, .. } => self.may_raise(*line, *bound),
+            Event::Enlist { who, task, path } => self.may_enlist(kept, *who, *task, path),
+            Event::Raise { line, bound, .. } => self.may_raise(kept, *line, *bound),
             Event::Probe { set, .. } => lies_in_film(&self.film, Mask(*set)),
             Event::Note { known, .. } => self.may_note(known),
         }
     }
 
     /// Whether the worker may enlist the path in the part.
-    fn may_enlist(&self, who: u32, part: u32, path: &Path) -> bool
+    fn may_enlist<F: Fn(u64, u64) -> u64>(
+        &self,
+        kept: &Kept<F>,
+        who: u32,
+        part: u32,
+        path: &Path,
+    ) -> bool
         requires sound { IsSound self.now }
+        requires keeps { Keeps (F.pre kept.now.f) (F.post kept.now.f) kept.now.kind kept.now.film.now }
+        requires search { GoesBy kept.now.kind kept.now.film.now self.now.search }
         requires worker { who < length self.now.workers }
         ensures { IsTrue result ↔ MayEnlist self.now who part (path_data path.now) }
     {
@@ -71,7 +84,7 @@ impl World {
         self.is_next_of(who, part, path)
             && is_open(&self.film, path)
             && !path.rest().is_empty()
-            && self.is_below(path, worker.told)
+            && self.is_below(kept, path, worker.told)
             && (part == 0 || lets_through(worker.asked, path, worker.told))
     }
 
@@ -91,45 +104,59 @@ impl World {
     }
 
     /// Whether the path with the static bound of what remains is below a cost.
-    fn is_below(&self, path: &Path, cost: u64) -> bool
-        requires { IsPath self.now.search.film (path_data path.now) }
+    fn is_below<F: Fn(u64, u64) -> u64>(&self, kept: &Kept<F>, path: &Path, cost: u64) -> bool
+        requires keeps { Keeps (F.pre kept.now.f) (F.post kept.now.f) kept.now.kind kept.now.film.now }
+        requires search { GoesBy kept.now.kind kept.now.film.now self.now.search }
+        requires path { IsPath self.now.search.film (path_data path.now) }
         ensures { IsTrue result ↔ ((path_data path.now).paid
             + bound self.now.search.kind self.now.search.film (path_data path.now).rest < cost) }
     {
-        self.bound(path.rest()) < cost.saturating_sub(path.paid())
+        self.bound(kept, path.rest()) < cost.saturating_sub(path.paid())
     }
 
     /// Whether the line may be raised to the bound.
-    fn may_raise(&self, line: u32, bound: u64) -> bool
-        requires { IsSound self.now }
+    fn may_raise<F: Fn(u64, u64) -> u64>(&self, kept: &Kept<F>, line: u32, bound: u64) -> bool
+        requires sound { IsSound self.now }
+        requires keeps { Keeps (F.pre kept.now.f) (F.post kept.now.f) kept.now.kind kept.now.film.now }
+        requires search { GoesBy kept.now.kind kept.now.film.now self.now.search }
         ensures { IsTrue result ↔ MayRaise self.now line bound }
     {
         match self.lines.get(line as usize) {
-            Some(line) => self.is_justified(Mask(line.set), bound),
+            Some(line) => self.is_justified(kept, Mask(line.set), bound),
             None => false,
         }
     }
 
     /// Whether the bound is justified for the set by the lines: the static one reaches it, or each open
     /// first's step with what is known of the rest does.
-    fn is_justified(&self, set: Mask, bound: u64) -> bool
-        requires { LiesIn self.now.search.film set.0 }
+    fn is_justified<F: Fn(u64, u64) -> u64>(&self, kept: &Kept<F>, set: Mask, bound: u64) -> bool
+        requires keeps { Keeps (F.pre kept.now.f) (F.post kept.now.f) kept.now.kind kept.now.film.now }
+        requires search { GoesBy kept.now.kind kept.now.film.now self.now.search }
+        requires lies { LiesIn self.now.search.film set.0 }
         ensures { IsTrue result ↔ IsJustified (search_rules self.now.search) self.now.lines (record { set = set.0; bound = bound }) }
     {
-        bound <= self.bound(set) || !set.is_empty() && self.each_first_reaches(set, bound)
+        bound <= self.bound(kept, set)
+            || !set.is_empty() && self.each_first_reaches(kept, set, bound)
     }
 
     /// Whether each open first's step with what is known of the rest reaches the bound. For each open first
     /// a step, a static bound and a turn for each line.
-    fn each_first_reaches(&self, set: Mask, bound: u64) -> bool
-        requires { LiesIn self.now.search.film set.0 }
+    fn each_first_reaches<F: Fn(u64, u64) -> u64>(
+        &self,
+        kept: &Kept<F>,
+        set: Mask,
+        bound: u64,
+    ) -> bool
+        requires keeps { Keeps (F.pre kept.now.f) (F.post kept.now.f) kept.now.kind kept.now.film.now }
+        requires search { GoesBy kept.now.kind kept.now.film.now self.now.search }
+        requires lies { LiesIn self.now.search.film set.0 }
         ensures { IsTrue result ↔ ((scene : ℕ) → has (open_firsts self.now.search.film set.0) scene ≡ true
             → bound ≤ step_cost self.now.search.film set.0 scene
             + known (search_rules self.now.search) self.now.lines (without set.0 scene)) }
     {
         self.film.keeps_limits();
         for scene in open_firsts(&self.film, set).iter() {
-            let rest = self.known(set.without(scene));
+            let rest = self.known(kept, set.without(scene));
             if bound.saturating_sub(step(&self.film, set, scene)) > rest {
                 return false;
             }
@@ -139,11 +166,13 @@ impl World {
 
     /// What is known of the set: the greatest of its static bound and the bounds of the lines with this set,
     /// in units of money. One turn for each line.
-    pub fn known(&self, set: Mask) -> u64
-        requires { LiesIn self.now.search.film set.0 }
+    pub fn known<F: Fn(u64, u64) -> u64>(&self, kept: &Kept<F>, set: Mask) -> u64
+        requires keeps { Keeps (F.pre kept.now.f) (F.post kept.now.f) kept.now.kind kept.now.film.now }
+        requires search { GoesBy kept.now.kind kept.now.film.now self.now.search }
+        requires lies { LiesIn self.now.search.film set.0 }
         ensures { result ≡ known (search_rules self.now.search) self.now.lines set.0 }
     {
-        let mut greatest = self.bound(set);
+        let mut greatest = self.bound(kept, set);
         for line in &self.lines {
             if line.set == set.0 {
                 greatest = greatest.max(line.bound);
@@ -153,11 +182,13 @@ impl World {
     }
 
     /// The static bound of the set.
-    fn bound(&self, set: Mask) -> u64
-        requires { LiesIn self.now.search.film set.0 }
+    pub(crate) fn bound<F: Fn(u64, u64) -> u64>(&self, kept: &Kept<F>, set: Mask) -> u64
+        requires keeps { Keeps (F.pre kept.now.f) (F.post kept.now.f) kept.now.kind kept.now.film.now }
+        requires search { GoesBy kept.now.kind kept.now.film.now self.now.search }
+        requires lies { LiesIn self.now.search.film set.0 }
         ensures { result ≡ bound self.now.search.kind self.now.search.film set.0 }
     {
-        static_bound(&self.film, &self.tables, self.kind, set)
+        kept.at(set)
     }
 
     /// Whether the table may be told of the known line.

@@ -13,7 +13,6 @@ use crate::laws::steps_keep_worlds_sound;
 use crate::state::{Part, Worker};
 use crate::world::World;
 use std::alloc::{AllocError, Global};
-use strip_bound::BoundTables;
 use strip_film::{Film, Path};
 use strip_io::Memory;
 use strip_kind::Kind;
@@ -42,7 +41,6 @@ impl World {
         let buckets = limits.entries / 64;
         Ok(World {
             film: film.copy()?,
-            tables: BoundTables::of(alloc, film)?,
             kind,
             cap: limits.cap,
             start: start.paid(),

@@ -8,7 +8,6 @@ ghost use Rattle.strip_race.specs.World.{stripe_at, worker_at};
 
 use crate::state::{Part, Worker};
 use std::marker::Model;
-use strip_bound::BoundTables;
 use strip_film::{Film, Line, Path};
 use strip_kind::Kind;
 use strip_table::{Bucket, Stripe};
@@ -19,7 +18,6 @@ use strip_table::{Bucket, Stripe};
 #[derive(Drop)]
 pub struct World {
     pub(crate) film: Film,
-    pub(crate) tables: BoundTables,
     pub(crate) kind: Kind,
     pub(crate) cap: u32,
     pub(crate) start: u64,
@@ -36,7 +34,6 @@ pub struct World {
 impl Model for World {
     ghost use Rattle.std.specs.Prelude.{◌≤◌, map, vec_capacity};
     ghost use Rattle.strip_film.specs.Shown.{path_data};
-    ghost use Rattle.strip_bound.specs.Tables.{AreTables};
     ghost use Rattle.strip_race.specs.Shown.{part_data, worker_data};
     ghost use Rattle.strip_race.specs.World.{WorldData};
 
@@ -53,7 +50,7 @@ impl Model for World {
       workers = map worker_data w.workers.items;
     } };
 
-    ghost invariant = { λ w. AreTables w.film w.tables × ((w.cap ≤ 16777216) × (w.cap ≤ vec_capacity w.lines)) };
+    ghost invariant = { λ w. (w.cap ≤ 16777216) × (w.cap ≤ vec_capacity w.lines) };
 }
 
 impl World {

@@ -21,3 +21,4 @@ pub mod Next
 pub mod Removed
 pub mod Searching
 pub mod Drafts
+mod Ends

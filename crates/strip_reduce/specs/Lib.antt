@@ -5,3 +5,4 @@ pub mod Law
 pub mod Shown
 pub mod Search
 pub mod Draft
+pub mod Oriented

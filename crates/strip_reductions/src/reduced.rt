@@ -9,8 +9,7 @@ use std::alloc::Global;
 use std::test::Fail;
 use strip_exhaustive::cheapest_order;
 use strip_model::{Instance, is_order, keeps_pairs, pay};
-use strip_reduce::{ReduceFault, Reduced, reduce};
-use strip_unreduce::{expand, orient};
+use strip_reduce::{ReduceFault, Reduced, expand, orient, reduce};
 
 #[test]
 fn reduced_films_cost_the_same_but_for_what_is_set_apart(rt: HostRuntime) -> Result<(), Fail> {

@@ -21,7 +21,8 @@ use Rattle.strip_team.specs.Ended.{EndedData, IsEnded}
 use Rattle.strip_proof.specs.declared.plan.Status.{Status}
 use Rattle.strip_proof.specs.declared.plan.Status.TheVariants.{Optimal, Bounded}
 use Rattle.strip_proof.specs.Plan.{PlanData}
-use Rattle.strip_solve.specs.Solved.{AreRows, Closes, IsSolved, IsStart, RanOut, class_rules}
+use Rattle.strip_check.specs.Accepted.{class_rules}
+use Rattle.strip_solve.specs.Solved.{AreRows, Closes, IsSolved, IsStart, RanOut}
 use Rattle.strip_trim.proofs.Counted.{no_longer, no_more_of}
 use Rattle.strip_trim.proofs.Known.{justified, known_whole}
 

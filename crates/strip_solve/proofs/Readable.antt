@@ -1,14 +1,12 @@
 -- A plan that was found can be said by a text.
 use Rattle.std.proofs.Common.{◌≡◌, ◌≢◌, ◌<◌, ◌≤◌, ◌^◌, ℕ, List, [], ◌∷◌, length, get_or, All, subst, arith}
 use Rattle.std.proofs.lemmas.List.{length-map}
-use Rattle.strip_mask.specs.Set.{IsSet}
 use Rattle.strip_mask.proofs.Below.{is_set_below}
 use Rattle.strip_kind.specs.declared.kind.Kind.{Kind}
 use Rattle.strip_pay.specs.Film.{FilmData}
 use Rattle.strip_pay.specs.Order.{IsOrder}
 use Rattle.strip_film.specs.declared.shared.Line.{Line}
 use Rattle.strip_film.specs.Film.{IsFilm, LiesIn}
-use Rattle.strip_film.specs.Finish.{IsAtMostFinish, IsFinish}
 use Rattle.strip_film.proofs.Small.{finish_small}
 use Rattle.strip_film.specs.Rules.{BeginLeast, BoundsFinish}
 use Rattle.strip_lines.specs.Lines.{AreJustified}
@@ -19,7 +17,8 @@ use Rattle.strip_model.proofs.Small.{pay_small_of}
 use Rattle.strip_reduce.specs.Reduction.{reduced}
 use Rattle.strip_proof.specs.Plan.{PlanData}
 use Rattle.strip_proof.specs.Text.{IsReadableLine, IsReadablePlan}
-use Rattle.strip_solve.specs.Solved.{IsSolved, class_rules}
+use Rattle.strip_check.specs.Accepted.{class_rules}
+use Rattle.strip_solve.specs.Solved.{IsSolved}
 
 -- each of justified lines has a set and a bound that a text can say
 lines_readable : (kind : Kind) (film : FilmData) (lines : List Line) → IsFilm (reduced film).film → BoundsFinish (class_rules kind film)

@@ -8,7 +8,7 @@ use Rattle.strip_film.specs.declared.shared.Line.{Line}
 use Rattle.strip_film.specs.Film.{all_scenes}
 use Rattle.strip_film.specs.Path.{PathData, IsComplete}
 use Rattle.strip_film.specs.Rules.{Rules}
-use Rattle.strip_lines.specs.Lines.{AreJustified, ahead, known, rules_of}
+use Rattle.strip_lines.specs.Lines.{AreJustified, ahead, known}
 use Rattle.strip_count.specs.Paths.{factorial, few, ways}
 use Rattle.strip_reduce.specs.Reduction.{reduced}
 use Rattle.strip_trim.specs.Trimmed.{AreTrimmed}
@@ -17,6 +17,7 @@ use Rattle.strip_start.specs.Moves.{IsImproved}
 use Rattle.strip_proof.specs.declared.plan.Status.{Status}
 use Rattle.strip_proof.specs.declared.plan.Status.TheVariants.{Optimal, Bounded}
 use Rattle.strip_proof.specs.Plan.{PlanData}
+use Rattle.strip_check.specs.Accepted.{class_rules}
 
 -- the path that a search of the film starts with: the greedy one, improved by moves
 pub record IsStart (film : FilmData) (start : PathData) : Type 0 where
@@ -24,10 +25,6 @@ pub record IsStart (film : FilmData) (start : PathData) : Type 0 where
   pub greedy : List ℕ
   pub is_greedy : IsGreedy film greedy
   pub improved : IsImproved film greedy start.scenes
-
--- what a search of a film's classes goes by
-abbrev pub class_rules : Kind → FilmData → Rules
-class_rules kind film = rules_of kind (reduced film).film
 
 -- the lines that prove a bound, of those that a search held: all of them, or where the bound is the cost those that the bound needs
 abbrev pub AreRows : Rules → Status → List Line → List Line → Type 0

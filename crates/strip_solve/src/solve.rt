@@ -28,11 +28,10 @@ use strip_memo::Memo;
 use strip_model::Instance;
 use strip_pay::laws::pays_stay_small;
 use strip_proof::{Plan, Status};
-use strip_reduce::{ReduceFault, Reduced, reduce};
+use strip_reduce::{ReduceFault, Reduced, expand, orient, reduce};
 use strip_start::{greedy, improve};
 use strip_team::{Ended, alone};
 use strip_trim::trim;
-use strip_unreduce::{expand, orient};
 
 /// A plan of the instance, found by one worker with static bounds of this kind, at most `nodes` lines, 1 to
 /// 16,777,216, and a table of `entries` entries, 64 to 4,194,304. `TooManyClasses` where more than 64

@@ -1,5 +1,5 @@
 -- A search ends: its front is closed up, and what is known of all scenes is the bound.
-use Rattle.std.proofs.Common.{◌≡◌, ℕ, suc, ◌<◌, ◌≤◌, Bool, Some, Result, Ok, Err, IfOk, List, length, count_by, eqb, refl, sym, ap, ◌∙◌, subst, arith}
+use Rattle.std.proofs.Common.{◌≡◌, ℕ, suc, ◌<◌, ◌≤◌, Bool, false, Some, Result, Ok, Err, IfOk, List, length, count_by, eqb, refl, sym, ap, ◌∙◌, subst, arith}
 use Rattle.strip_io.specs.declared.files.Memory.{Memory}
 use Rattle.strip_mask.proofs.Below.{LiesBelow-full}
 use Rattle.strip_kind.specs.declared.kind.Kind.{Kind}
@@ -12,7 +12,7 @@ use Rattle.strip_film.specs.Path.{PathData, IsComplete}
 use Rattle.strip_film.specs.Rules.{BeginLeast, BoundsFinish}
 use Rattle.strip_film.proofs.Orders.{AllOnce-from_order, kept_from_ready, ready_from_order}
 use Rattle.strip_film.proofs.StepSum.{steps_are_pay}
-use Rattle.strip_lines.specs.Lines.{ahead, known, line_at, rules_of}
+use Rattle.strip_lines.specs.Lines.{ahead, known, line_at}
 use Rattle.strip_lines.proofs.Justified.{known_is_true}
 use Rattle.strip_count.specs.Paths.{few, ways}
 use Rattle.strip_hand.specs.Hand.{HandData}
@@ -42,20 +42,16 @@ pub closed : (kind : Kind) (film : FilmData) (world after : WorldData) (front : 
     → ((line : ℕ) → front.root ≡ Some line
     → (bound ≤ (line_at after.lines line).bound) × (ahead (search_rules after.search) (all_scenes film) ≤ bound))
     → (IsWhole after.search front (hand_data after).told → AllReach front found (hand_data after).told → (hand_data after).told ≤ bound)
-    → IsClosed kind film after spent
+    → IsClosed kind film after spent bound
 closed kind film world after front found spent bound is learns was most root reaches = record {
   alone = is;
-  whole = λ not. (
-      let told : (hand_data after).told ≤ bound
-      = reaches (held.whole not) (λ task within wanted. held.reach not task (omega (arith, within)) within wanted) in
-      omega (arith, most, told));
+  most = most;
+  whole = λ not. reaches (held.whole not) (λ task within wanted. held.reach not task (omega (arith, within)) within wanted);
   full = λ so. (held.cut so).full;
   fewer = λ so. cut_has_more kind film after front (suc (length front.tasks)) is (held.cut so) (omega (arith, count, is.owned.sound.part_count));
   reaches = λ so. (
       let line = some_of front.root (held.cut so).root in
-      let up : ahead (search_rules after.search) (all_scenes after.search.film) ≤ bound
-      = subst (λ (f : FilmData). ahead (search_rules after.search) (all_scenes f) ≤ bound) (sym is.same_film) (root line.0 line.1).1 in
-      omega (arith, most, up));
+      subst (λ (f : FilmData). ahead (search_rules after.search) (all_scenes f) ≤ bound) (sym is.same_film) (root line.0 line.1).1);
 }
   where
     held : HasWalked (hand_data after) front found (suc (length front.tasks)) spent
@@ -95,28 +91,41 @@ end_of world spent = record {
   spent = spent;
 }
 
--- the end, over the world's own film and kind
-module _ (world : WorldData) (spent : Bool) (shut : IsClosed world.search.kind world.search.film world spent) (film : IsFilm world.search.film)
+module _ (kind : Kind) (film : FilmData) (world : WorldData) (spent : Bool) (number : ℕ) (shut : IsClosed kind film world spent number)
     (bounds : BoundsFinish (search_rules world.search)) (begin : BeginLeast (search_rules world.search)) where
   abbrev best : PathData
   best = (worker_at world 0).best
+
+  abbrev is_film : IsFilm world.search.film
+  is_film = shut.alone.owned.sound.film
 
   worker : IsWorker world.search world.least (worker_at world 0)
   worker = shut.alone.owned.sound.workers 0 no_worker shut.alone.owned.one
 
   least : best.paid ≡ world.least
-  least = best_is_least world.search.kind world.search.film world shut.alone
+  least = best_is_least kind film world shut.alone
+
+  kept : IsKeptOrder world.search.film best.scenes
+  kept = complete_kept world.search.film is_film best worker.complete
+
+  pays : best.paid ≡ pay_of world.search.film best.scenes
+  pays = complete_pays world.search.film is_film best worker.complete
 
   true_bound : IsLeast world.search.film (known_of_all world)
   true_bound =
-      least_from_finish world.search.film film (known_of_all world)
-      (known_is_true (search_rules world.search) world.lines film bounds begin shut.alone.owned.sound.lines (all_scenes world.search.film)
+      least_from_finish world.search.film is_film (known_of_all world)
+      (known_is_true (search_rules world.search) world.lines is_film bounds begin shut.alone.owned.sound.lines (all_scenes world.search.film)
       (LiesBelow-full (length world.search.film.casts)))
 
+  -- unless the budget was spent, the number is what is known of all scenes
+  pub number_is_known : spent ≡ false → number ≡ known_of_all world
+  number_is_known not = omega (arith, shut.whole not, shut.most, least, worker.no_less, pays, true_bound best.scenes kept)
+
+  -- the end, over the world's own film and kind
   ends : EndsFrom world.search.kind world.search.film world.search.start world.search.cap (end_of world spent)
   ends start paid = record {
-    order = complete_kept world.search.film film best worker.complete;
-    cost = complete_pays world.search.film film best worker.complete;
+    order = kept;
+    cost = pays;
     no_dearer = omega (arith, paid, least, worker.no_less, worker.no_more);
     lines = shut.alone.owned.sound.lines;
     bound = refl;
@@ -129,26 +138,18 @@ module _ (world : WorldData) (spent : Bool) (shut : IsClosed world.search.kind w
     spent = λ so. record {
       full = shut.full so;
       fewer = subst (λ (cost : ℕ). world.search.cap < few (search_rules world.search) cost) (sym paid) (shut.fewer so);
-      reaches = shut.reaches so;
+      reaches = (let up = shut.reaches so in omega (arith, up, shut.most));
     };
-    closed = λ not. (
-        let pays : best.paid ≡ pay_of world.search.film best.scenes = complete_pays world.search.film film best worker.complete in
-        omega (arith, shut.whole not, least, worker.no_less, pays, true_bound best.scenes (complete_kept world.search.film film best worker.complete)));
+    closed = λ not. omega (arith, shut.whole not, shut.most, least, worker.no_less, pays, true_bound best.scenes kept);
   }
 
--- the same over a film and a kind that are the world's
-pub tells : (kind : Kind) (film : FilmData) (world : WorldData) (spent : Bool) → IsClosed kind film world spent → IsFilm film
-    → BoundsFinish (rules_of kind film) → BeginLeast (rules_of kind film)
-    → EndsFrom kind film world.search.start world.search.cap (end_of world spent)
-tells kind film world spent shut =
-    subst (λ (k : Kind). IsClosed k film world spent → IsFilm film → BoundsFinish (rules_of k film) → BeginLeast (rules_of k film)
-    → EndsFrom k film world.search.start world.search.cap (end_of world spent)) shut.alone.same_kind
-    (subst (λ (f : FilmData). IsClosed world.search.kind f world spent → IsFilm f → BoundsFinish (rules_of world.search.kind f)
-    → BeginLeast (rules_of world.search.kind f) → EndsFrom world.search.kind f world.search.start world.search.cap (end_of world spent))
-    shut.alone.same_film (λ own is bounds begin. ends world spent own is bounds begin)) shut
+  pub tells : EndsFrom kind film world.search.start world.search.cap (end_of world spent)
+  tells =
+      subst (λ (k : Kind). EndsFrom k film world.search.start world.search.cap (end_of world spent)) shut.alone.same_kind
+      (subst (λ (f : FilmData). EndsFrom world.search.kind f world.search.start world.search.cap (end_of world spent)) shut.alone.same_film ends)
 
 -- the end that was told is one from the start path
 pub ended_from : (kind : Kind) (film : FilmData) (start : PathData) (cap : ℕ) (result : Result Ended Memory)
     → IfOk result (λ ended. EndsFrom kind film start.paid cap (ended_data ended)) → IfOk result (λ ended. IsEnded kind film start cap (ended_data ended))
-ended_from kind film start cap (Ok ended) ends = ends start refl
-ended_from kind film start cap (Err memory) ends = tt
+ended_from kind film start cap (Ok ended) every = every start refl
+ended_from kind film start cap (Err memory) every = tt

@@ -7,16 +7,14 @@ use Rattle.strip_mask.proofs.Sums.{sum_below-suc, sum_below-zero}
 use Rattle.strip_kind.specs.declared.kind.Kind.{Kind}
 use Rattle.strip_pay.specs.Film.{FilmData}
 use Rattle.strip_film.specs.Path.{PathData}
-use Rattle.strip_film.specs.Finish.{rest_after}
-use Rattle.strip_film.specs.Film.{all_scenes}
-use Rattle.strip_count.specs.Parts.{AreTasks}
 use Rattle.strip_count.specs.Paths.{ComesAfter, few}
 use Rattle.strip_count.proofs.Shares.{is_candidate_from, lines_room}
 use Rattle.strip_hand.specs.Hand.{RecordData}
-use Rattle.strip_hand.specs.Search.{AreStarts, SearchData, depth_of, search_rules}
+use Rattle.strip_hand.specs.Search.{depth_of, search_rules}
 use Rattle.strip_race.specs.Hand.{hand_data, own_record, record_by}
 use Rattle.strip_race.specs.Sound.{IsSound}
 use Rattle.strip_race.specs.World.{PartData, WorldData, part_at, worker_at}
+use Rattle.strip_race.proofs.True.{tasks_apart}
 use Rattle.strip_front.specs.Calls.{count_in}
 use Rattle.strip_front.specs.Front.{FrontData}
 use Rattle.strip_front.specs.Tasks.{tasks_of}
@@ -110,15 +108,6 @@ next_stays kind film world after part was is claimed kept others =
     omega (arith, up, down)
 
 -- ---- counts
-
--- tasks of which different sets remain are along different scenes
-tasks_apart : (search : SearchData) → AreStarts search → AreTasks (depth_of search) search.tasks
-tasks_apart search starts = record {
-  long = starts.long;
-  apart = λ i j d rising within same.
-      starts.apart i j d rising within
-      ((starts.paths i d (omega (arith, rising, within))).left ∙ ap (rest_after (all_scenes search.film)) same ∙ sym (starts.paths j d within).left);
-}
 
 -- where the budget was spent, there are more candidates than lines
 pub cut_has_more : (kind : Kind) (film : FilmData) (world : WorldData) (front : FrontData) (parts : ℕ) → IsAlone kind film world

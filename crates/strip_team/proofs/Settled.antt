@@ -3,18 +3,16 @@ use Rattle.std.proofs.Common.{◌≡◌, ◌≢◌, ℕ, suc, ◌+◌, ◌<◌, 
 use Rattle.std.specs.Prelude.{IsSome}
 use Rattle.std.proofs.lemmas.Bool.{cases_eq}
 use Rattle.std.proofs.lemmas.List.{length-set, get_or-set_same, get_or-set_other}
-use Rattle.strip_film.specs.declared.shared.Line.{Line}
-use Rattle.strip_film.specs.Rules.{Rules}
 use Rattle.strip_film.specs.Shown.{CursorData}
-use Rattle.strip_lines.specs.Lines.{known, line_at}
-use Rattle.strip_lines.proofs.Grown.{known-line, known-static}
-use Rattle.strip_hand.specs.Hand.{HandData, Knows}
+use Rattle.strip_lines.specs.Lines.{known}
+use Rattle.strip_hand.specs.Hand.{HandData}
 use Rattle.strip_hand.specs.Search.{search_rules}
 use Rattle.strip_front.specs.Calls.{AreFound}
 use Rattle.strip_front.specs.Front.{FrontData, is_wanted, task_at}
 use Rattle.strip_front.specs.Filled.{IsFilled}
 use Rattle.strip_walk.specs.declared.found.Found.{Found}
 use Rattle.strip_walk.specs.Found.{IsCutShort, IsFound}
+use Rattle.strip_walk.proofs.Bounds.{bound_known}
 use Rattle.strip_team.specs.Team.{HasWalked, IsCut, ReachFound, WalksTask}
 use Rattle.strip_team.proofs.Moved.{moved}
 
@@ -23,16 +21,15 @@ pub some_of : (x : Option ℕ) → IsSome x → (n : ℕ) × (x ≡ Some n)
 some_of None is = absurd (let e : false ≡ true = is in cc)
 some_of (Some n) is = (n, refl)
 
--- a bound that a line has, or else the static one has, is at most what is known
-found_known : (rules : Rules) (lines : List Line) (set bound : ℕ) (line : Option ℕ)
-    → ((n : ℕ) → line ≡ Some n → Knows lines (record { line = n; set = set; bound = bound }))
-    → (line ≡ None → bound ≤ rules.bound set) → bound ≤ known rules lines set
-found_known rules lines set bound None some none = omega (arith, none refl, known-static rules lines set)
-found_known rules lines set bound (Some n) some none =
-    let is = some n refl in
-    let most : (line_at lines n).bound ≤ known rules lines set
-    = subst (λ (q : ℕ). (line_at lines n).bound ≤ known rules lines q) is.set (known-line rules lines n is.there) in
-    omega (arith, most, is.as_great)
+-- what is found of one more task, where it is at most what is known
+pub found_with : (hand : HandData) (front : FrontData) (found : List ℕ) (task bound : ℕ) → task < length found
+    → bound ≤ known (search_rules hand.search) hand.lines (task_at front task).rest → AreFound hand front found
+    → AreFound hand front (slice_set found task bound)
+found_with hand front found task bound within most was other inside asked = elim (cases_eq other task) [
+  | inl same ↦ subst (λ (t : ℕ). slice_index (slice_set found task bound) t ≤ known (search_rules hand.search) hand.lines (task_at front t).rest) (sym same)
+      (omega (arith, most, get_or-set_same found task bound 0 within))
+  | inr apart ↦ omega (arith, was other inside asked, get_or-set_other found task other bound 0 apart)
+]
 
 -- the empty path has a line where a task is asked for
 pub wanted_root : (hand : HandData) (front : FrontData) (task : ℕ) → IsFilled hand front → task < length front.tasks → is_wanted front task ≡ true
@@ -96,14 +93,10 @@ module _ (hand : HandData) (front : FrontData) (found : List ℕ) (task : ℕ) (
     found_there other apart = get_or-set_other found task other answer.bound 0 apart
 
     known_then : AreFound hand front more
-    known_then other inside asked = elim (cases_eq other task) [
-      | inl same ↦ subst (λ (t : ℕ). slice_index more t ≤ known (search_rules hand.search) hand.lines (task_at front t).rest) (sym same)
-          (subst (λ (n : ℕ). n ≤ known (search_rules hand.search) hand.lines (task_at front task).rest) (sym found_here)
-          (found_known (search_rules hand.search) hand.lines (task_at front task).rest answer.bound answer.line
-          (λ n line. (is.line n line).0) is.none))
-      | inr apart ↦ subst (λ (n : ℕ). n ≤ known (search_rules hand.search) hand.lines (task_at front other).rest) (sym (found_there other apart))
-          (was.known other inside asked)
-    ]
+    known_then =
+        found_with hand front found task answer.bound (omega (arith, within, was.long))
+        (bound_known (search_rules hand.search) hand.lines (task_at front task) answer.line answer.bound (λ n line. (is.line n line).0) is.none)
+        was.known
 
     reach_then : spent ≡ false → answer.spent ≡ false → ReachFound hand front more (suc (suc task))
     reach_then not not_now other first inside asked = elim (cases_eq other task) [

@@ -16,14 +16,15 @@ use Rattle.strip_team.specs.Team.{IsAlone}
 abbrev pub known_of_all : WorldData → ℕ
 known_of_all world = known (search_rules world.search) world.lines (all_scenes world.search.film)
 
--- what is known of all scenes reaches the least cost told; or, where the budget was spent, the look-ahead, and there are as many lines as
--- there may be, though fewer than candidates of the start
-pub record IsClosed (kind : Kind) (film : FilmData) (world : WorldData) (spent : Bool) : Type 0 where
+-- a number that is at most what is known of all scenes, and reaches the least cost told; or, where the budget was spent, the look-ahead,
+-- and there are as many lines as there may be, though fewer than candidates of the start
+pub record IsClosed (kind : Kind) (film : FilmData) (world : WorldData) (spent : Bool) (number : ℕ) : Type 0 where
   pub alone : IsAlone kind film world
-  pub whole : spent ≡ false → (hand_data world).told ≤ known_of_all world
+  pub most : number ≤ known_of_all world
+  pub whole : spent ≡ false → (hand_data world).told ≤ number
   pub full : spent ≡ true → length world.lines ≡ world.search.cap
   pub fewer : spent ≡ true → world.search.cap < few (search_rules world.search) world.search.start
-  pub reaches : spent ≡ true → ahead (search_rules world.search) (all_scenes world.search.film) ≤ known_of_all world
+  pub reaches : spent ≡ true → ahead (search_rules world.search) (all_scenes world.search.film) ≤ number
 
 -- it ended so, where the search began with a path that paid this much
 abbrev pub EndsFrom : Kind → FilmData → ℕ → ℕ → EndedData → Type 0

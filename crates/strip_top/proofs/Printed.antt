@@ -14,9 +14,8 @@ use Rattle.strip_proof.specs.declared.plan.Status.TheVariants.{Optimal, Bounded 
 use Rattle.strip_proof.specs.Plan.{PlanData}
 use Rattle.strip_proof.specs.Rows.{bare_text, plan_text}
 use Rattle.strip_proof.specs.Text.{HasReadableScenes, IsReadablePlan, says}
-use Rattle.strip_check.specs.Accepted.{IsAccepted}
-use Rattle.strip_check.specs.Accepted.{class_rules as rules_of_classes}
-use Rattle.strip_solve.specs.Solved.{Closes, IsSolved, RanOut, class_rules}
+use Rattle.strip_check.specs.Accepted.{IsAccepted, class_rules}
+use Rattle.strip_solve.specs.Solved.{Closes, IsSolved, RanOut}
 use Rattle.strip_answer.specs.declared.answer.Answer.{Answer}
 use Rattle.strip_answer.specs.declared.status.Status.{Status}
 use Rattle.strip_answer.specs.declared.status.Status.TheVariants.{BadInstance}
@@ -43,10 +42,10 @@ pub solved_accepted : (kind : Kind) (film : FilmData) (most : ℕ) (plan : PlanD
 solved_accepted kind film most plan solved = record {
   order = solved.order;
   cost = solved.cost;
-  justified = subst (λ k. AreJustified (rules_of_classes k film) plan.lines) (sym solved.same_kind) solved.proof.justified;
+  justified = subst (λ k. AreJustified (class_rules k film) plan.lines) (sym solved.same_kind) solved.proof.justified;
   reaches =
       let reached = solved.proof.reaches in
-      subst (λ k. plan.bound ≤ (reduced film).apart + known (rules_of_classes k film) plan.lines (all_scenes (reduced film).film)) (sym solved.same_kind)
+      subst (λ k. plan.bound ≤ (reduced film).apart + known (class_rules k film) plan.lines (all_scenes (reduced film).film)) (sym solved.same_kind)
       (omega (arith, reached));
   status = status_tells kind film most solved.start plan plan.status solved.closes;
 }

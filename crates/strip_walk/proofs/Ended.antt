@@ -1,5 +1,5 @@
 -- The end of a walk: the line is raised to what its children make known.
-use Rattle.std.proofs.Common.{◌≡◌, ◌≢◌, ℕ, ◌+◌, ◌^◌, ◌<◌, ◌≤◌, inl, inr, max, Bool, true, false, Some, None, Result, Ok, Err, List, [], ◌∷◌, ◌++◌, length, Contains, refl, sym, ap, ◌∙◌, subst, arith}
+use Rattle.std.proofs.Common.{◌≡◌, ◌≢◌, ℕ, ◌+◌, ◌<◌, ◌≤◌, inl, inr, max, Bool, true, false, Some, None, Result, Ok, Err, List, [], ◌∷◌, ◌++◌, length, Contains, refl, sym, ap, ◌∙◌, subst, arith}
 use Rattle.std.proofs.lemmas.Bool.{cases_lt}
 use Rattle.std.proofs.lemmas.List.{same_from_push}
 use Rattle.strip_io.specs.declared.files.Memory.{Memory}
@@ -10,13 +10,10 @@ use Rattle.strip_mask.proofs.Sizes.{size-without}
 use Rattle.strip_pay.specs.Film.{FilmData}
 use Rattle.strip_film.specs.declared.shared.Known.{Known}
 use Rattle.strip_film.specs.Film.{IsFilm, LiesIn}
-use Rattle.strip_film.specs.Finish.{IsAtMostFinish, IsFinish}
 use Rattle.strip_film.specs.Path.{IsPath, PathData}
 use Rattle.strip_film.specs.Shoot.{step_cost}
 use Rattle.strip_film.specs.Shown.{CursorData}
-use Rattle.strip_film.proofs.Costs.{steps_limit}
-use Rattle.strip_film.proofs.Least.{finish_exists}
-use Rattle.strip_film.proofs.Lists.{AllRemained-from_ready, ready_there}
+use Rattle.strip_film.proofs.Lists.{ready_there}
 use Rattle.strip_film.proofs.Paths.{rest_lies}
 use Rattle.strip_film.proofs.Started.{same_path}
 use Rattle.strip_rule.specs.Rule.{open_firsts}

@@ -1,13 +1,12 @@
-use Rattle.std.proofs.Common.{◌≡◌, ◌∙◌, map, ap}
+use Rattle.std.proofs.Common.{◌∙◌, map, ap}
 use Rattle.strip_film.specs.Shown.{path_data}
-use Rattle.strip_hand.specs.Search.{AreStarts, SearchData}
 use Rattle.strip_parts.proofs.worlds.world.Goals as goal
 
 pub new-requires-clause-tasks : goal.new-requires-clause-tasks
-new-requires-clause-tasks c =
+new-requires-clause-tasks g c =
     c.tasks_are_starts.ensures (record {
-      film = c.args.film.now;
-      kind = c.args.kind;
+      film = c.film-film.result.now;
+      kind = c.kind.result;
       cap = c.args.cap;
       start = (path_data c.args.start.now).paid;
       tasks = map path_data c.deref.result.now;

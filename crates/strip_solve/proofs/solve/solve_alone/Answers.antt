@@ -1,4 +1,4 @@
-use Rattle.std.proofs.Common.{subst, ◌≡◌}
+use Rattle.std.proofs.Common.{subst}
 use Rattle.strip_film.specs.Film.{IsFilm}
 use Rattle.strip_model.specs.Film.{film_of}
 use Rattle.strip_proof.specs.Plan.{plan_data}

@@ -16,7 +16,7 @@ returns-clause-closed g c =
     let alone = alone_after c.args.kept.now.kind c.args.kept.now.film.now c.args.world.now c.close_up.new.hand c.requires.alone c.close_up.ensures.sound
     c.close_up.ensures.home (ap (λ (h : HandData). h.search) c.close_up.ensures.stays.only) in
     closed c.args.kept.now.kind c.args.kept.now.film.now c.args.world.now c.close_up.new.hand front c.deref.result.now c.args.walked.now.spent
-    c.in_ok-close_up.field-0 alone c.close_up.ensures.stays
+    c.in_ok-number.number alone c.close_up.ensures.stays
     (subst (λ (found : List ℕ). HasWalked (hand_data c.args.world.now) front found (suc (length front.tasks)) c.args.walked.now.spent) (sym c.deref.ensures.value)
     (subst (λ (parts : ℕ). HasWalked (hand_data c.args.world.now) front c.args.walked.now.found.items parts c.args.walked.now.spent) count c.requires.walked))
-    c.in_ok-close_up.ensures.known c.in_ok-close_up.ensures.root c.in_ok-close_up.ensures.reaches
+    c.in_ok-number.ensures.known c.in_ok-number.ensures.root c.in_ok-number.ensures.reaches

@@ -24,7 +24,7 @@ enlist-requires c =
     let same : c.index_mut.result.now.number ≡ (part_at c.args.self.now c.args.task).number
     = sym (ap (λ (d : PartData). d.number) here) ∙ ap (λ (w : WorldData). (part_at w c.args.task).number) pushed in
     let most : (part_at c.args.self.now c.args.task).number ≤ length c.args.self.now.lines = number_le_lines c.args.self.now c.args.task c.requires.sound c.requires.task in
-    let cap : c.args.self.now.search.cap ≤ 16777216 = subst (λ (w : WorldData). w.search.cap ≤ 16777216) c.self.view_is c.self.invariant.1.0 in
+    let cap : c.args.self.now.search.cap ≤ 16777216 = subst (λ (w : WorldData). w.search.cap ≤ 16777216) c.self.view_is c.self.invariant.0 in
     omega (arith, same, most, cap, c.requires.sound.few)
 
 pub returns-clause-world : goal.returns-clause-world

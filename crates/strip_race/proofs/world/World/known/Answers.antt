@@ -8,7 +8,7 @@ use Rattle.strip_race.proofs.world.World.known.Goals as goal
 use Rattle.strip_race.proofs.world.World.known.Goals.{then-line-set, else-line-set}
 
 pub loop-line-preserved : goal.loop-line-preserved
-loop-line-preserved c =
+loop-line-preserved g c =
     let rules = search_rules c.args.self.now.search in
     let i = c.loop-line.line-index in
     let same : c.deref-line-items.result.now ≡ c.args.self.now.lines = c.deref-line-items.ensures.value ∙ ap (λ (w : WorldData). w.lines) c.self.view_is in

@@ -5,4 +5,4 @@ use Rattle.strip_race.proofs.world.World.known.Given as goal
 
 -- what the lines so far make known
 abbrev pub invariant-loop-line : goal.invariant-loop-line
-invariant-loop-line l = l.greatest ≡ known (search_rules l.fn.self.search) (take l.line-index l.fn.self.lines) l.fn.set.0
+invariant-loop-line g l = l.greatest ≡ known (search_rules l.fn.self.search) (take l.line-index l.fn.self.lines) l.fn.set.0

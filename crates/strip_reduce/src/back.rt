@@ -5,11 +5,11 @@ ghost use Rattle.strip_pay.specs.Order.{IsOrder};
 ghost use Rattle.strip_pay.specs.Pay.{pay_of};
 ghost use Rattle.strip_reduce.specs.Shown.{reduced_data};
 ghost use Rattle.strip_reduce.specs.State.{way_back};
-ghost use Rattle.strip_unreduce.specs.Oriented.{oriented};
+ghost use Rattle.strip_reduce.specs.Oriented.{oriented};
 
+use crate::reduced::Reduced;
 use std::alloc::Global;
 use strip_io::Memory;
-use strip_reduce::Reduced;
 
 /// The way back: each class of the order as the scenes that were joined in it, in their own order. Time
 /// and memory grow with the number of scenes; it fails only where memory runs out.

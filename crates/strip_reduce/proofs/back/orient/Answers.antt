@@ -1,9 +1,9 @@
 use Rattle.std.proofs.Common.{rules, ◌≡◌, ◌∙◌, sym}
 use Rattle.strip_pay.proofs.Counts.{order_permuted}
 use Rattle.strip_pay.proofs.Pays.{pay-reverse}
-use Rattle.strip_unreduce.specs.Oriented.{oriented}
-use Rattle.strip_unreduce.proofs.Ends.{oriented-reverse}
-use Rattle.strip_unreduce.proofs.back.orient.Goals as goal
+use Rattle.strip_reduce.specs.Oriented.{oriented}
+use Rattle.strip_reduce.proofs.Ends.{oriented-reverse}
+use Rattle.strip_reduce.proofs.back.orient.Goals as goal
 
 pub returns-then-order-clause-order : goal.returns-then-order-clause-order
 returns-then-order-clause-order c = λ n is. order_permuted n c.args.order.now c.reverse.new.self is c.reverse.ensures.permutation

@@ -1,7 +1,7 @@
 use Rattle.std.proofs.Common.{◌≡◌, take}
 use Rattle.strip_reduce.specs.Shown.{reduced_data}
 use Rattle.strip_reduce.specs.State.{way_back}
-use Rattle.strip_unreduce.proofs.back.expand.Given as goal
+use Rattle.strip_reduce.proofs.back.expand.Given as goal
 
 -- the way back of the order so far
 abbrev pub invariant-loop-class : goal.invariant-loop-class

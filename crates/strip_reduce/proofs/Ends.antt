@@ -5,7 +5,7 @@ use Rattle.std.proofs.lemmas.List.{get_or-reverse, length-reverse, reverse-rever
 use Rattle.std.proofs.lemmas.List.Elements.{All-head, Contains-get_or}
 use Rattle.strip_pay.specs.Order.{IsOrder}
 use Rattle.strip_pay.proofs.Counts.{count-cons, counted_contains, tie-same}
-use Rattle.strip_unreduce.specs.Oriented.{oriented}
+use Rattle.strip_reduce.specs.Oriented.{oriented}
 
 -- each number stands once in an order, so that the ends of one of several scenes differ
 ends_differ : (n first : ℕ) (later : List ℕ) → IsOrder n (first ∷ later) → 0 < length later
