@@ -1,0 +1,13 @@
+use Rattle.std.proofs.Common.{rules, List, All, subst}
+use Rattle.strip_cases.proofs.differing.difference.Goals as goal
+use Rattle.strip_cases.specs.Met.{HasRow, IsNumberMet}
+
+pub returns : goal.returns
+returns c = record {
+  met = λ _. record {
+    ended = search rules;
+    text = c.other_text.ensures c.in_default.is;
+    rows = search rules;
+    numbers = search rules;
+  };
+}

@@ -1,0 +1,34 @@
+// The parts of a case file: what stands before its cases, each case, and in a case each file and step.
+ghost use Rattle.std.specs.Prelude.{◌≤◌, length};
+
+use crate::lines::{Head, Line};
+
+/// How many lines stand before the next case.
+pub(crate) fn before_case(lines: &[Line]) -> usize
+    ensures { result ≤ length lines.now }
+{
+    lines
+        .iter()
+        .position(|line| line.head == Head::Case)
+        .unwrap_or(lines.len())
+}
+
+/// How many lines stand before the next file or step.
+pub(crate) fn before_action(lines: &[Line]) -> usize
+    ensures { result ≤ length lines.now }
+{
+    lines
+        .iter()
+        .position(|line| line.head == Head::File || line.head == Head::Run)
+        .unwrap_or(lines.len())
+}
+
+/// How many lines at the front give a name several values.
+pub(crate) fn of_each(lines: &[Line]) -> usize
+    ensures { result ≤ length lines.now }
+{
+    lines
+        .iter()
+        .position(|line| line.head != Head::Each)
+        .unwrap_or(lines.len())
+}

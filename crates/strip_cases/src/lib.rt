@@ -1,0 +1,21 @@
+//! Cases: runs of the programs as a text tells them, and what is wanted of each.
+#![tactic(auto)]
+
+mod blocks;
+mod case;
+mod differing;
+mod escapes;
+mod fault;
+mod lines;
+mod making;
+mod numbers;
+mod reading;
+mod rows;
+mod words;
+
+pub use case::{
+    Action, Base, Bound, Case, Cases, Given, Held, NumberWanted, Program, Relation, Step, Wanted,
+};
+pub use differing::difference;
+pub use fault::{CaseFault, Wrong};
+pub use reading::read_cases;

@@ -1,0 +1,157 @@
+// Case files.
+use crate::blocks::{before_case, of_each};
+use crate::case::{Action, Case, Cases, Given};
+use crate::escapes::Value;
+use crate::fault::{CaseFault, Wrong};
+use crate::lines::{Line, lines_of};
+use crate::making::actions_of;
+use crate::words::words_of;
+use std::alloc::Global;
+use std::str;
+
+/// How many cases one case may stand for.
+const MOST: usize = 100_000;
+
+/// A name and the values that it takes, one after the other.
+#[derive(Drop)]
+struct Each {
+    name: String,
+    values: Vec<String>,
+}
+
+/// The cases that the text of a case file tells, or its first fault.
+pub fn read_cases(alloc: Global, text: &[u8]) -> Result<Cases, CaseFault> {
+    let text = match str::from_utf8(text) {
+        Ok(text) => text,
+        Err(_) => return Err(Wrong::NotUtf8.at(row_of_bad_byte(text))),
+    };
+    let lines = lines_of(alloc, text)?;
+    let (front, behind) = lines.split_at(before_case(&lines));
+    let mut shared = Vec::new(alloc);
+    for action in actions_of(alloc, front, &[])? {
+        push_shared(action, &mut shared)?;
+    }
+    let cases = all_cases(alloc, behind)?;
+    Ok(Cases { shared, cases })
+}
+
+/// Appends a file that all cases have. A step before the first case is in no case.
+fn push_shared(action: Action, shared: &mut Vec<Given>) -> Result<(), CaseFault> {
+    match action {
+        Action::Give(given) => match shared.push(given) {
+            Ok(()) => Ok(()),
+            Err(_) => Err(Wrong::Memory.at(1)),
+        },
+        Action::Run(_) => Err(Wrong::Place.at(1)),
+    }
+}
+
+/// The cases of the lines, the first of which begins one.
+fn all_cases(alloc: Global, lines: &[Line]) -> Result<Vec<Case>, CaseFault> {
+    let mut cases = Vec::new(alloc);
+    let mut rest = lines;
+    while let [head, behind @ ..] = rest {
+        let (body, later) = behind.split_at(before_case(behind));
+        push_cases(alloc, head, body, &mut cases)?;
+        rest = later;
+    }
+    Ok(cases)
+}
+
+/// The number of the row in which the first byte stands that isn't UTF-8.
+fn row_of_bad_byte(text: &[u8]) -> u64 {
+    let mut row = 1u64;
+    for line in text.split(|byte| *byte == b'\n') {
+        if str::from_utf8(line).is_err() {
+            return row;
+        }
+        row = row.saturating_add(1);
+    }
+    row
+}
+
+/// Appends the cases that a case stands for: one for all values of its names together.
+fn push_cases(
+    alloc: Global,
+    head: &Line,
+    body: &[Line],
+    cases: &mut Vec<Case>,
+) -> Result<(), CaseFault> {
+    let (names, body) = body.split_at(of_each(body));
+    let mut all = Vec::new(alloc);
+    let mut count = 1usize;
+    for line in names {
+        let each = each_of(alloc, line.rest.as_str()).map_err(|wrong| wrong.at(line.row))?;
+        count = count.saturating_mul(each.values.len());
+        if all.push(each).is_err() {
+            return Err(Wrong::Memory.at(line.row));
+        }
+    }
+    if count > MOST {
+        return Err(Wrong::TooLong.at(head.row));
+    }
+    for number in 0..count {
+        let values = chosen(alloc, &all, number).map_err(|wrong| wrong.at(head.row))?;
+        let case = case_of(alloc, head, body, &values)?;
+        if cases.push(case).is_err() {
+            return Err(Wrong::Memory.at(head.row));
+        }
+    }
+    Ok(())
+}
+
+fn each_of(alloc: Global, text: &str) -> Result<Each, Wrong> {
+    let mut words = words_of(alloc, text, &[])?.into_iter();
+    let Some(name) = words.next() else {
+        return Err(Wrong::Words);
+    };
+    let values: Vec<String> = words.collect(alloc)?;
+    if values.is_empty() {
+        return Err(Wrong::Words);
+    }
+    Ok(Each { name, values })
+}
+
+/// The values of the names in the turn of this number: those of the last name change first.
+fn chosen(alloc: Global, all: &[Each], number: usize) -> Result<Vec<Value>, Wrong> {
+    let mut left = number;
+    let mut values = Vec::new(alloc);
+    for each in all.iter().rev() {
+        let count = each.values.len();
+        let place = left.checked_rem(count).unwrap_or(0);
+        if let Some(text) = each.values.get(place) {
+            values.push(Value {
+                name: each.name.clone()?,
+                text: text.clone()?,
+            })?;
+        }
+        left = left.checked_div(count).unwrap_or(0);
+    }
+    values.reverse();
+    Ok(values)
+}
+
+fn case_of(alloc: Global, head: &Line, body: &[Line], values: &[Value]) -> Result<Case, CaseFault> {
+    let name = name_of(alloc, head.rest.as_str(), values).map_err(|wrong| wrong.at(head.row))?;
+    let actions = actions_of(alloc, body, values)?;
+    if !actions
+        .iter()
+        .any(|action| matches!(action, Action::Run(_)))
+    {
+        return Err(Wrong::NoStep.at(head.row));
+    }
+    Ok(Case { name, actions })
+}
+
+/// The name of a case, with the values that it has.
+fn name_of(alloc: Global, text: &str, values: &[Value]) -> Result<String, Wrong> {
+    if text.trim().is_empty() {
+        return Err(Wrong::Words);
+    }
+    let mut name = String::from_str(alloc, text.trim())?;
+    for value in values {
+        name.push_str(", ")?;
+        name.push_str(value.text.as_str())?;
+    }
+    Ok(name)
+}

@@ -1,0 +1,74 @@
+// The words of a row.
+ghost use Rattle.std.specs.Prelude.{◌<◌, ◌≤◌, length, IfOk, IfSome};
+
+use crate::escapes::{Value, expand};
+use crate::fault::Wrong;
+use std::alloc::Global;
+use strip_text::number_of;
+
+/// The words of a text, apart at blanks. What stands in single quotes is one word, also where it has blanks or
+/// nothing in it.
+pub(crate) fn words_of(alloc: Global, text: &str, values: &[Value]) -> Result<Vec<String>, Wrong> {
+    let mut words = Vec::new(alloc);
+    let mut rest = text.as_bytes();
+    while let Some((word, behind)) = first_word(rest)? {
+        words.push(word_of(alloc, word, values)?)?;
+        rest = behind;
+    }
+    Ok(words)
+}
+
+fn word_of(alloc: Global, word: &[u8], values: &[Value]) -> Result<String, Wrong> {
+    let mut bytes = Vec::new(alloc);
+    expand(word, values, &mut bytes)?;
+    String::from_utf8(bytes).ok().ok_or(Wrong::NotUtf8)
+}
+
+/// The first word of a text, as it is written, and what stands behind it.
+fn first_word(text: &[u8]) -> Result<Option<(&[u8], &[u8])>, Wrong>
+    ensures { IfOk result (λ word. IfSome word (λ parts. length parts.1.now < length text.now)) }
+{
+    let Some(start) = text.iter().position(|byte| *byte != b' ') else {
+        return Ok(None);
+    };
+    let word = &text[start..];
+    if let [b'\'', inside @ ..] = word {
+        let end = end_of(inside, b'\'').ok_or(Wrong::Words)?;
+        return Ok(Some((&inside[..end], &inside[end + 1..])));
+    }
+    let end = end_of(word, b' ').unwrap_or(word.len()).max(1);
+    Ok(Some((&word[..end], &word[end..])))
+}
+
+/// The place of the first such byte that no backslash stands before.
+fn end_of(text: &[u8], stop: u8) -> Option<usize>
+    ensures { IfSome result (λ place. place < length text.now) }
+{
+    let mut is_escaped = false;
+    for (place, byte) in text.iter().enumerate() {
+        if *byte == stop && !is_escaped {
+            return Some(place);
+        }
+        is_escaped = !is_escaped && *byte == b'\\';
+    }
+    None
+}
+
+/// The number that a word spells, between these.
+pub(crate) fn number_in(word: &str, least: u64, most: u64) -> Result<u64, Wrong>
+    ensures { IfOk result (λ number. (least ≤ number) × (number ≤ most)) }
+{
+    number_of(word.as_bytes(), least, most).ok_or(Wrong::Number)
+}
+
+/// The numbers that some words spell, one at least.
+pub(crate) fn numbers_in(alloc: Global, words: &[String], most: u64) -> Result<Vec<u64>, Wrong> {
+    if words.is_empty() {
+        return Err(Wrong::Words);
+    }
+    let mut numbers = Vec::new(alloc);
+    for word in words {
+        numbers.push(number_in(word.as_str(), 0, most)?)?;
+    }
+    Ok(numbers)
+}

@@ -1,0 +1,14 @@
+//! Tests: what no clause says of texts. That the calls succeed where memory is left; streams that are cut short, fail and
+//! stop in the middle; and texts worked by hand, of calls that no command makes.
+#![tactic(auto)]
+
+#[cfg(test)]
+mod canonical;
+#[cfg(test)]
+mod rows;
+#[cfg(test)]
+mod sending;
+#[cfg(test)]
+mod streams;
+#[cfg(test)]
+mod transfers;
