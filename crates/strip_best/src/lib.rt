@@ -5,28 +5,3 @@ mod best;
 pub mod laws;
 
 pub use best::{Best, BestLine};
-
-#[cfg(test)]
-mod tests {
-    use super::*;
-    use std::test::Fail;
-    use strip_film::Line;
-
-    #[test]
-    fn keeps_the_first_of_the_greatest_of_each_set(rt: HostRuntime) -> Result<(), Fail> {
-        let lines = [
-            Line { set: 6, bound: 9 },
-            Line { set: 3, bound: 4 },
-            Line { set: 6, bound: 10 },
-            Line { set: 6, bound: 10 },
-        ];
-        let best = Best::of(rt.alloc(), &lines)?;
-        assert_eq!(rt; best.entries().len(), 2);
-        assert_eq!(rt; best.place(6), Some(1));
-        assert_eq!(rt; best.place(5), None);
-        assert_eq!(rt; best.entries()[1].line, 2);
-        assert_eq!(rt; best.bound_of(6), 10);
-        assert_eq!(rt; best.bound_of(5), 0);
-        Ok(())
-    }
-}

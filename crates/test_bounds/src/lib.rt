@@ -1,0 +1,23 @@
+//! Tests: what no clause says of bounds, by calls that no command makes. Bounds and open firsts of small films, worked by hand; the
+//! value of a group and its newcomers and the bound with arrivals, against values, bounds, costs and lists that another program
+//! worked out.
+#![tactic(auto)]
+
+#[cfg(test)]
+mod cases;
+#[cfg(test)]
+mod companies;
+#[cfg(test)]
+mod films;
+#[cfg(test)]
+mod finished;
+#[cfg(test)]
+mod rules;
+#[cfg(test)]
+mod sets;
+#[cfg(test)]
+mod small;
+#[cfg(test)]
+mod stages;
+#[cfg(test)]
+mod values;

@@ -1,0 +1,105 @@
+-- A search over a hand stays on its way.
+use Rattle.std.proofs.Common.{◌≡◌, ℕ, suc, ◌<◌, ◌≤◌, true, Some, None, List, length, nat_eq, slice_index_or, slice_set, All, sym, ap, ◌∙◌, subst, arith}
+use Rattle.std.proofs.lemmas.List.{length-set}
+use Rattle.std.specs.List.{starts_with}
+use Rattle.strip_kind.specs.declared.kind.Kind.{Kind}
+use Rattle.strip_pay.specs.Film.{FilmData}
+use Rattle.strip_film.specs.Path.{PathData}
+use Rattle.strip_film.specs.Rules.{IsOpen}
+use Rattle.strip_film.specs.Shown.{CursorData}
+use Rattle.strip_lines.specs.Lines.{GrowTo, known, rules_of}
+use Rattle.strip_count.specs.Parts.{lies_in, no_task}
+use Rattle.strip_hand.specs.Calls.{Claims}
+use Rattle.strip_hand.specs.Hand.{HandData}
+use Rattle.strip_hand.specs.Search.{SearchData, depth_of, search_rules}
+use Rattle.strip_front.specs.Front.{FrontData, task_at}
+use Rattle.strip_front.specs.Tasks.{tasks_of}
+use Rattle.strip_front.proofs.Grown.{grow_same}
+use Rattle.strip_front.proofs.Small.{filled_grows, found_grows}
+use Rattle.strip_walk.specs.declared.found.Found.{Found}
+use Rattle.strip_walk.specs.Found.{IsFound, MayExplore}
+use Rattle.strip_walk.specs.Walked.{Walks}
+use Rattle.strip_walk.proofs.Lists.{starts_itself}
+use Rattle.strip_walk.proofs.Bounds.{bound_known}
+use Rattle.strip_team.proofs.Settled.{found_with}
+use Rattle.test_search.specs.Way.{IsOnItsWay}
+
+-- ---- the hand goes on
+
+module _ (kind : Kind) (film : FilmData) (before after : HandData) (front : FrontData) (found : List ℕ) (grow : GrowTo before.lines after.lines)
+    (was : IsOnItsWay kind film before front found) where
+  -- the later hand, by the search of the earlier one
+  later_way : IsOnItsWay kind film (record after { search = before.search }) front found
+  later_way = record {
+    search = record { same_film = was.search.same_film; same_kind = was.search.same_kind; tasks = was.search.tasks };
+    front_of = was.front_of;
+    filled = filled_grows before after front grow was.filled;
+    long = was.long;
+    known = found_grows before after front grow found was.known;
+  }
+
+  pub goes_on : after.search ≡ before.search → IsOnItsWay kind film after front found
+  goes_on same = subst (λ (search : SearchData). IsOnItsWay kind film (record after { search = search }) front found) (sym same) later_way
+
+-- ---- a part is claimed
+
+module _ (kind : Kind) (film : FilmData) (before after : HandData) (front : FrontData) (found : List ℕ) (task : ℕ)
+    (was : IsOnItsWay kind film before front found) (claims : Claims before (Some (suc task)) after) where
+  pub way_claimed : IsOnItsWay kind film after front found
+  way_claimed =
+      goes_on kind film before after front found (grow_same before.lines after.lines (ap (λ (h : HandData). h.lines) claims.0)) was
+      (ap (λ (h : HandData). h.search) claims.0)
+
+  -- the part's task
+  tasks_same : after.search.tasks ≡ front.tasks
+  tasks_same = way_claimed.search.tasks ∙ sym was.front_of.tasks
+
+  pub within : task < length front.tasks
+  within =
+      let count = ap (λ (h : HandData). length h.search.tasks) claims.0 in
+      omega (arith, claims.1, count, ap (λ (tasks : List PathData). length tasks) tasks_same)
+
+  module _ (all : All (IsOpen (rules_of kind film)) (tasks_of film)) where
+    pub open_task : IsOpen (rules_of kind film) (task_at front task)
+    open_task = subst (λ (tasks : List PathData). All (IsOpen (rules_of kind film)) tasks) (sym was.front_of.tasks) all task no_task within
+
+    open_by : IsOpen (search_rules after.search) (task_at front task)
+    open_by =
+        subst (λ (k : Kind). IsOpen (rules_of k after.search.film) (task_at front task)) (sym way_claimed.search.same_kind)
+        (subst (λ (f : FilmData). IsOpen (rules_of kind f) (task_at front task)) (sym way_claimed.search.same_film) open_task)
+
+    lies_task : lies_in (depth_of after.search) after.search.tasks (suc task) (task_at front task) ≡ true
+    lies_task =
+        subst (λ (tasks : List PathData). starts_with nat_eq (task_at front task).scenes (slice_index_or tasks task no_task).scenes ≡ true)
+        (sym tasks_same) (starts_itself (task_at front task).scenes)
+
+    pub may_walk : MayExplore after (record { task = suc task; last = None }) (task_at front task)
+    may_walk = record {
+      stands = (0, claims.3);
+      task = λ zero_is. absurd (omega (arith, zero_is));
+      is_open = open_by;
+      lies = lies_task;
+      later = tt;
+    }
+
+-- ---- a task is walked
+
+module _ (kind : Kind) (film : FilmData) (before after : HandData) (front : FrontData) (found : List ℕ) (task : ℕ) (cursor cursor_after : CursorData)
+    (path : PathData) (answer : Found) (was : IsOnItsWay kind film before front found) (within : task < length front.tasks) (is : path ≡ task_at front task)
+    (walks : Walks before cursor path after cursor_after) (finds : IsFound after cursor_after path answer) where
+  then_way : IsOnItsWay kind film after front found
+  then_way = goes_on kind film before after front found walks.grow was walks.search
+
+  own_known : answer.bound ≤ known (search_rules after.search) after.lines (task_at front task).rest
+  own_known =
+      subst (λ (p : PathData). answer.bound ≤ known (search_rules after.search) after.lines p.rest) is
+      (bound_known (search_rules after.search) after.lines path answer.line answer.bound (λ n named. (finds.line n named).0) finds.none)
+
+  pub way_walked : IsOnItsWay kind film after front (slice_set found task answer.bound)
+  way_walked = record {
+    search = then_way.search;
+    front_of = then_way.front_of;
+    filled = then_way.filled;
+    long = length-set found task answer.bound ∙ then_way.long;
+    known = found_with after front found task answer.bound (omega (arith, within, was.long)) own_known then_way.known;
+  }

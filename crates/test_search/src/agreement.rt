@@ -1,0 +1,121 @@
+// What searches find that begin with the greedy order, which wasn't improved, compared with the plain program, which tries every order.
+ghost use Rattle.std.specs.Prelude.{◌≤◌};
+
+use crate::instances::{EIGHT, Film, PAIRED, RANDOM, TRIANGLE, WORKED, instance};
+use crate::searched::searched;
+use std::alloc::Global;
+use std::test::Fail;
+use strip_exhaustive::cheapest_order;
+use strip_film::{Film as Classes, Line};
+use strip_kind::Kind;
+use strip_reduce::reduce;
+use strip_start::{greedy, improve};
+use strip_team::Ended;
+
+/// Whether what a search found with at most so many lines is true of a film whose cheapest orders cost `least`.
+fn agrees(ended: &Ended, nodes: u32, least: u64) -> bool {
+    if ended.spent {
+        ended.bound <= least && least <= ended.cost && ended.held == nodes as u64
+    } else {
+        ended.cost == least && ended.bound == least
+    }
+}
+
+/// Whether it agrees with few lines, 1 to 20, and with so many that it runs to its end.
+fn agrees_with_lines(
+    alloc: Global,
+    film: &Classes,
+    least: u64,
+    kind: Kind,
+    entries: u32,
+) -> Result<bool, Fail>
+    requires { (64 ≤ entries) × (entries ≤ 4194304) }
+{
+    for nodes in 1..21 {
+        let ended = searched(alloc, film, &greedy(film), kind, nodes, entries)?;
+        if !agrees(&ended, nodes, least) {
+            return Ok(false);
+        }
+    }
+    let ended = searched(alloc, film, &greedy(film), kind, 1_000_000, entries)?;
+    Ok(!ended.spent && agrees(&ended, 1_000_000, least))
+}
+
+/// Whether it agrees by all kinds of bounds, with a small table and a large one.
+fn agrees_by_all_kinds(alloc: Global, text: &str, pairs: &[(u16, u16)]) -> Result<bool, Fail> {
+    let film = reduce(alloc, &instance(alloc, text, pairs)?)?.film;
+    let least = cheapest_order(alloc, &film)?.pay;
+    for kind in [Kind::Plain, Kind::Pairs, Kind::Groups, Kind::Arrivals] {
+        if !agrees_with_lines(alloc, &film, least, kind, 64)?
+            || !agrees_with_lines(alloc, &film, least, kind, 65_536)?
+        {
+            return Ok(false);
+        }
+    }
+    Ok(true)
+}
+
+fn all_agree(alloc: Global, texts: &[&str]) -> Result<bool, Fail> {
+    for text in texts {
+        if !agrees_by_all_kinds(alloc, text, &[])? {
+            return Ok(false);
+        }
+    }
+    Ok(true)
+}
+
+#[test]
+fn worked_films_cost_the_least(rt: HostRuntime) -> Result<(), Fail> {
+    assert!(&rt; all_agree(rt.alloc(), &WORKED)?);
+    Ok(())
+}
+
+#[test]
+fn random_films_cost_the_least(rt: HostRuntime) -> Result<(), Fail> {
+    assert!(&rt; all_agree(rt.alloc(), &RANDOM)?);
+    Ok(())
+}
+
+#[test]
+fn films_with_pairs_cost_the_least(rt: HostRuntime) -> Result<(), Fail> {
+    for Film { text, pairs } in &PAIRED {
+        assert!(&rt; agrees_by_all_kinds(rt.alloc(), text, pairs)?);
+    }
+    Ok(())
+}
+
+#[test]
+fn eight_classes_cost_the_least(rt: HostRuntime) -> Result<(), Fail> {
+    let alloc = rt.alloc();
+    assert!(&rt; agrees_by_all_kinds(alloc, EIGHT, &[])?);
+    assert!(&rt; agrees_by_all_kinds(alloc, EIGHT, &[(7, 0), (3, 1), (1, 2)])?);
+    Ok(())
+}
+
+/// Whether the search ran to its end, with this cost, order and lines.
+fn is_closed(ended: &Ended, cost: u64, order: &[u8], lines: &[Line]) -> bool {
+    !ended.spent
+        && ended.cost == cost
+        && ended.bound == cost
+        && ended.held == lines.len() as u64
+        && ended.order.as_slice() == order
+        && ended.lines.as_slice() == lines
+}
+
+// The lines of the triangle whose second scene comes last. The actors get 12 for the days that they work. Two orders keep the
+// pairs: in one b waits a day, in the other, which begins with the third scene, c does.
+static THREE: [Line; 3] = [
+    Line { set: 7, bound: 14 },
+    Line { set: 6, bound: 11 },
+    Line { set: 3, bound: 11 },
+];
+
+#[test]
+fn the_second_scene_comes_last(rt: HostRuntime) -> Result<(), Fail> {
+    let alloc = rt.alloc();
+    let film = reduce(alloc, &instance(alloc, TRIANGLE, &[(0, 1), (2, 1)])?)?.film;
+    let start = improve(&film, &greedy(&film));
+    let ended = searched(alloc, &film, &start, Kind::Pairs, 1_000_000, 65_536)?;
+    assert!(&rt; is_closed(&ended, 14, &[0, 2, 1], &THREE));
+    Ok(())
+}

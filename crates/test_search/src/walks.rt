@@ -1,0 +1,129 @@
+// A search over a hand: its front, its tasks as they are claimed, and its front again.
+ghost use Rattle.std.specs.Prelude.{◌≡◌, IfOk, Some};
+ghost use Rattle.strip_bound.specs.Kept.{Keeps};
+ghost use Rattle.strip_front.specs.Front.{IsEmptyFront};
+ghost use Rattle.strip_front.specs.Shown.{front_data};
+ghost use Rattle.strip_hand.specs.Calls.{Claims};
+ghost use Rattle.test_search.specs.Way.{IsOnItsWay, IsSearchBy};
+ghost use Rattle.strip_memo.specs.Memo.{IsMemo};
+
+use std::alloc::Global;
+use std::test::Fail;
+use strip_bound::Kept;
+use strip_film::{Cursor, Running};
+use strip_front::laws::tasks_are_open;
+use strip_front::{Front, close_up, go_down};
+use strip_hand::Hand;
+use strip_memo::Memo;
+use strip_walk::explore;
+
+/// Searches over a hand with which nobody claimed anything yet, and answers the bound that it comes to.
+pub(crate) fn search<H: Hand, F: Fn(u64, u64) -> u64>(
+    alloc: Global,
+    kept: &Kept<F>,
+    hand: &mut H,
+    front: &mut Front,
+) -> Result<u64, Fail>
+    requires sound { H.is_sound hand.old }
+    requires keeps { Keeps (F.pre kept.now.f) (F.post kept.now.f) kept.now.kind kept.now.film.now }
+    requires search { IsSearchBy kept.now.kind kept.now.film.now (H.shows hand.old) }
+    requires front { IsEmptyFront kept.now.film.now (front_data front.old) }
+    ensures sound { H.is_sound hand.new }
+    ensures home { H.home hand.new ≡ H.home hand.old }
+{
+    let mut found = begin(alloc, kept, hand, front)?;
+    take_tasks(alloc, kept, hand, front, &mut found)?;
+    let bound = close_up(kept, hand, front, &found)?;
+    Ok(bound)
+}
+
+/// Claims the front and goes down it. Nothing was found of any task yet.
+fn begin<H: Hand, F: Fn(u64, u64) -> u64>(
+    alloc: Global,
+    kept: &Kept<F>,
+    hand: &mut H,
+    front: &mut Front,
+) -> Result<Vec<u64>, Fail>
+    requires sound { H.is_sound hand.old }
+    requires keeps { Keeps (F.pre kept.now.f) (F.post kept.now.f) kept.now.kind kept.now.film.now }
+    requires search { IsSearchBy kept.now.kind kept.now.film.now (H.shows hand.old) }
+    requires front { IsEmptyFront kept.now.film.now (front_data front.old) }
+    ensures sound { H.is_sound hand.new }
+    ensures home { H.home hand.new ≡ H.home hand.old }
+    ensures way { IfOk result (λ found. IsOnItsWay kept.now.kind kept.now.film.now (H.shows hand.new) (front_data front.new) found.items) }
+{
+    let part = claimed(hand)?;
+    if part != 0 {
+        return Err("the front first".into());
+    }
+    go_down(kept, hand, &mut Cursor::of(0), front)?;
+    let found = vec![in alloc; 0; front.tasks.len()]?;
+    Ok(found)
+}
+
+/// Claims a part, where one is left.
+fn claimed<H: Hand>(hand: &mut H) -> Result<u32, Fail>
+    requires { H.is_sound hand.old }
+    ensures sound { H.is_sound hand.new }
+    ensures home { H.home hand.new ≡ H.home hand.old }
+    ensures claimed { IfOk result (λ part. Claims (H.shows hand.old) (Some part) (H.shows hand.new)) }
+{
+    match hand.claim() {
+        Some(part) => Ok(part),
+        None => Err("a part that is left".into()),
+    }
+}
+
+/// Claims as many parts as there are tasks, and walks each task that is asked for.
+fn take_tasks<H: Hand, F: Fn(u64, u64) -> u64>(
+    alloc: Global,
+    kept: &Kept<F>,
+    hand: &mut H,
+    front: &Front,
+    found: &mut Vec<u64>,
+) -> Result<(), Fail>
+    requires sound { H.is_sound hand.old }
+    requires keeps { Keeps (F.pre kept.now.f) (F.post kept.now.f) kept.now.kind kept.now.film.now }
+    requires way { IsOnItsWay kept.now.kind kept.now.film.now (H.shows hand.old) (front_data front.now) found.old.items }
+    ensures sound { H.is_sound hand.new }
+    ensures home { H.home hand.new ≡ H.home hand.old }
+    ensures way { IfOk result (λ _. IsOnItsWay kept.now.kind kept.now.film.now (H.shows hand.new) (front_data front.now) found.new.items) }
+{
+    let mut memo = Memo::new(alloc, kept)?;
+    for _ in 0..front.tasks.len() {
+        take_task(kept, hand, front, found, &mut memo)?;
+    }
+    Ok(())
+}
+
+/// Claims a task, and walks it where it is asked for.
+fn take_task<H: Hand, F: Fn(u64, u64) -> u64>(
+    kept: &Kept<F>,
+    hand: &mut H,
+    front: &Front,
+    found: &mut Vec<u64>,
+    memo: &mut Memo,
+) -> Result<(), Fail>
+    requires sound { H.is_sound hand.old }
+    requires keeps { Keeps (F.pre kept.now.f) (F.post kept.now.f) kept.now.kind kept.now.film.now }
+    requires way { IsOnItsWay kept.now.kind kept.now.film.now (H.shows hand.old) (front_data front.now) found.old.items }
+    requires memo { IsMemo kept.now.kind kept.now.film.now memo.old }
+    ensures sound { H.is_sound hand.new }
+    ensures home { H.home hand.new ≡ H.home hand.old }
+    ensures memo { IsMemo kept.now.kind kept.now.film.now memo.new }
+    ensures way { IfOk result (λ _. IsOnItsWay kept.now.kind kept.now.film.now (H.shows hand.new) (front_data front.now) found.new.items) }
+{
+    kept.film().keeps_limits();
+    tasks_are_open();
+    let part = claimed(hand)?;
+    if part == 0 {
+        return Err("a task after the front".into());
+    }
+    let task = part as usize - 1;
+    if front.wanted[task] {
+        let mut cursor = Cursor::of(part);
+        let mut running = Running::of(kept.film(), &front.tasks[task]);
+        found[task] = explore(kept, hand, &mut cursor, &mut running, memo)?.bound;
+    }
+    Ok(())
+}
