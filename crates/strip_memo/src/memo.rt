@@ -39,12 +39,12 @@ impl Memo {
     ghost use Rattle.strip_memo.specs.Memo.{IsMemo};
 
     /// A memo that remembers the empty set alone: 2^18 entries of 16 bytes, 2^19 for groups, and for
-    /// arrivals 2^20 of 17 bytes.
+    /// arrivals 2^20 of 17 bytes; fewer where the film has few sets of scenes.
     pub fn new<F: Fn(u64, u64) -> u64>(alloc: Global, kept: &Kept<F>) -> Result<Memo, Memory>
         requires { Keeps (F.pre kept.now.f) (F.post kept.now.f) kept.now.kind kept.now.film.now }
         ensures { IfOk result (IsMemo kept.now.kind kept.now.film.now) }
     {
-        let bits = bits_of(kept.kind());
+        let bits = bits_of(kept.kind(), kept.film().scenes());
         let is_whole = is_answered_whole(kept.kind());
         let marks = if is_whole { 0 } else { 1 << bits };
         let empty = Entry {
@@ -119,15 +119,19 @@ impl Memo {
     }
 }
 
-/// How many bits of its hash tell a set's place.
-fn bits_of(kind: Kind) -> u32
+/// How many bits of its hash tell a set's place: at most two more than there are scenes.
+fn bits_of(kind: Kind, scenes: usize) -> u32
     ensures some { 0 < result }
     ensures few { result ≤ 20 }
 {
-    match kind {
+    let most = match kind {
         Kind::Plain | Kind::Pairs => 18,
         Kind::Groups => 19,
         Kind::Arrivals => 20,
+    };
+    match scenes {
+        0..18 => most.min(scenes as u32 + 2),
+        _ => most,
     }
 }
 

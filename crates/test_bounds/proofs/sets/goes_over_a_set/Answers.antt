@@ -1,7 +1,7 @@
 use Rattle.std.proofs.Common.{lit<}
 use Rattle.strip_mask.specs.Set.{has, members, numbers_below, sum_over}
 use Rattle.strip_mask.proofs.ByMembers.{below_width}
-use Rattle.strip_mask.proofs.tests.goes_over_a_set.Goals as goal
+use Rattle.test_bounds.proofs.sets.goes_over_a_set.Goals as goal
 
 pub sum_over-requires-clause-within : goal.sum_over-requires-clause-within
 sum_over-requires-clause-within g c = λ i member. below_width 45 6 i (lit< tt) member
