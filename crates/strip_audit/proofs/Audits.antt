@@ -1,5 +1,5 @@
 -- What is claimed of the check of a plan.
-use Rattle.std.proofs.Common.{◌≡◌, ◌∙◌, ◌⊎◌, inl, inr, ◌<◌, ◌≤◌, ℕ, List, Option, Result, Ok, Err, IfOk, Some, refl, sym, subst, ap, arith}
+use Rattle.std.proofs.Common.{◌≡◌, ◌∙◌, inl, inr, ◌<◌, ◌≤◌, ℕ, List, Option, Result, Ok, Err, IfOk, refl, sym, subst, ap, arith}
 use Rattle.std.proofs.lemmas.Bool.{cases_lt}
 use Rattle.strip_model.specs.Data.{InstanceData}
 use Rattle.strip_model.specs.Film.{film_of}
@@ -9,7 +9,6 @@ use Rattle.strip_words.specs.Words.{Word}
 use Rattle.strip_words.specs.Plans.{PlanFilesData}
 use Rattle.strip_words.proofs.Planning.{files_once}
 use Rattle.strip_proof.specs.Plan.{PlanData}
-use Rattle.strip_proof.specs.Text.{IsReadablePlan}
 use Rattle.strip_check.specs.declared.verdict.Verdict.{Verdict}
 use Rattle.strip_check.specs.declared.verdict.Verdict.TheVariants.{Accepted, Refused}
 use Rattle.strip_check.specs.Accepted.{IsAccepted, IsTruePlan}
@@ -24,13 +23,12 @@ use Rattle.strip_answer.specs.Run.{FilesData, IsOutcome, RunData}
 use Rattle.strip_answer.specs.Claims.{AsksFor, IsDue}
 use Rattle.strip_answer.specs.Headline.{IsHeadline}
 use Rattle.strip_answer.proofs.Endings.{AreShown, IsOfJob}
-use Rattle.strip_inputs.specs.Both.{BothSay, FilmSays, IsBothDue, PlanSays, ways_due}
-use Rattle.strip_inputs.specs.Fit.{AreFit, AreUnfit}
+use Rattle.strip_inputs.specs.Both.{FilmSays, PlanSays, ways_due}
 use Rattle.strip_inputs.specs.Input.{HasInput}
 use Rattle.strip_inputs.specs.Said.{film_said, plan_said, too_many_told}
 use Rattle.strip_inputs.proofs.Ways.{due_by, due_told, due_unfit}
 use Rattle.strip_audit.specs.Audit.{IsAudited, status_of, verdict_text}
-use Rattle.strip_audit.specs.Claims.{HasFew, HasMany, IsAuditDue, IsAuditFit, IsAuditStatus, IsAuditUnfit, IsProved, NameFiles, audit_claims}
+use Rattle.strip_audit.specs.Claims.{IsAuditDue, IsAuditFit, IsAuditStatus, IsAuditUnfit, IsProved, NameFiles, audit_claims}
 
 never_done : {A : Type 0} (status : Status) → status ≡ BadInstance → status ≡ Done → A
 never_done status is done = absurd (let e : BadInstance ≡ Done = sym is ∙ done in cc)

@@ -12,7 +12,7 @@ ghost use Rattle.strip_audit.specs.Audit.{IsAudited, status_of, verdict_text};
 use std::alloc::Global;
 use strip_answer::{Answer, Status, Stop, told_row};
 use strip_check::{CheckFault, Reason, Verdict, check};
-use strip_inputs::{Input, both_inputs, too_many_classes};
+use strip_inputs::{PlanJob, answer_plan, too_many_classes};
 use strip_io::{Files, Memory};
 use strip_model::Instance;
 use strip_proof::Plan;
@@ -35,9 +35,19 @@ pub fn audit<F: Files>(alloc: Global, files: &mut F, names: &PlanFiles) -> Resul
         (files_data (F.holds files.new) (F.bytes files.new) (F.faults files.new) (F.came files.new))
         (IsEither (string_bytes names.now.film) (string_bytes names.now.plan)) (result ≡ Err Stop.Read) }
 {
-    match both_inputs(alloc, files, names)? {
-        Input::Said((inst, plan)) => Ok(checked(alloc, &inst, &plan)?),
-        Input::Refused(answer) => Ok(answer),
+    answer_plan::<AuditJob, F>(alloc, files, names)
+}
+
+/// Whether the plan is accepted.
+struct AuditJob;
+
+impl PlanJob for AuditJob {
+    ghost use Rattle.strip_audit.specs.Audit.{IsAudited};
+
+    ghost Due = { IsAudited };
+
+    fn answer(alloc: Global, inst: &Instance, plan: Plan) -> Result<Answer, Memory> {
+        checked(alloc, inst, &plan)
     }
 }
 

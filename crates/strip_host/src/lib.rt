@@ -1,8 +1,9 @@
-//! What a program takes from its runtime and gives back to it: the command words, and the exit code.
+//! A program over a runtime: what it takes from it, its words, files and output, and what it gives back,
+//! the exit code.
 #![tactic(auto)]
 
+mod program;
 mod status;
 mod words;
 
-pub use status::exit_code;
-pub use words::command_words;
+pub use program::{Program, run};

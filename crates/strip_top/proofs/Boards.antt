@@ -1,11 +1,11 @@
 -- What is claimed of each command.
-use Rattle.std.proofs.Common.{◌≡◌, ◌∙◌, ◌⊎◌, inl, inr, ◌<◌, ◌≤◌, ℕ, List, Option, Some, Result, Ok, Err, IfOk, refl, sym, subst, ap, arith}
+use Rattle.std.proofs.Common.{◌≡◌, ◌∙◌, ◌⊎◌, inl, inr, ◌<◌, ◌≤◌, ℕ, List, Option, Result, Ok, Err, refl, sym, subst, ap}
 use Rattle.std.proofs.lemmas.Bool.{cases_lt}
 use Rattle.strip_model.specs.Data.{InstanceData}
 use Rattle.strip_model.specs.Film.{film_of}
 use Rattle.strip_reduce.specs.Reduction.{class_count}
-use Rattle.strip_dood.specs.Text.{dood_text}
-use Rattle.strip_sheet.specs.Sheet.{sheet_text}
+use Rattle.strip_reports.specs.Text.{dood_text}
+use Rattle.strip_reports.specs.Sheet.{sheet_text}
 use Rattle.strip_text.specs.Told.{ToldData}
 use Rattle.strip_words.specs.Words.{Word}
 use Rattle.strip_words.specs.Solve.{SolveData}
@@ -16,10 +16,10 @@ use Rattle.strip_proof.specs.declared.plan.Status.{Status as PlanStatus}
 use Rattle.strip_proof.specs.declared.plan.Status.TheVariants.{Optimal, Bounded as CutShort}
 use Rattle.strip_proof.specs.Plan.{PlanData}
 use Rattle.strip_answer.specs.declared.status.Status.{Status}
-use Rattle.strip_answer.specs.declared.status.Status.TheVariants.{Done, Bounded, BadInstance}
+use Rattle.strip_answer.specs.declared.status.Status.TheVariants.{Done, Bounded}
 use Rattle.strip_answer.specs.Run.{FilesData}
 use Rattle.strip_answer.proofs.Endings.{AreShown, IsOfJob}
-use Rattle.strip_inputs.specs.Fit.{AreTold, AreUnfit, IsNoFilm}
+use Rattle.strip_inputs.specs.Fit.{AreTold, AreUnfit}
 use Rattle.strip_inputs.specs.Said.{film_said}
 use Rattle.strip_inputs.proofs.Ways.{due_by, due_told, due_unfit}
 use Rattle.strip_audit.proofs.Audits.{audit_answers, audit_fit, audit_unfit}

@@ -1,5 +1,5 @@
 -- The text of a plan that was found.
-use Rattle.std.proofs.Common.{◌≡◌, ◌∙◌, ◌↔◌, ◌<◌, ◌≤◌, ◌+◌, ℕ, Bool, true, false, List, Option, Ok, Err, IfOk, Result, refl, sym, subst, ap, arith, if◌then◌else◌}
+use Rattle.std.proofs.Common.{◌≡◌, ◌∙◌, ◌↔◌, ◌<◌, ◌≤◌, ◌+◌, ℕ, Bool, true, false, List, Option, Ok, Err, IfOk, Result, refl, sym, subst, ap, arith}
 use Rattle.strip_kind.specs.declared.kind.Kind.{Kind}
 use Rattle.strip_pay.specs.Film.{FilmData}
 use Rattle.strip_film.specs.Film.{all_scenes}
@@ -12,10 +12,10 @@ use Rattle.strip_words.specs.Solve.{SolveData}
 use Rattle.strip_proof.specs.declared.plan.Status.{Status as PlanStatus}
 use Rattle.strip_proof.specs.declared.plan.Status.TheVariants.{Optimal, Bounded as CutShort}
 use Rattle.strip_proof.specs.Plan.{PlanData}
-use Rattle.strip_proof.specs.Rows.{bare_text, plan_text}
+use Rattle.strip_proof.specs.Rows.{plan_text}
 use Rattle.strip_proof.specs.Text.{HasReadableScenes, IsReadablePlan, says}
 use Rattle.strip_check.specs.Accepted.{IsAccepted, class_rules}
-use Rattle.strip_solve.specs.Solved.{Closes, IsSolved, RanOut}
+use Rattle.strip_solve.specs.Solved.{Closes, IsSolved}
 use Rattle.strip_answer.specs.declared.answer.Answer.{Answer}
 use Rattle.strip_answer.specs.declared.status.Status.{Status}
 use Rattle.strip_answer.specs.declared.status.Status.TheVariants.{BadInstance}
@@ -27,7 +27,7 @@ use Rattle.strip_inputs.specs.declared.input.Input.{Input}
 use Rattle.strip_inputs.specs.declared.input.Input.TheVariants.{Said}
 use Rattle.strip_inputs.specs.Input.{HasInput}
 use Rattle.strip_inputs.specs.Said.{IsFilmGiven, IsSaidFilm, film_said, too_many_told}
-use Rattle.strip_top.specs.Plan.{IsPlan, exit_of, text_of}
+use Rattle.strip_top.specs.Plan.{exit_of, text_of}
 use Rattle.strip_top.specs.Solve.{IsAnswerTo, IsSolveAnswer, IsSolveDue}
 
 -- the status of a plan that was found tells whether its bound is its cost

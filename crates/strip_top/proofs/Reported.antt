@@ -1,5 +1,5 @@
 -- A report that was printed, and a list that was refused.
-use Rattle.std.proofs.Common.{◌≡◌, ◌∙◌, inl, inr, ℕ, List, [], ◌∷◌, ◌++◌, length, map, sum, codes, Result, Ok, Err, IfOk, refl, sym, ap}
+use Rattle.std.proofs.Common.{◌≡◌, ◌∙◌, inr, ℕ, List, [], ◌∷◌, ◌++◌, length, map, sum, codes, Result, Ok, Err, IfOk, ap}
 use Rattle.std.specs.Fmt.{decimal}
 use Rattle.std.specs.List.{range_with_len}
 use Rattle.strip_pay.specs.Order.{IsOrder}
@@ -9,11 +9,9 @@ use Rattle.strip_model.specs.Film.{film_of}
 use Rattle.strip_text.specs.Rows.{Row, csv_text}
 use Rattle.strip_check.specs.declared.verdict.Reason.TheVariants.{NotAnOrder}
 use Rattle.strip_check.specs.Told.{told_of}
-use Rattle.strip_dood.specs.Text.{dood_rows}
-use Rattle.strip_sheet.specs.Sheet.{header_row, scene_row, sheet_rows, total_pay, total_row}
+use Rattle.strip_reports.specs.Sheet.{header_row, scene_row, sheet_rows, total_pay, total_row}
 use Rattle.strip_answer.specs.declared.answer.Answer.{Answer}
-use Rattle.strip_answer.specs.declared.status.Status.{Status}
-use Rattle.strip_answer.specs.declared.status.Status.TheVariants.{Done, NotAccepted}
+use Rattle.strip_answer.specs.declared.status.Status.TheVariants.{NotAccepted}
 use Rattle.strip_answer.specs.Ending.{answer_text}
 use Rattle.strip_answer.specs.Rows.{told_row}
 use Rattle.strip_top.specs.Report.{IsReported, Report, TellsPay}

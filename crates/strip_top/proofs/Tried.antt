@@ -1,5 +1,5 @@
 -- A film that was made: printed, and tried.
-use Rattle.std.proofs.Common.{◌≡◌, ◌∙◌, ◌<◌, ◌≤◌, ℕ, List, Result, Ok, Err, IfOk, refl, sym, ap, subst, arith}
+use Rattle.std.proofs.Common.{◌≡◌, ◌∙◌, ◌<◌, ◌≤◌, ℕ, List, Result, Ok, Err, IfOk, sym, ap, subst, arith}
 use Rattle.strip_model.specs.Data.{InstanceData}
 use Rattle.strip_model.specs.Film.{film_of}
 use Rattle.strip_reduce.specs.Reduction.{class_count}
@@ -9,7 +9,6 @@ use Rattle.strip_proof.specs.Plan.{PlanData}
 use Rattle.strip_solve.specs.Solved.{IsSolved}
 use Rattle.strip_words.specs.Gen.{GenData, TrialData}
 use Rattle.strip_answer.specs.declared.answer.Answer.{Answer}
-use Rattle.strip_answer.specs.declared.status.Status.{Status}
 use Rattle.strip_answer.specs.declared.status.Status.TheVariants.{Done, BadInstance}
 use Rattle.strip_answer.specs.Ending.{answer_text}
 use Rattle.strip_answer.specs.Rows.{error_row}

@@ -2,8 +2,8 @@
 use Rattle.std.specs.Prelude.{◌≡◌, ◌⊎◌, ◌<◌, ◌≤◌, List, ℕ}
 use Rattle.strip_model.specs.Film.{film_of}
 use Rattle.strip_reduce.specs.Reduction.{class_count}
-use Rattle.strip_dood.specs.Text.{dood_text}
-use Rattle.strip_sheet.specs.Sheet.{sheet_text}
+use Rattle.strip_reports.specs.Text.{dood_text}
+use Rattle.strip_reports.specs.Sheet.{sheet_text}
 use Rattle.strip_words.specs.Gen.{IsSized}
 use Rattle.strip_words.specs.Jobs.{JobData, Solve, Check, Convert, Dood, Sheet, Gen, Trial, NameJob}
 use Rattle.strip_answer.specs.declared.status.Status.{Status}

@@ -14,7 +14,7 @@ use Rattle.strip_check.specs.Accepted.{IsAccepted}
 use Rattle.strip_solve.specs.Solved.{IsSolved}
 use Rattle.strip_words.specs.Gen.{GenData, TrialData}
 use Rattle.strip_answer.specs.declared.status.Status.{Status}
-use Rattle.strip_answer.specs.declared.status.Status.TheVariants.{Done, Bounded, BadInstance}
+use Rattle.strip_answer.specs.declared.status.Status.TheVariants.{Done, BadInstance}
 use Rattle.strip_answer.specs.Rows.{error_row}
 use Rattle.strip_inputs.specs.Said.{too_many_told}
 use Rattle.strip_top.specs.Plan.{exit_of}

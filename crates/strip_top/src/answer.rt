@@ -6,13 +6,14 @@ ghost use Rattle.strip_answer.specs.Ending.{answer_text};
 ghost use Rattle.strip_answer.specs.Run.{FilesStay, HasReadFault, files_data};
 ghost use Rattle.strip_top.specs.Due.{IsDueFor, IsFileOf, IsWithin, board_claims};
 
-use crate::convert::convert;
+use crate::convert::ConvertJob;
 use crate::making::{print_film, try_film};
-use crate::reports::{dood, sheet};
+use crate::reports::{DoodJob, SheetJob};
 use crate::solve::solve;
 use std::alloc::Global;
 use strip_answer::{Answer, Stop};
 use strip_audit::audit;
+use strip_inputs::answer_plan;
 use strip_io::Files;
 use strip_words::laws::numbers_lie_within_their_ends;
 use strip_words::{Job, WordsFault, job};
@@ -63,9 +64,9 @@ fn answer_job<F: Files>(alloc: Global, files: &mut F, job: &Job) -> Result<Answe
     match job {
         Job::Solve(job) => solve(alloc, files, job),
         Job::Check(names) => audit(alloc, files, names),
-        Job::Convert(names) => convert(alloc, files, names),
-        Job::Dood(names) => dood(alloc, files, names),
-        Job::Sheet(names) => sheet(alloc, files, names),
+        Job::Convert(names) => answer_plan::<ConvertJob, F>(alloc, files, names),
+        Job::Dood(names) => answer_plan::<DoodJob, F>(alloc, files, names),
+        Job::Sheet(names) => answer_plan::<SheetJob, F>(alloc, files, names),
         Job::Gen(film) => Ok(print_film(alloc, film)?),
         Job::Trial(job) => Ok(try_film(alloc, job)?),
     }

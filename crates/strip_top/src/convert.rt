@@ -1,45 +1,28 @@
 // The command `convert`.
-ghost use Rattle.std.specs.Prelude.{◌≡◌, Err, IfOk, string_bytes};
+ghost use Rattle.std.specs.Prelude.{IfOk};
 ghost use Rattle.strip_proof.specs.Plan.{plan_data};
 ghost use Rattle.strip_proof.specs.Text.{HasReadableScenes, IsReadablePlan};
 ghost use Rattle.strip_answer.specs.Ending.{answer_text};
-ghost use Rattle.strip_answer.specs.Run.{FilesStay, HasReadFault, files_data};
-ghost use Rattle.strip_words.specs.Shown.{plan_files_data};
-ghost use Rattle.strip_inputs.specs.Both.{IsEither};
-ghost use Rattle.strip_top.specs.Convert.{IsConvertDue, IsConverted};
+ghost use Rattle.strip_top.specs.Convert.{IsConverted};
 
 use std::alloc::Global;
-use strip_answer::{Answer, Status, Stop};
-use strip_inputs::{Input, both_inputs};
-use strip_io::{Files, Memory};
+use strip_answer::{Answer, Status};
+use strip_inputs::PlanJob;
+use strip_io::Memory;
 use strip_model::Instance;
 use strip_proof::laws::written_plans_read_back;
 use strip_proof::{Plan, head_text};
-use strip_words::PlanFiles;
 
-/// The answer to a film's file and a plan's: the plan in the newest format, or why a file isn't fit. It
-/// checks nothing of the plan.
-pub(crate) fn convert<F: Files>(
-    alloc: Global,
-    files: &mut F,
-    names: &PlanFiles,
-) -> Result<Answer, Stop>
-    ensures due { IfOk result (λ answer. IsConvertDue (plan_files_data names.now)
-        (files_data (F.holds files.old) (F.bytes files.old) (F.faults files.old) (F.came files.old))
-        (files_data (F.holds files.new) (F.bytes files.new) (F.faults files.new) (F.came files.new))
-        answer.status (answer_text answer)) }
-    ensures read { result ≡ Err Stop.Read → HasReadFault
-        (files_data (F.holds files.old) (F.bytes files.old) (F.faults files.old) (F.came files.old))
-        (files_data (F.holds files.new) (F.bytes files.new) (F.faults files.new) (F.came files.new))
-        (IsEither (string_bytes names.now.film) (string_bytes names.now.plan)) }
-    ensures files { FilesStay
-        (files_data (F.holds files.old) (F.bytes files.old) (F.faults files.old) (F.came files.old))
-        (files_data (F.holds files.new) (F.bytes files.new) (F.faults files.new) (F.came files.new))
-        (IsEither (string_bytes names.now.film) (string_bytes names.now.plan)) (result ≡ Err Stop.Read) }
-{
-    match both_inputs(alloc, files, names)? {
-        Input::Said((inst, plan)) => Ok(written(alloc, &inst, plan)?),
-        Input::Refused(answer) => Ok(answer),
+/// The plan in the newest format. It checks nothing of the plan.
+pub(crate) struct ConvertJob;
+
+impl PlanJob for ConvertJob {
+    ghost use Rattle.strip_top.specs.Convert.{IsConverted};
+
+    ghost Due = { IsConverted };
+
+    fn answer(alloc: Global, inst: &Instance, plan: Plan) -> Result<Answer, Memory> {
+        written(alloc, inst, plan)
     }
 }
 

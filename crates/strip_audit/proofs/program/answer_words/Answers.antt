@@ -5,7 +5,7 @@ use Rattle.strip_answer.specs.Claims.{AsksFor}
 use Rattle.strip_answer.proofs.Endings.{stay_wider}
 use Rattle.strip_inputs.specs.Both.{IsEither}
 use Rattle.strip_inputs.proofs.Given.{of_ok}
-use Rattle.strip_audit.specs.Claims.{NameFiles, audit_claims}
+use Rattle.strip_audit.specs.Claims.{audit_claims}
 use Rattle.strip_audit.proofs.program.answer_words.Goals as goal
 
 pub returns-in-Ok-clause-due : goal.returns-in-Ok-clause-due

@@ -1,4 +1,4 @@
-use Rattle.std.proofs.Common.{◌≡◌, ◌∙◌, ◌++◌, ℕ, List, Ok, length, refl, ap, arith}
+use Rattle.std.proofs.Common.{◌≡◌, ◌∙◌, ◌++◌, ℕ, List, length, refl, ap, arith}
 use Rattle.strip_proof.specs.Plan.{plan_data}
 use Rattle.strip_proof.specs.Rows.{head_rows, lines_text, plan_text}
 use Rattle.strip_proof.specs.Text.{says}

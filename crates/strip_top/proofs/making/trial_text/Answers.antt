@@ -1,4 +1,4 @@
-use Rattle.std.proofs.Common.{◌≡◌, ◌∙◌, ℕ, List, [], ◌∷◌, ◌++◌, codes, ap}
+use Rattle.std.proofs.Common.{◌∙◌, ℕ, List, [], ◌∷◌, ◌++◌, codes, ap}
 use Rattle.strip_text.specs.Rows.{csv_row}
 use Rattle.strip_inputs.proofs.Given.{of_ok}
 use Rattle.strip_top.proofs.making.trial_text.Goals as goal

@@ -1,5 +1,5 @@
-use Rattle.std.proofs.Common.{◌≡◌, ◌∙◌, inl}
-use Rattle.strip_dood.specs.Text.{dood_rows}
+use Rattle.std.proofs.Common.{◌∙◌, inl}
+use Rattle.strip_reports.specs.Text.{dood_rows}
 use Rattle.strip_answer.specs.Ending.{answer_text}
 use Rattle.strip_top.proofs.Reported.{told_by_rows}
 use Rattle.strip_top.proofs.reports.dood_of.Goals as goal
@@ -13,5 +13,5 @@ returns c =
       done = c.printed.ensures.status;
       text = text;
       pay = told_by_rows c.args.inst.now c.args.order.now (answer_text c.printed.result) (dood_rows c.args.inst.now c.args.order.now) text
-          (c.the_total_is_the_pay.ensures.said c.args.inst.now c.args.order.now c.keeps_limits.ensures order);
+          (c.the_total_of_days_is_the_pay.ensures.said c.args.inst.now c.args.order.now c.keeps_limits.ensures order);
     })

@@ -1,6 +1,6 @@
-use Rattle.std.proofs.Common.{◌≡◌, ◌∙◌, inl}
+use Rattle.std.proofs.Common.{◌∙◌, inl}
 use Rattle.strip_model.specs.Film.{film_of}
-use Rattle.strip_sheet.specs.Sheet.{sheet_rows}
+use Rattle.strip_reports.specs.Sheet.{sheet_rows}
 use Rattle.strip_answer.specs.Ending.{answer_text}
 use Rattle.strip_top.proofs.Reported.{sheet_total, told_by_rows}
 use Rattle.strip_top.proofs.reports.sheet_of.Goals as goal
@@ -14,5 +14,5 @@ returns c =
       done = c.printed.ensures.status;
       text = text;
       pay = told_by_rows c.args.inst.now c.args.order.now (answer_text c.printed.result) (sheet_rows c.args.inst.now c.args.order.now) text
-          (sheet_total c.args.inst.now c.args.order.now (c.the_total_is_the_pay.ensures (film_of c.args.inst.now) c.args.order.now));
+          (sheet_total c.args.inst.now c.args.order.now (c.the_total_of_the_sheet_is_the_pay.ensures (film_of c.args.inst.now) c.args.order.now));
     })

@@ -1,5 +1,0 @@
-use Rattle.std.proofs.Common.{◌≡◌, ◌++◌, replicate}
-use Rattle.strip_dood.proofs.days.push_days.Given as goal
-
-abbrev pub invariant-loop-day : goal.invariant-loop-day
-invariant-loop-day l = l.crews.items ≡ l.fn.crews.items ++ replicate l._day l.cast

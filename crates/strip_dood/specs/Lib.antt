@@ -1,4 +1,0 @@
-pub mod Days
-pub mod Codes
-pub mod Sums
-pub mod Text

@@ -1,0 +1,11 @@
+mod Rows
+pub mod Counted
+pub mod Sized
+pub mod Written
+pub mod Held
+pub mod Paid
+mod Below
+mod Places
+mod Walk
+mod Total
+mod Added

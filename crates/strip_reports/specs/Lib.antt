@@ -1,0 +1,5 @@
+pub mod Days
+pub mod Codes
+pub mod Sums
+pub mod Text
+pub mod Sheet

@@ -1,0 +1,29 @@
+//! Laws of the definitions. Each function does nothing: its contract is the law.
+ghost use Rattle.std.specs.Prelude.{◌≡◌, ℕ, List, [], ◌∷◌, ◌++◌, length};
+ghost use Rattle.std.specs.Fmt.{decimal};
+ghost use Rattle.strip_pay.specs.Film.{FilmData};
+ghost use Rattle.strip_pay.specs.Order.{IsOrder};
+ghost use Rattle.strip_pay.specs.Pay.{pay_of};
+ghost use Rattle.strip_model.specs.Data.{InstanceData, IsInstance};
+ghost use Rattle.strip_model.specs.Film.{film_of};
+ghost use Rattle.strip_text.specs.Rows.{Row};
+ghost use Rattle.strip_reports.specs.Days.{crews_of};
+ghost use Rattle.strip_reports.specs.Sheet.{total_pay};
+ghost use Rattle.strip_reports.specs.Sums.{total_of};
+ghost use Rattle.strip_reports.specs.Text.{dood_rows};
+
+/// The sums of the Day Out of Days report have the pay of the order, and the last field of its last row
+/// says it.
+pub fn the_total_of_days_is_the_pay()
+    ensures sums { (inst : InstanceData) (order : List ℕ) → IsInstance inst → IsOrder (length inst.scenes) order
+        → (total_of (film_of inst) (crews_of (film_of inst) order)).pay ≡ pay_of (film_of inst) order }
+    ensures said { (inst : InstanceData) (order : List ℕ) → IsInstance inst → IsOrder (length inst.scenes) order
+        → (rows : List Row) × (fields : Row)
+        × (dood_rows inst order ≡ rows ++ (fields ++ decimal (pay_of (film_of inst) order) ∷ []) ∷ []) }
+{}
+
+/// What the last row of a sheet says is what the order pays: the sum over its scenes of what all actors
+/// get is the sum over the actors of what each gets from his first scene to his last.
+pub fn the_total_of_the_sheet_is_the_pay()
+    ensures { (film : FilmData) (order : List ℕ) → total_pay film order ≡ pay_of film order }
+{}

@@ -1,0 +1,11 @@
+//! Reports of an order: the Day Out of Days of each actor, and the cost sheet of its scenes.
+#![tactic(auto)]
+
+mod days;
+pub mod dood;
+mod figures;
+pub mod laws;
+pub mod sheet;
+mod sums;
+#[cfg(test)]
+mod tests;

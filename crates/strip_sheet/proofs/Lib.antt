@@ -1,7 +1,0 @@
-mod Named
-mod Counted
-mod Places
-mod Walk
-mod Total
-mod Added
-mod Rows
