@@ -7,5 +7,3 @@ mod figures;
 pub mod laws;
 pub mod sheet;
 mod sums;
-#[cfg(test)]
-mod tests;
