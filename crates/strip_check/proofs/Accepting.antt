@@ -16,6 +16,7 @@ use Rattle.strip_film.specs.Film.{IsFilm, LiesIn, all_scenes}
 use Rattle.strip_film.specs.Rules.{BeginLeast, Rules}
 use Rattle.strip_film.specs.Shoot.{step_cost}
 use Rattle.strip_rule.specs.Rule.{is_part, open_firsts}
+use Rattle.strip_rule.proofs.Firsts.{first_there, firsts_set}
 use Rattle.strip_lines.specs.Lines.{AreJustified, IsJustified, known, line_at, no_line, rules_of}
 use Rattle.strip_reduce.specs.Reduction.{reduced}
 use Rattle.strip_reduce.specs.State.{State}
@@ -29,7 +30,7 @@ use Rattle.strip_check.specs.declared.verdict.Reason.TheVariants.{BadSet, Broken
 use Rattle.strip_check.specs.declared.verdict.Verdict.TheVariants.{Accepted}
 use Rattle.strip_check.specs.Accepted.{IsAccepted, class_rules}
 use Rattle.strip_check.specs.Reasons.{bound_checks, end_checks, is_order, is_right, justified, line_check, no_pair, order_checks, pair_at, pair_check, plan_checks, proof_checks, root_bound, set_check, stands_before, verdict_by}
-use Rattle.strip_check.proofs.Known.{first_there, firsts_set, justified_alone, justified_by_steps, steps_by_justified}
+use Rattle.strip_check.proofs.Known.{justified_alone, justified_by_steps, steps_by_justified}
 use Rattle.strip_check.proofs.Places.{all_hold, each_holds, eqb_no, none_first, none_in}
 use Rattle.strip_check.proofs.Tests.{before_decides, order_decides}
 

@@ -1,18 +1,12 @@
 -- What lines make known and justify, by numbers.
-use Rattle.std.proofs.Common.{◌≡◌, ◌≢◌, ◌↔◌, ◌⊎◌, ℕ, ◌+◌, ◌<◌, ◌≤◌, leb, max, min, Bool, true, false, List, [], ◌∷◌, All, Contains, ◌++◌, length, inl, inr, refl, sym, ap, ◌∙◌, subst, arith}
+use Rattle.std.proofs.Common.{◌≡◌, ◌≢◌, ◌↔◌, ◌⊎◌, ℕ, ◌+◌, ◌<◌, ◌≤◌, leb, max, min, Bool, true, false, List, [], ◌∷◌, All, Contains, ◌++◌, inl, inr, refl, sym, ap, ◌∙◌, subst, arith}
 use Rattle.std.proofs.lemmas.Bool.{cases_lt, le-leb, leb-true}
 use Rattle.std.proofs.lemmas.List.Elements.{All-contains, All-push, Contains-append_left, Contains-append_right, Contains-push}
-use Rattle.strip_mask.specs.Set.{IsSet, has, members, without}
-use Rattle.strip_mask.proofs.Below.{is_set_below}
+use Rattle.strip_mask.specs.Set.{IsSet, members, without}
 use Rattle.strip_mask.proofs.ByMembers.{some_member}
 use Rattle.strip_mask.proofs.Members.{Contains-members, members-empty}
 use Rattle.strip_pay.proofs.Blocks.{All-from_contains}
 use Rattle.strip_pay.proofs.Lists.{contains_here, contains_later, contains_none, same_test}
-use Rattle.strip_pay.specs.Film.{FilmData}
-use Rattle.strip_film.specs.Film.{IsFilm, LiesIn}
-use Rattle.strip_film.proofs.Lists.{ready_there}
-use Rattle.strip_rule.specs.Rule.{open_firsts}
-use Rattle.strip_rule.proofs.Open.{open_is}
 use Rattle.strip_film.specs.declared.shared.Line.{Line}
 use Rattle.strip_film.specs.Rules.{Rules}
 use Rattle.strip_film.specs.Shoot.{step_cost}
@@ -94,13 +88,6 @@ some_members set is some none =
     contains_none found.0 (subst (λ (xs : List ℕ). Contains xs found.0) none (Contains-members set found.0 is found.2))
 
 -- ---- what is justified
-
--- an open first is a scene of the set
-pub first_there : (film : FilmData) (set scene : ℕ) → has (open_firsts film set) scene ≡ true → has set scene ≡ true
-first_there film set scene member = ready_there film set scene (open_is film set scene member).0
-
-pub firsts_set : (film : FilmData) (set : ℕ) → IsFilm film → LiesIn film set → IsSet (open_firsts film set)
-firsts_set film set is lies = is_set_below (length film.casts) (open_firsts film set) is.scene_count.1 (λ scene member. lies scene (first_there film set scene member))
 
 module _ (rules : Rules) (lines : List Line) (set bound : ℕ) where
   -- each first step and what is known of the rest reach the bound

@@ -1,15 +1,12 @@
 -- What follows a path in the orders that begin with it.
-use Rattle.std.proofs.Common.{◌≡◌, ℕ, ◌<◌, true, false, List, [], ◌∷◌, ◌++◌, length, Contains, ◌⊎◌, inl, inr, sym, ap, ◌∙◌, subst, append_assoc, length-append, arith, get_or}
-use Rattle.std.proofs.Math.ListN.{get_or-append}
+use Rattle.std.proofs.Common.{◌≡◌, ℕ, true, false, List, [], ◌∷◌, ◌++◌, length, Contains, ◌⊎◌, inl, inr, sym, ap, ◌∙◌, subst, append_assoc}
 use Rattle.std.proofs.Math.Nat.{le_of_eq}
-use Rattle.std.proofs.Math.Seq.{get_or-append_seam}
 use Rattle.std.proofs.lemmas.Bool.{cases_eq}
 use Rattle.std.proofs.lemmas.List.{append-nil}
-use Rattle.std.proofs.lemmas.List.Kept.{AllPairs-from_increasing}
 use Rattle.strip_mask.specs.Set.{IsSet, has, members, without}
 use Rattle.strip_mask.proofs.Below.{is_set_below}
 use Rattle.strip_mask.proofs.ByMembers.{IsSet-minus, has-empty}
-use Rattle.strip_mask.proofs.Members.{Contains-members, members_rise}
+use Rattle.strip_mask.proofs.Members.{Contains-members}
 use Rattle.strip_pay.specs.Film.{FilmData}
 use Rattle.strip_pay.specs.Order.{IsKeptOrder}
 use Rattle.strip_pay.specs.Pay.{pay_of}
@@ -25,14 +22,6 @@ use Rattle.strip_film.proofs.Orders.{kept_from_ready, ready_from_order}
 use Rattle.strip_film.proofs.Paths.{rest_lies}
 use Rattle.strip_film.proofs.StepSum.{steps_are_pay}
 use Rattle.strip_exhaustive.specs.Beginning.{BeginsWith, IsFirstCheapestFrom}
-
--- the scenes before a turn's scene are lesser, as the members of a set rise
-pub lesser_before : (set scene : ℕ) (tried left : List ℕ) → tried ++ scene ∷ left ≡ members set → (x : ℕ) → Contains tried x → x < scene
-lesser_before set scene tried left all x (place, within, at) =
-    let risen = subst (λ (xs : List ℕ). (i j d : ℕ) → i < j → j < length xs → get_or xs i d < get_or xs j d) (sym all)
-    (AllPairs-from_increasing (members set) (members_rise set)) in
-    let less : get_or (tried ++ scene ∷ left) place x < get_or (tried ++ scene ∷ left) (length tried) x = risen place (length tried) x within (omega (arith, length-append tried (scene ∷ left))) in
-    omega (arith, less, get_or-append tried (scene ∷ left) x place within, at, get_or-append_seam tried scene left x)
 
 -- the scenes behind the first ones of a list, by what the first ones leave
 AreFirsts-behind : (firsts : ℕ → ℕ) (set : ℕ) (scenes later : List ℕ) → AreFirsts firsts set (scenes ++ later) → AreFirsts firsts (rest_after set scenes) later

@@ -4,13 +4,14 @@ use Rattle.strip_film.specs.Path.{PathData}
 use Rattle.strip_film.specs.Shown.{CursorData}
 use Rattle.strip_io.specs.declared.files.Memory.{Memory}
 use Rattle.strip_io.specs.Counts.{Rose}
+use Rattle.strip_lines.proofs.Grown.{grow_self, grow_trans}
 use Rattle.strip_hand.specs.Calls.{StandsAt}
 use Rattle.strip_hand.specs.Hand.{HandData, RecordData}
 use Rattle.strip_front.specs.declared.down.Tried.{Tried}
 use Rattle.strip_front.specs.declared.down.Tried.TheVariants.{Line, Passed, Spent}
 use Rattle.strip_front.specs.Calls.{GoesDown}
 use Rattle.strip_front.specs.Tried.{Tries}
-use Rattle.strip_front.proofs.Grown.{grow_self, grow_same, grow_then}
+use Rattle.strip_front.proofs.Grown.{grow_same}
 
 -- what may have changed: what was told, the lines, the records and the count of refusals
 abbrev IsChanged : HandData → HandData → Type 0
@@ -45,7 +46,7 @@ pub down_then : (before between after : HandData) (cursor cursor_after : CursorD
 down_then before between after cursor cursor_after one two = record {
   only = two.only ∙ ap (λ (h : HandData). record h { told = after.told; lines = after.lines; records = after.records; refusals = after.refusals }) one.only;
   no_more = omega (arith, one.no_more, two.no_more);
-  grow = grow_then before.lines between.lines after.lines one.grow two.grow;
+  grow = grow_trans before.lines between.lines after.lines one.grow two.grow;
   no_fewer = omega (arith, one.no_fewer, two.no_fewer);
   others = λ part other. two.others part other ∙ one.others part other;
   task = two.task;

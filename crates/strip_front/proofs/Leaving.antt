@@ -10,12 +10,12 @@ use Rattle.strip_mask.proofs.Members.{Contains-members, has_from_members}
 use Rattle.strip_pay.specs.Film.{FilmData}
 use Rattle.strip_film.specs.Film.{IsFilm, all_scenes}
 use Rattle.strip_rule.specs.Rule.{open_firsts}
+use Rattle.strip_rule.proofs.Firsts.{firsts_set}
 use Rattle.strip_front.specs.Filled.{Follows, IsWanted}
 use Rattle.strip_front.specs.Front.{FrontData, IsFrontOf, task_at}
 use Rattle.strip_front.specs.Marked.{MarksMore}
 use Rattle.strip_front.specs.Tasks.{paths_of_two, tasks_of, with_task}
 use Rattle.strip_count.specs.Paths.{path_along}
-use Rattle.strip_front.proofs.Tasks.{firsts_set}
 
 -- where no scene so far leaves it, none does at the end
 pub none_leave : (scenes rest left : ℕ) (done : List ℕ) → ((i : ℕ) → has scenes i ≡ true → i < 64) → done ≡ members scenes
@@ -128,7 +128,7 @@ marks_all film old front firsts is more all marks = record {
       | inr (inl (_, (first, some, member, follows))) ↦ inr (
         first,
         subst (λ (xs : List ℕ). Contains xs first) (sym all)
-            (Contains-members (open_firsts film (all_scenes film)) first (firsts_set film is (all_scenes film) (LiesBelow-full (length film.casts))) member),
+            (Contains-members (open_firsts film (all_scenes film)) first (firsts_set film (all_scenes film) is (LiesBelow-full (length film.casts))) member),
         some,
         follows,
       )

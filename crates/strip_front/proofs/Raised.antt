@@ -15,6 +15,7 @@ use Rattle.strip_film.proofs.Costs.{step_limit}
 use Rattle.strip_bound.specs.Bounds.{bound}
 use Rattle.strip_rule.specs.Rule.{open_firsts}
 use Rattle.strip_rule.proofs.Open.{open_begins_least}
+use Rattle.strip_rule.proofs.Firsts.{first_there}
 use Rattle.strip_lines.specs.Lines.{GrowTo, IsJustified, known, line_at}
 use Rattle.strip_lines.proofs.Grown.{known-static}
 use Rattle.strip_hand.specs.Calls.{MayRaise}
@@ -30,7 +31,7 @@ use Rattle.strip_front.specs.Tasks.{tasks_of}
 use Rattle.strip_front.proofs.Found.{same_task}
 use Rattle.strip_front.proofs.Leaving.{one_task, only_tasks}
 use Rattle.strip_front.proofs.Small.{bound-empty, known_small, line_makes_known}
-use Rattle.strip_front.proofs.Tasks.{first_there, only_first, rest_lies, set_is, tasks_pay, two_open}
+use Rattle.strip_front.proofs.Tasks.{only_first, rest_lies, set_is, tasks_pay, two_open}
 use Rattle.strip_front.proofs.Tried.{some_is}
 use Rattle.strip_front.proofs.Turns.{others_remain}
 

@@ -1,19 +1,20 @@
 -- The line of the empty path, once those of the first scenes are raised.
-use Rattle.std.proofs.Common.{◌≡◌, ℕ, ◌+◌, ◌<◌, ◌≤◌, ◌^◌, min, max, true, List, [], ◌∷◌, ◌++◌, length, Contains, inl, inr, sym, ap, subst, arith}
+use Rattle.std.proofs.Common.{◌≡◌, ℕ, ◌+◌, ◌<◌, ◌≤◌, ◌^◌, min, max, true, List, [], ◌∷◌, ◌++◌, length, Contains, inl, inr, sym, subst, arith}
 use Rattle.std.proofs.lemmas.List.Elements.{Contains-append_left, Contains-push, Contains-push_cases}
 use Rattle.strip_mask.specs.Set.{has, members, without}
 use Rattle.strip_mask.proofs.Below.{LiesBelow-full}
 use Rattle.strip_mask.proofs.Members.{Contains-members}
-use Rattle.strip_pay.proofs.Lists.{contains_cases, contains_none}
+use Rattle.strip_pay.proofs.Lists.{contains_none}
 use Rattle.strip_film.specs.Film.{IsFilm, all_scenes}
-use Rattle.strip_film.specs.Rules.{Rules}
 use Rattle.strip_film.specs.Shoot.{step_cost}
 use Rattle.strip_film.proofs.Costs.{step_limit}
 use Rattle.strip_bound.specs.Bounds.{bound}
 use Rattle.strip_bound.proofs.Small.{bound_small}
 use Rattle.strip_rule.specs.Rule.{open_firsts}
 use Rattle.strip_rule.proofs.Open.{open_begins_least}
-use Rattle.strip_lines.specs.Lines.{IsJustified, ahead, known, least_of, least_step}
+use Rattle.strip_rule.proofs.Firsts.{first_there, firsts_set}
+use Rattle.strip_lines.specs.Lines.{IsJustified, ahead, known, least_step}
+use Rattle.strip_lines.proofs.Ahead.{least_step_le}
 use Rattle.strip_hand.specs.Calls.{MayRaise}
 use Rattle.strip_hand.specs.Hand.{HandData, IsHand}
 use Rattle.strip_hand.specs.Search.{SearchData, search_rules}
@@ -23,7 +24,7 @@ use Rattle.strip_front.specs.Front.{FrontData}
 use Rattle.strip_front.specs.Raised.{ReachesFirst}
 use Rattle.strip_front.proofs.Raised.{greater_justified}
 use Rattle.strip_front.proofs.Small.{known_small, known_still, same_search}
-use Rattle.strip_front.proofs.Tasks.{first_there, firsts_set, rest_lies, set_is}
+use Rattle.strip_front.proofs.Tasks.{rest_lies, set_is}
 use Rattle.strip_front.proofs.Turns.{some_remain}
 
 -- the least of what the first scenes so far reach: by what is known of the rest, by static bounds, and where a front leaves nothing out
@@ -94,23 +95,6 @@ module _ (hand after : HandData) (learns : Learns hand after) (sound : IsHand af
     small = λ f _ value whole all. omega (arith, reaches.reaches value whole all, first_small after first number sound member reaches.known_of);
   }
 
--- ---- the look-ahead
-
-least_of_le : (f : ℕ → ℕ) (x : ℕ) (xs : List ℕ) (y : ℕ) → Contains (x ∷ xs) y → least_of f x xs ≤ f y
-least_of_le f x [] y there = elim (contains_cases x [] y there) [
-  | inl same ↦ (let e : f x ≡ f y = ap f same in omega (arith, e))
-  | inr none ↦ absurd (contains_none y none)
-]
-least_of_le f x (z ∷ zs) y there = elim (contains_cases x (z ∷ zs) y there) [
-  | inl same ↦ (let e : f x ≡ f y = ap f same in omega (arith, e))
-  | inr later ↦ (let rest : least_of f z zs ≤ f y = least_of_le f z zs y later in omega (arith, rest))
-]
-
-least_step_le : (rules : Rules) (set none : ℕ) (scenes : List ℕ) (scene : ℕ) → Contains scenes scene
-    → least_step rules set none scenes ≤ step_cost rules.film set scene + rules.bound (without set scene)
-least_step_le rules set none [] scene there = absurd (contains_none scene there)
-least_step_le rules set none (x ∷ xs) scene there = least_of_le (λ s. step_cost rules.film set s + rules.bound (without set s)) x xs scene there
-
 -- ---- all first scenes
 
 module _ (hand : HandData) (is : IsFilm hand.search.film) (front : FrontData) (found : List ℕ) (least : ℕ)
@@ -118,7 +102,7 @@ module _ (hand : HandData) (is : IsFilm hand.search.film) (front : FrontData) (f
   among : (scene : ℕ) → has (open_firsts hand.search.film (all_scenes hand.search.film)) scene ≡ true → Contains (members (open_firsts hand.search.film (all_scenes hand.search.film))) scene
   among scene member =
       Contains-members (open_firsts hand.search.film (all_scenes hand.search.film)) scene
-      (firsts_set hand.search.film is (all_scenes hand.search.film) (LiesBelow-full (length hand.search.film.casts))) member
+      (firsts_set hand.search.film (all_scenes hand.search.film) is (LiesBelow-full (length hand.search.film.casts))) member
 
   -- some scene is an open first
   some : (scene : ℕ) × (has (open_firsts hand.search.film (all_scenes hand.search.film)) scene ≡ true)

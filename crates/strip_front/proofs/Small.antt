@@ -11,14 +11,14 @@ use Rattle.strip_bound.specs.Bounds.{bound}
 use Rattle.strip_bound.proofs.Finish.{bound_finishes}
 use Rattle.strip_rule.proofs.Open.{open_begins_least}
 use Rattle.strip_lines.specs.Lines.{GrowTo, known, line_at}
-use Rattle.strip_lines.proofs.Grown.{known-grows, known-line}
+use Rattle.strip_lines.proofs.Grown.{grow_self, grow_trans, known-grows, known-line}
 use Rattle.strip_lines.proofs.Justified.{known_is_true}
 use Rattle.strip_hand.specs.Hand.{HandData, IsHand}
 use Rattle.strip_hand.specs.Search.{SearchData, search_rules}
 use Rattle.strip_front.specs.Calls.{AreFound, Learns}
 use Rattle.strip_front.specs.Filled.{HasLine, IsFilled}
 use Rattle.strip_front.specs.Front.{FrontData, task_at}
-use Rattle.strip_front.proofs.Grown.{grow_self, grow_then, line_grows}
+use Rattle.strip_front.proofs.Grown.{line_grows}
 
 -- what is known of a set is at most the cost of finishing it
 pub known_small : (hand : HandData) (set : ℕ) → IsHand hand → LiesIn hand.search.film set → known (search_rules hand.search) hand.lines set < 2 ^ 63
@@ -39,7 +39,7 @@ learns_self hand = record { only = refl; grow = grow_self hand.lines; no_fewer =
 pub learns_then : (before between after : HandData) → Learns before between → Learns between after → Learns before after
 learns_then before between after one two = record {
   only = two.only ∙ ap (λ (h : HandData). record h { lines = after.lines; refusals = after.refusals }) one.only;
-  grow = grow_then before.lines between.lines after.lines one.grow two.grow;
+  grow = grow_trans before.lines between.lines after.lines one.grow two.grow;
   no_fewer = omega (arith, one.no_fewer, two.no_fewer);
 }
 

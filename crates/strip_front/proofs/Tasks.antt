@@ -18,9 +18,9 @@ use Rattle.strip_film.specs.Finish.{AreFirsts}
 use Rattle.strip_film.specs.Path.{IsPath, PathData}
 use Rattle.strip_film.specs.Rules.{IsOpen}
 use Rattle.strip_film.specs.Shoot.{ready}
-use Rattle.strip_film.proofs.Lists.{ready_there}
 use Rattle.strip_rule.specs.Rule.{open_firsts}
 use Rattle.strip_rule.proofs.Open.{open_is, open_begins_least}
+use Rattle.strip_rule.proofs.Firsts.{first_there, firsts_set}
 use Rattle.strip_lines.specs.Lines.{rules_of}
 use Rattle.strip_count.specs.Paths.{path_along}
 use Rattle.strip_hand.specs.Search.{AreStarts, SearchData, depth_of}
@@ -30,12 +30,9 @@ use Rattle.strip_front.proofs.Added.{AreApart, Pays, apart_of, each_of, more_of,
 
 -- ---- open firsts
 
--- an open first is ready, and is one of the set
+-- an open first is ready
 pub first_ready : (film : FilmData) (set scene : ℕ) → has (open_firsts film set) scene ≡ true → has (ready film set) scene ≡ true
 first_ready film set scene member = (open_is film set scene member).0
-
-pub first_there : (film : FilmData) (set scene : ℕ) → has (open_firsts film set) scene ≡ true → has set scene ≡ true
-first_there film set scene member = ready_there film set scene (first_ready film set scene member)
 
 pub firsts_lie : (film : FilmData) (set : ℕ) → LiesIn film set → LiesIn film (open_firsts film set)
 firsts_lie film set lies scene member = lies scene (first_there film set scene member)
@@ -44,12 +41,9 @@ module _ (film : FilmData) (is : IsFilm film) where
   all_lie : LiesIn film (all_scenes film)
   all_lie = LiesBelow-full (length film.casts)
 
-  -- a set of a film's scenes is a mask, and so are its open firsts
+  -- a set of a film's scenes is a mask
   pub set_is : (set : ℕ) → LiesIn film set → IsSet set
   set_is set lies = is_set_below (length film.casts) set is.scene_count.1 lies
-
-  pub firsts_set : (set : ℕ) → LiesIn film set → IsSet (open_firsts film set)
-  firsts_set set lies = set_is (open_firsts film set) (firsts_lie film set lies)
 
   pub rest_lies : (scene : ℕ) → LiesIn film (without (all_scenes film) scene)
   rest_lies scene = LiesBelow-without (length film.casts) (all_scenes film) scene all_lie
@@ -83,9 +77,9 @@ module _ (film : FilmData) (is : IsFilm film) where
       → has (open_firsts film (without (all_scenes film) first)) second ≡ true → Contains (paths_of_two film) (path_along film (first ∷ second ∷ []))
   two_there first second one two =
       Contains-flat_map (paths_after film) (members (open_firsts film (all_scenes film))) first (path_along film (first ∷ second ∷ []))
-      (Contains-members (open_firsts film (all_scenes film)) first (firsts_set (all_scenes film) all_lie) one)
+      (Contains-members (open_firsts film (all_scenes film)) first (firsts_set film (all_scenes film) is all_lie) one)
       (Contains-map (λ s. path_along film (first ∷ s ∷ [])) (members (open_firsts film (without (all_scenes film) first))) second
-      (Contains-members (open_firsts film (without (all_scenes film) first)) second (firsts_set (without (all_scenes film) first) (rest_lies first)) two))
+      (Contains-members (open_firsts film (without (all_scenes film) first)) second (firsts_set film (without (all_scenes film) first) is (rest_lies first)) two))
 
   -- ---- how many they are
 

@@ -15,6 +15,7 @@ use Rattle.strip_film.specs.Shoot.{step_cost}
 use Rattle.strip_film.specs.Shown.{CursorData}
 use Rattle.strip_bound.specs.Bounds.{bound}
 use Rattle.strip_rule.specs.Rule.{open_firsts}
+use Rattle.strip_rule.proofs.Firsts.{firsts_set}
 use Rattle.strip_count.specs.Parts.{lies_in}
 use Rattle.strip_count.specs.Paths.{ComesAfter, path_along}
 use Rattle.strip_hand.specs.Hand.{HandData, IsHand}
@@ -25,7 +26,6 @@ use Rattle.strip_front.specs.Filled.{HasLine, HasLines}
 use Rattle.strip_front.specs.Front.{FrontData}
 use Rattle.strip_front.specs.Tried.{AreTried, IsEnlisted, Tries}
 use Rattle.strip_front.proofs.Grown.{line_grows}
-use Rattle.strip_front.proofs.Tasks.{firsts_set}
 
 same_line : (o : Option ℕ) (a b : ℕ) → o ≡ Some a → o ≡ Some b → a ≡ b
 same_line o a b one two = ap (λ (x : Option ℕ). unwrap_or x 0) (sym one ∙ two)
@@ -164,7 +164,7 @@ module _ (hand : HandData) (cursor : CursorData) (front : FrontData) where
         whole = λ none. record {
           none = λ free. absurd (never_both front.root tried.root.0 tried.root.1 free);
           firsts = λ some _ s member free. tried.past none s
-              (subst (λ (xs : List ℕ). Contains xs s) (sym all) (Contains-members firsts s (firsts_set hand.search.film is (all_scenes hand.search.film) (LiesBelow-full (length hand.search.film.casts))) member)) free;
+              (subst (λ (xs : List ℕ). Contains xs s) (sym all) (Contains-members firsts s (firsts_set hand.search.film (all_scenes hand.search.film) is (LiesBelow-full (length hand.search.film.casts))) member)) free;
         };
         cut = tried.cut;
         root = both_some scenes spent tried;

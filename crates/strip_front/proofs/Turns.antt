@@ -1,15 +1,11 @@
 -- A turn over the first scenes: the path of one of them may be tried, and what it tells.
 use Rattle.std.proofs.Common.{◌≡◌, ◌≢◌, ℕ, ◌<◌, ◌⊎◌, Bool, true, Option, Some, None, Result, Ok, List, [], ◌∷◌, ◌++◌, length, get_or, slice_set, Contains, inl, inr, refl, sym, ap, ◌∙◌, subst, arith}
 use Rattle.std.proofs.lemmas.Bool.{lt-ltb}
-use Rattle.std.proofs.Math.ListN.{get_or-append}
-use Rattle.std.proofs.Math.Seq.{get_or-append_seam}
-use Rattle.std.proofs.lemmas.List.{length-append, get_or-set_same, get_or-set_other}
-use Rattle.std.proofs.lemmas.List.Kept.{AllPairs-from_increasing}
+use Rattle.std.proofs.lemmas.List.{get_or-set_same, get_or-set_other}
 use Rattle.strip_mask.specs.Set.{has, members, size, without}
 use Rattle.strip_mask.proofs.Below.{LiesBelow-full, size-full}
-use Rattle.strip_mask.proofs.Members.{members_rise}
 use Rattle.strip_mask.proofs.Sizes.{size-empty, size-without}
-use Rattle.strip_mask.proofs.Turns.{turn_member}
+use Rattle.strip_mask.proofs.Turns.{lesser_before, turn_member}
 use Rattle.strip_pay.specs.Film.{FilmData}
 use Rattle.strip_pay.specs.Order.{IsBefore}
 use Rattle.strip_film.specs.Film.{IsFilm, all_scenes}
@@ -18,6 +14,7 @@ use Rattle.strip_film.specs.Rules.{IsOpen}
 use Rattle.strip_film.specs.Shown.{CursorData}
 use Rattle.strip_io.specs.declared.files.Memory.{Memory}
 use Rattle.strip_rule.specs.Rule.{open_firsts}
+use Rattle.strip_rule.proofs.Firsts.{first_there}
 use Rattle.strip_lines.specs.Lines.{rules_of}
 use Rattle.strip_count.specs.Parts.{lies_in}
 use Rattle.strip_count.specs.Paths.{ComesAfter, path_along}
@@ -27,17 +24,8 @@ use Rattle.strip_front.specs.declared.down.Tried.{Tried}
 use Rattle.strip_front.specs.declared.down.Tried.TheVariants.{Line, Passed, Spent}
 use Rattle.strip_front.specs.Front.{FrontData}
 use Rattle.strip_front.specs.Tried.{AreTried, Tries}
-use Rattle.strip_front.proofs.Tasks.{first_there, one_open, set_is}
+use Rattle.strip_front.proofs.Tasks.{one_open, set_is}
 use Rattle.strip_front.proofs.Tried.{MayTry, passed, spent_here, enlisted}
-
--- the scenes before a turn's scene are lesser, as the members of a set rise
-lesser_before : (set scene : ℕ) (tried left : List ℕ) → tried ++ scene ∷ left ≡ members set → (x : ℕ) → Contains tried x → x < scene
-lesser_before set scene tried left all x (place, within, at) =
-    let risen = subst (λ (xs : List ℕ). (i j d : ℕ) → i < j → j < length xs → get_or xs i d < get_or xs j d) (sym all)
-    (AllPairs-from_increasing (members set) (members_rise set)) in
-    let less : get_or (tried ++ scene ∷ left) place x < get_or (tried ++ scene ∷ left) (length tried) x
-    = risen place (length tried) x within (omega (arith, length-append tried (scene ∷ left))) in
-    omega (arith, less, get_or-append tried (scene ∷ left) x place within, at, get_or-append_seam tried scene left x)
 
 -- a path of one scene comes behind the empty one and those of lesser scenes
 later : (last : Option PathData) (scenes : List ℕ) (scene : ℕ) (path : PathData) → path.scenes ≡ scene ∷ [] → ((x : ℕ) → Contains scenes x → x < scene)

@@ -49,6 +49,16 @@ known-least rules (line ∷ lines) q most static each =
 
 -- ---- lines that grow
 
+pub grow_self : (lines : List Line) → GrowTo lines lines
+grow_self lines = record { count = omega arith; same_set = λ place lt. refl; no_lower = λ place lt. omega arith }
+
+pub grow_trans : (lines more most : List Line) → GrowTo lines more → GrowTo more most → GrowTo lines most
+grow_trans lines more most first second = record {
+  count = omega (arith, first.count, second.count);
+  same_set = λ place lt. second.same_set place (omega (arith, lt, first.count)) ∙ first.same_set place lt;
+  no_lower = λ place lt. omega (arith, first.no_lower place lt, second.no_lower place (omega (arith, lt, first.count)));
+}
+
 pub known-grows : (rules : Rules) (lines more : List Line) (q : ℕ) → GrowTo lines more → known rules lines q ≤ known rules more q
 known-grows rules lines more q grow = known-least rules lines q (known rules more q) (known-static rules more q)
     (λ place lt is. (let reach : (line_at more place).bound ≤ known rules more (line_at more place).set = known-line rules more place (omega (arith, lt, grow.count)) in

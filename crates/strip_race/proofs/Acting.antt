@@ -16,7 +16,7 @@ use Rattle.strip_film.specs.declared.shared.Probe.TheVariants.{Hit, Miss}
 use Rattle.strip_film.specs.Path.{PathData, IsComplete}
 use Rattle.strip_film.specs.Shown.{CursorData}
 use Rattle.strip_lines.specs.Lines.{GrowTo, line_at, no_line}
-use Rattle.strip_lines.proofs.Grown.{added-grows, raised-grows}
+use Rattle.strip_lines.proofs.Grown.{added-grows, grow_self, raised-grows}
 use Rattle.strip_count.specs.Paths.{ComesAfter}
 use Rattle.strip_hand.specs.Hand.{HandData, IsHand, IsRecord, Knows, RecordData}
 use Rattle.strip_hand.specs.Calls.{Claims, Enlists, IsFound, MakesLine, MayEnlist as HandMayEnlist, MayRaise as HandMayRaise, Notes, Probes, Raises, Tells}
@@ -25,7 +25,6 @@ use Rattle.strip_race.specs.Allowed.{MayEnlist}
 use Rattle.strip_race.specs.Hand.{IsOwned, hand_data, own_record, record_by}
 use Rattle.strip_race.specs.Sound.{IsSound}
 use Rattle.strip_race.specs.Steps.{IsNoted, answer_of, claim_reply, claimed, enlist_reply, enlisted, found, looked, new_line, offered, probed, raised_in, with_worker}
-use Rattle.strip_race.proofs.Kept.{grow_self}
 use Rattle.strip_race.proofs.True.{least_is_paid}
 use Rattle.strip_race.proofs.Claims.{sound_claimed}
 use Rattle.strip_race.proofs.Lines.{sound_enlisted, sound_raised}

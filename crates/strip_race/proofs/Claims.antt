@@ -3,12 +3,13 @@ use Rattle.std.proofs.Common.{◌≡◌, ◌≢◌, ℕ, ◌+◌, ◌<◌, ltb, 
 use Rattle.std.proofs.lemmas.Bool.{cases_eq, cond_both, ltb-true}
 use Rattle.std.proofs.lemmas.List.{length-set, get_or-set_same, get_or-set_other}
 use Rattle.strip_film.specs.Path.{PathData}
+use Rattle.strip_lines.proofs.Grown.{grow_self}
 use Rattle.strip_count.specs.Parts.{AreCounted}
 use Rattle.strip_hand.specs.Search.{depth_of, search_rules}
 use Rattle.strip_race.specs.World.{PartData, WorldData, no_part, part_at, stripe_at}
 use Rattle.strip_race.specs.Sound.{IsClaimed, IsSound}
 use Rattle.strip_race.specs.Steps.{claimed}
-use Rattle.strip_race.proofs.Kept.{claim_stays, grow_self, stripe_grows}
+use Rattle.strip_race.proofs.Kept.{claim_stays, stripe_grows}
 
 module _ (world : WorldData) (who : ℕ) (lt : who < length world.workers) (sound : IsSound world) where
   module _ (left : world.next < length world.parts) where

@@ -1,5 +1,5 @@
 -- What of a sound world stays where another part of it changes: entries where lines grow, and claims where no part changes.
-use Rattle.std.proofs.Common.{◌≡◌, ℕ, ◌<◌, ◌≤◌, true, List, length, refl, sym, ap, ◌∙◌, subst, arith}
+use Rattle.std.proofs.Common.{◌≡◌, ℕ, ◌<◌, ◌≤◌, true, List, length, sym, ap, ◌∙◌, subst, arith}
 use Rattle.std.proofs.lemmas.List.Elements.{All-weaker}
 use Rattle.strip_film.specs.declared.shared.Known.{Known}
 use Rattle.strip_film.specs.declared.shared.Line.{Line}
@@ -10,9 +10,6 @@ use Rattle.strip_hand.specs.Search.{SearchData, depth_of}
 use Rattle.strip_race.specs.World.{PartData, WorldData, part_at}
 use Rattle.strip_hand.specs.Hand.{Knows}
 use Rattle.strip_race.specs.Sound.{IsClaimed, IsStripeOf}
-
-pub grow_self : (lines : List Line) → GrowTo lines lines
-grow_self lines = record { count = omega arith; same_set = λ place lt. refl; no_lower = λ place lt. omega arith }
 
 pub entry_grows : (lines more : List Line) (entry : Known) → GrowTo lines more → Knows lines entry → Knows more entry
 entry_grows lines more entry grow is = record {

@@ -3,16 +3,9 @@ use Rattle.std.proofs.Common.{◌≡◌, ◌≢◌, ℕ, ◌+◌, ◌<◌, max, 
 use Rattle.std.proofs.lemmas.Bool.{eq-eqb, ne_eqb}
 use Rattle.std.proofs.lemmas.List.{take_more}
 use Rattle.std.proofs.lemmas.List.Elements.{Contains-append_cases}
-use Rattle.strip_mask.specs.Set.{IsSet, has}
-use Rattle.strip_mask.proofs.Below.{is_set_below}
-use Rattle.strip_pay.specs.Film.{FilmData}
 use Rattle.strip_pay.proofs.Lists.{contains_cases, contains_none}
 use Rattle.strip_film.specs.declared.shared.Line.{Line}
-use Rattle.strip_film.specs.Film.{IsFilm, LiesIn}
 use Rattle.strip_film.specs.Rules.{Rules}
-use Rattle.strip_film.proofs.Lists.{ready_there}
-use Rattle.strip_rule.specs.Rule.{open_firsts}
-use Rattle.strip_rule.proofs.Open.{open_is}
 use Rattle.strip_lines.specs.Lines.{known, line_at, no_line}
 
 abbrev with_line : Bool → ℕ → ℕ → ℕ
@@ -65,11 +58,3 @@ each_more P done x each one i there = elim (Contains-append_cases done (x ∷ []
     | inr none ↦ absurd (contains_none i none)
   ]
 ]
-
--- an open first is a scene of the set
-pub first_there : (film : FilmData) (set scene : ℕ) → has (open_firsts film set) scene ≡ true → has set scene ≡ true
-first_there film set scene first = ready_there film set scene (open_is film set scene first).0
-
-pub open_is_set : (film : FilmData) (set : ℕ) → IsFilm film → LiesIn film set → IsSet (open_firsts film set)
-open_is_set film set is lies =
-    is_set_below (length film.casts) (open_firsts film set) is.scene_count.1 (λ scene first. lies scene (first_there film set scene first))

@@ -4,7 +4,7 @@ use Rattle.std.proofs.lemmas.Bool.{cond_both}
 use Rattle.strip_film.specs.declared.shared.Line.{Line}
 use Rattle.strip_film.specs.Shown.{path_data}
 use Rattle.strip_lines.specs.Lines.{GrowTo}
-use Rattle.strip_lines.proofs.Grown.{added-grows, raised-grows}
+use Rattle.strip_lines.proofs.Grown.{added-grows, grow_self, raised-grows}
 use Rattle.strip_race.specs.declared.event.Event.{Event}
 use Rattle.strip_race.specs.declared.event.Event.TheVariants.{Look, Offer, Claim, Enlist, Raise, Probe as Ask, Note}
 use Rattle.strip_race.specs.declared.event.Reply.{Reply}
@@ -12,7 +12,6 @@ use Rattle.strip_race.specs.World.{WorldData}
 use Rattle.strip_race.specs.Allowed.{IsAllowed}
 use Rattle.strip_race.specs.Steps.{Steps, claimed, enlisted, new_line}
 use Rattle.strip_race.specs.Sound.{IsSound}
-use Rattle.strip_race.proofs.Kept.{grow_self}
 use Rattle.strip_race.proofs.Workers.{sound_looked, sound_probed, sound_offered}
 use Rattle.strip_race.proofs.Claims.{sound_claimed}
 use Rattle.strip_race.proofs.Lines.{sound_enlisted, sound_raised}

@@ -4,6 +4,7 @@ use Rattle.std.proofs.lemmas.Bool.{cases_eq}
 use Rattle.std.proofs.lemmas.List.{length-set, get_or-set_same, get_or-set_other}
 use Rattle.strip_film.specs.declared.shared.Known.{Known}
 use Rattle.strip_film.specs.declared.shared.Noted.{Noted}
+use Rattle.strip_lines.proofs.Grown.{grow_self}
 use Rattle.strip_table.specs.Home.{bucket_of, stripe_of}
 use Rattle.strip_table.specs.Bucket.{Puts}
 use Rattle.strip_table.specs.Stripe.{bucket_at, home}
@@ -14,7 +15,7 @@ use Rattle.strip_race.specs.World.{WorkerData, WorldData, stripe_at, worker_at}
 use Rattle.strip_hand.specs.Hand.{Knows}
 use Rattle.strip_race.specs.Sound.{IsSound, IsStripeOf}
 use Rattle.strip_race.specs.Steps.{IsNoted, with_worker}
-use Rattle.strip_race.proofs.Kept.{claim_stays, grow_self, stripe_grows}
+use Rattle.strip_race.proofs.Kept.{claim_stays, stripe_grows}
 use Rattle.strip_race.proofs.Workers.{is_worker, least_stays, sound_changed}
 
 -- ---- the table

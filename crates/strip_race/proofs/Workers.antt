@@ -4,11 +4,12 @@ use Rattle.std.proofs.lemmas.Bool.{cases_eq, cases_lt, cond-true, cond-false, co
 use Rattle.std.proofs.lemmas.List.{length-set, get_or-set_same, get_or-set_other}
 use Rattle.std.proofs.lemmas.List.Elements.{All-set, All-weaker}
 use Rattle.strip_film.specs.Path.{PathData, IsComplete}
+use Rattle.strip_lines.proofs.Grown.{grow_self}
 use Rattle.strip_hand.specs.Search.{SearchData}
 use Rattle.strip_race.specs.World.{WorkerData, WorldData, no_worker, worker_at, stripe_at}
 use Rattle.strip_race.specs.Sound.{HasLeast, IsSound, IsWorker}
 use Rattle.strip_race.specs.Steps.{looked, offered, probed, with_worker, found}
-use Rattle.strip_race.proofs.Kept.{claim_stays, grow_self, stripe_grows}
+use Rattle.strip_race.proofs.Kept.{claim_stays, stripe_grows}
 
 -- what is said of a worker stays where the least cost falls
 worker_stays : (search : SearchData) (least lower : ℕ) (worker : WorkerData) → lower ≤ least → IsWorker search least worker → IsWorker search lower worker

@@ -7,13 +7,9 @@ use Rattle.std.proofs.lemmas.List.Sums.{sum_by-cons}
 use Rattle.strip_pay.specs.Film.{FilmData}
 use Rattle.strip_pay.specs.Order.{IsOrder}
 use Rattle.strip_pay.specs.Pay.{works, from_first, to_last, span, day_pay}
-use Rattle.std.proofs.lemmas.List.Sorted.{IsPermutation-reverse, sum_by-IsPermutation}
-use Rattle.strip_pay.proofs.Spans.{to_last-cons, to_last-none}
+use Rattle.strip_pay.proofs.Spans.{reverse-sum, to_last-cons, to_last-none}
 use Rattle.strip_pay.proofs.Counts.{sum-order}
 use Rattle.strip_reduce.specs.Steps.{scene_count, work_days, can_drop}
-
-sum-reverse : (f : ℕ → ℕ) (xs : List ℕ) → sum_by f (reverse xs) ≡ sum_by f xs
-sum-reverse f xs = sum_by-IsPermutation f xs (reverse xs) (IsPermutation-reverse xs)
 
 module _ (p : ℕ → Bool) where
   -- what is nothing where he doesn't work adds up to the same over his span as over the order
@@ -25,7 +21,7 @@ module _ (p : ℕ → Bool) where
   ]
 
   sum-to_last : (w : ℕ → ℕ) → ((x : ℕ) → p x ≡ false → w x ≡ 0) → (xs : List ℕ) → sum_by w (to_last p xs) ≡ sum_by w xs
-  sum-to_last w none xs = sum-reverse w (from_first p (reverse xs)) ∙ sum-from_first w none (reverse xs) ∙ sum-reverse w xs
+  sum-to_last w none xs = reverse-sum w (from_first p (reverse xs)) ∙ sum-from_first w none (reverse xs) ∙ reverse-sum w xs
 
   pub sum-span : (w : ℕ → ℕ) → ((x : ℕ) → p x ≡ false → w x ≡ 0) → (xs : List ℕ) → sum_by w (to_last p (from_first p xs)) ≡ sum_by w xs
   sum-span w none xs = sum-to_last w none (from_first p xs) ∙ sum-from_first w none xs

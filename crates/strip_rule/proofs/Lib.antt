@@ -2,5 +2,6 @@ pub mod Left
 pub mod Fits
 pub mod Exchange
 pub mod Open
+pub mod Firsts
 pub mod Held
 pub mod Rows

@@ -1,6 +1,5 @@
 -- The next task is claimed, and may be walked.
-use Rattle.std.proofs.Common.{◌≡◌, ℕ, suc, ◌+◌, ◌<◌, Bool, true, Option, Some, Result, Ok, Err, IfOk, List, length, nat_eq, slice_index_or, slice_set, All, ◌||◌, false, sym, ap, ◌∙◌, subst, arith}
-use Rattle.std.specs.List.{starts_with}
+use Rattle.std.proofs.Common.{◌≡◌, ℕ, suc, ◌+◌, ◌<◌, Bool, true, Option, Some, Result, Ok, Err, IfOk, List, length, slice_index_or, slice_set, ◌||◌, false, sym, ap, ◌∙◌, subst, arith}
 use Rattle.std.proofs.lemmas.List.{get_or-map, get_or_default}
 use Rattle.strip_kind.specs.declared.kind.Kind.{Kind}
 use Rattle.strip_pay.specs.Film.{FilmData}
@@ -8,18 +7,16 @@ use Rattle.strip_io.specs.declared.files.Memory.{Memory}
 use Rattle.strip_film.specs.declared.path.Path.{Path}
 use Rattle.strip_film.specs.Film.{IsFilm}
 use Rattle.strip_film.specs.Path.{PathData}
-use Rattle.strip_film.specs.Rules.{IsOpen}
 use Rattle.strip_film.specs.Shown.{CursorData, path_data}
-use Rattle.strip_lines.specs.Lines.{GrowTo, rules_of}
-use Rattle.strip_count.specs.Parts.{lies_in, no_task}
+use Rattle.strip_lines.specs.Lines.{GrowTo}
+use Rattle.strip_lines.proofs.Grown.{grow_self}
+use Rattle.strip_count.specs.Parts.{no_task}
 use Rattle.strip_hand.specs.Calls.{Claims}
 use Rattle.strip_hand.specs.Hand.{HandData, no_path_yet}
-use Rattle.strip_hand.specs.Search.{SearchData, depth_of, search_rules}
 use Rattle.strip_race.specs.declared.event.Reply.TheVariants.{Task}
 use Rattle.strip_race.specs.Hand.{IsOwned, hand_data}
 use Rattle.strip_race.specs.Steps.{claim_reply, claimed}
 use Rattle.strip_race.specs.World.{WorldData}
-use Rattle.strip_race.proofs.Kept.{grow_self}
 use Rattle.strip_front.specs.declared.front.Front.{Front}
 use Rattle.strip_front.specs.Shown.{front_data}
 use Rattle.strip_front.specs.Front.{FrontData, is_wanted, task_at}
@@ -28,12 +25,12 @@ use Rattle.strip_front.proofs.Tasks.{tasks_open}
 use Rattle.strip_walk.specs.declared.found.Found.{Found}
 use Rattle.strip_walk.specs.Found.{IsFound, MayExplore}
 use Rattle.strip_walk.specs.Walked.{Explores, Walks}
-use Rattle.strip_walk.proofs.Lists.{starts_itself}
 use Rattle.strip_team.specs.Team.{HasWalked, IsAlone, IsUnderWay, WalksTask, beginning}
 use Rattle.strip_team.proofs.OneWorker.{next_stays}
 use Rattle.strip_team.proofs.Begun.{alone_after, claim_takes}
 use Rattle.strip_team.proofs.Moved.{moved}
 use Rattle.strip_team.proofs.Settled.{passed, walked}
+use Rattle.strip_team.proofs.Tasks.{may_walk_task}
 
 -- a walk from where a part begins
 pub explores_task : (before : HandData) (part : ℕ) (path : PathData) (result : Result Found Memory) (after : HandData)
@@ -88,27 +85,10 @@ module _ (kind : Kind) (film : FilmData) (world taken : WorldData) (reply : Opti
       (omega (arith, ap (λ (h : HandData). h.told) takes.1.0)) (subst (GrowTo world.lines) (sym (ap (λ (h : HandData). h.lines) takes.1.0)) (grow_self world.lines))
       owned.sound.few (λ part first. takes.1.4 part (λ same. absurd (omega (arith, first, same, way.next)))) way.walked
 
-  open_task : All (IsOpen (rules_of kind film)) (tasks_of film) → IsOpen (search_rules taken.search) (task_at front task)
-  open_task all =
-      let here : IsOpen (rules_of kind film) (task_at front task)
-      = subst (λ (tasks : List PathData). All (IsOpen (rules_of kind film)) tasks)
-      (sym (way.alone.tasks) ∙ tasks_same) all task no_task within in
-      subst (λ (k : Kind). IsOpen (rules_of k taken.search.film) (task_at front task)) (sym alone_taken.same_kind)
-      (subst (λ (f : FilmData). IsOpen (rules_of kind f) (task_at front task)) (sym alone_taken.same_film) here)
-
-  lies_task : lies_in (depth_of taken.search) taken.search.tasks (suc task) (task_at front task) ≡ true
-  lies_task =
-      subst (λ (tasks : List PathData). starts_with nat_eq (task_at front task).scenes (slice_index_or tasks task no_task).scenes ≡ true)
-      (sym (ap (λ (search : SearchData). search.tasks) search_taken ∙ tasks_same)) (starts_itself (task_at front task).scenes)
-
   pub may_walk : MayExplore (hand_data taken) (beginning (suc task)) (task_at front task)
-  may_walk = record {
-    stands = (0, record_taken);
-    task = λ zero_is. absurd (omega (arith, zero_is));
-    is_open = open_task (tasks_open film (subst IsFilm way.alone.same_film way.alone.owned.sound.film) kind);
-    lies = lies_task;
-    later = tt;
-  }
+  may_walk = may_walk_task kind film front task (way.walked.front_of.tasks ∙ ap tasks_of way.alone.same_film) within
+      (tasks_open film (subst IsFilm way.alone.same_film way.alone.owned.sound.film) kind)
+      (hand_data taken) (alone_taken.same_film, alone_taken.same_kind) alone_taken.tasks record_taken
 
   -- a task that isn't asked for is passed over
   pub way_passed : is_wanted front task ≡ false → IsUnderWay kind film taken front found (suc (suc task)) spent

@@ -1,21 +1,8 @@
--- The open firsts of a set, and what remains after one of them.
-use Rattle.std.proofs.Common.{◌≡◌, ◌≢◌, ℕ, ◌+◌, ◌-◌, ◌<◌, ◌≤◌, Bool, true, false, not, ◌&&◌, eqb, length, refl, ap, sym, ◌∙◌, subst, arith}
+-- What remains after a scene is a lesser number; and what a step leaves of a need.
+use Rattle.std.proofs.Common.{◌≡◌, ◌≢◌, ℕ, ◌+◌, ◌-◌, ◌<◌, ◌≤◌, Bool, true, false, not, ◌&&◌, eqb, refl, ap, sym, ◌∙◌, subst, arith}
 use Rattle.std.proofs.lemmas.Nat.{and_le_l}
-use Rattle.strip_mask.specs.Set.{IsSet, has, meet, without}
-use Rattle.strip_mask.proofs.Below.{is_set_below}
+use Rattle.strip_mask.specs.Set.{has, meet, without}
 use Rattle.strip_mask.proofs.ByMembers.{has-meet, has-without, has-without_same, same_has}
-use Rattle.strip_pay.specs.Film.{FilmData}
-use Rattle.strip_film.specs.Film.{IsFilm, LiesIn}
-use Rattle.strip_film.proofs.Lists.{ready_there}
-use Rattle.strip_rule.specs.Rule.{open_firsts}
-use Rattle.strip_rule.proofs.Open.{open_is}
-
-pub first_there : (film : FilmData) (set scene : ℕ) → has (open_firsts film set) scene ≡ true → has set scene ≡ true
-first_there film set scene first = ready_there film set scene (open_is film set scene first).0
-
-pub firsts_set : (film : FilmData) (set : ℕ) → IsFilm film → LiesIn film set → IsSet (open_firsts film set)
-firsts_set film set is lies =
-    is_set_below (length film.casts) (open_firsts film set) is.scene_count.1 (λ scene first. lies scene (first_there film set scene first))
 
 twice : (x y : Bool) → (x && (y && x)) ≡ (y && x)
 twice true true = refl

@@ -1,12 +1,11 @@
 -- The places that are marked, and their lines.
-use Rattle.std.proofs.Common.{◌≡◌, ℕ, suc, ◌+◌, ◌<◌, Bool, true, false, cond, List, [], ◌∷◌, ◌++◌, length, map, filter, Contains, Result, Ok, Err, IfOk, Vec, Global, inl, inr, refl, ap, sym, ◌∙◌, subst, arith, append-nil}
-use Rattle.std.specs.List.Sorted.{IsStrictlyIncreasing}
+use Rattle.std.proofs.Common.{◌≡◌, ℕ, suc, ◌+◌, Bool, true, false, cond, List, [], ◌∷◌, ◌++◌, length, map, filter, Contains, Result, Ok, Err, IfOk, Vec, Global, inl, inr, refl, ap, sym, ◌∙◌, subst, arith, append-nil}
 use Rattle.std.proofs.lemmas.Bool.{cond_both}
-use Rattle.std.proofs.lemmas.List.{get_or_default, map-append}
+use Rattle.std.proofs.lemmas.List.{map-append}
 use Rattle.std.proofs.lemmas.List.Elements.{All-contains, filter_passes}
 use Rattle.std.proofs.lemmas.List.Kept.{IsStrictlyIncreasing-filter}
 use Rattle.strip_mask.specs.Set.{numbers_below}
-use Rattle.strip_mask.proofs.Members.{kept-more, length-numbers_below, number_at}
+use Rattle.strip_mask.proofs.Members.{contains_number, kept-more, numbers_rise}
 use Rattle.strip_pay.proofs.Lists.{contains_here, contains_later, contains_cases, contains_none}
 use Rattle.strip_film.specs.declared.shared.Line.{Line}
 use Rattle.strip_film.specs.Rules.{Rules}
@@ -41,16 +40,6 @@ module _ (lines : List Line) (marks : List Bool) (n : ℕ) where
 
 -- ---- the marked places
 
-numbers_rise : (n : ℕ) → IsStrictlyIncreasing (numbers_below n)
-numbers_rise n k lt =
-    let long : length (numbers_below n) ≡ n = length-numbers_below n in
-    omega (arith, number_at n k (omega (arith, lt, long)), number_at n (k + 1) (omega (arith, lt, long)))
-
-number_there : (n i : ℕ) → i < n → Contains (numbers_below n) i
-number_there n i lt =
-    let within : i < length (numbers_below n) = omega (arith, lt, length-numbers_below n) in
-    (i, within, get_or_default (numbers_below n) i i 0 within ∙ number_at n i lt)
-
 filter_there : (p : ℕ → Bool) (xs : List ℕ) (x : ℕ) → Contains xs x → p x ≡ true → Contains (filter p xs) x
 filter_there p [] x there passes = absurd (contains_none x there)
 filter_there p (y ∷ ys) x there passes =
@@ -68,7 +57,7 @@ module _ (rules : Rules) (lines : List Line) (marks : List Bool) (are : AreMarke
   marked_there : (place : ℕ) → Stays rules lines place → Contains (marked_places marks) place
   marked_there place stay =
       filter_there (is_marked marks) (numbers_below (length marks)) place
-      (number_there (length marks) place (omega (arith, stay.best.within, are.count))) ((are.exact place).1 stay)
+      (contains_number (length marks) place (omega (arith, stay.best.within, are.count))) ((are.exact place).1 stay)
 
   -- the marked lines are the trimmed list
   pub trimmed_from : (kept : List Line) → kept ≡ marked_lines lines marks → AreTrimmed rules lines kept

@@ -14,12 +14,11 @@ use Rattle.strip_film.specs.Film.{IsFilm, LiesIn}
 use Rattle.strip_film.specs.Path.{IsPath, PathData}
 use Rattle.strip_film.specs.Shoot.{step_cost}
 use Rattle.strip_film.proofs.Costs.{step_limit}
-use Rattle.strip_film.proofs.Lists.{ready_there}
 use Rattle.strip_film.proofs.Paths.{rest_lies}
 use Rattle.strip_bound.specs.Bounds.{bound}
 use Rattle.strip_bound.proofs.Small.{bound_small}
 use Rattle.strip_rule.specs.Rule.{open_firsts}
-use Rattle.strip_rule.proofs.Open.{open_is}
+use Rattle.strip_rule.proofs.Firsts.{first_there}
 use Rattle.strip_walk.specs.declared.found.Sifted.{Sifted}
 use Rattle.strip_walk.specs.Sifted.{AreSifted, AreWeighed}
 
@@ -79,9 +78,6 @@ module _ (kind : Kind) (film : FilmData) (path : PathData) (is_film : IsFilm fil
   lies : LiesIn film path.rest
   lies = rest_lies film path within
 
-  pub first_there : (s : ℕ) → has (open_firsts film path.rest) s ≡ true → has path.rest s ≡ true
-  first_there s first = ready_there film path.rest s (open_is film path.rest s first).0
-
   pub child_lies : (s : ℕ) → LiesIn film (without path.rest s)
   child_lies s = LiesBelow-without (length film.casts) path.rest s lies
 
@@ -90,7 +86,7 @@ module _ (kind : Kind) (film : FilmData) (path : PathData) (is_film : IsFilm fil
   child_fits s rest first most =
       omega (
         arith,
-        step_limit film path.rest s is_film (is_set_below (length film.casts) path.rest is_film.scene_count.1 lies) (first_there s first),
+        step_limit film path.rest s is_film (is_set_below (length film.casts) path.rest is_film.scene_count.1 lies) (first_there film path.rest s first),
         bound_small kind film (without path.rest s) is_film (child_lies s),
         most,
       )
@@ -115,7 +111,7 @@ module _ (kind : Kind) (film : FilmData) (path : PathData) (is_film : IsFilm fil
 
       below : (set scene : ℕ) → ((x : ℕ) → has set x ≡ true → has (open_firsts film path.rest) x ≡ true) → has set scene ≡ true → Contains (members set) scene
       below set scene inside is =
-          Contains-members set scene (is_set_below (length film.casts) set is_film.scene_count.1 (λ x has_x. lies x (first_there x (inside x has_x)))) is
+          Contains-members set scene (is_set_below (length film.casts) set is_film.scene_count.1 (λ x has_x. lies x (first_there film path.rest x (inside x has_x)))) is
 
       there : (scene : ℕ) → has (open_firsts film path.rest) scene ≡ true → (b : Bool) → has part scene ≡ b → Contains (members part ++ members others) scene
       there scene first true is = Contains-append_left (members part) (members others) scene (below part scene within is)

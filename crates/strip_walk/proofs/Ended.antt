@@ -3,7 +3,7 @@ use Rattle.std.proofs.Common.{◌≡◌, ◌≢◌, ℕ, ◌+◌, ◌<◌, ◌�
 use Rattle.std.proofs.lemmas.Bool.{cases_lt}
 use Rattle.std.proofs.lemmas.List.{same_from_push}
 use Rattle.strip_io.specs.declared.files.Memory.{Memory}
-use Rattle.strip_mask.specs.Set.{IsSet, has, members, size, without}
+use Rattle.strip_mask.specs.Set.{has, members, size, without}
 use Rattle.strip_mask.proofs.Below.{is_set_below}
 use Rattle.strip_mask.proofs.Members.{Contains-members}
 use Rattle.strip_mask.proofs.Sizes.{size-without}
@@ -18,6 +18,7 @@ use Rattle.strip_film.proofs.Paths.{rest_lies}
 use Rattle.strip_film.proofs.Started.{same_path}
 use Rattle.strip_rule.specs.Rule.{open_firsts}
 use Rattle.strip_rule.proofs.Open.{open_is}
+use Rattle.strip_rule.proofs.Firsts.{firsts_set}
 use Rattle.strip_lines.specs.Lines.{GrowTo, IsJustified, ahead, line_at}
 use Rattle.strip_lines.proofs.Ahead.{least_step_le}
 use Rattle.strip_hand.specs.Search.{SearchData, search_rules}
@@ -103,10 +104,6 @@ module _ (before hand : HandData) (cursor cursor_now : CursorData) (path : PathD
   film_is : IsFilm before.search.film
   film_is = subst (λ (search : SearchData). IsFilm search.film) walks.search is.film
 
-  firsts_set : IsSet (open_firsts before.search.film path.rest)
-  firsts_set = is_set_below (length before.search.film.casts) (open_firsts before.search.film path.rest) film_is.scene_count.1
-      (λ scene first. lies scene (ready_there before.search.film path.rest scene (open_is before.search.film path.rest scene first).0))
-
   -- a step that is reached reaches the look-ahead
   step_reaches : (scene : ℕ) → IsFirst before.search path scene
       → step_cost before.search.film path.rest scene + (search_rules before.search).bound (without path.rest scene) ≤ least
@@ -118,7 +115,7 @@ module _ (before hand : HandData) (cursor cursor_now : CursorData) (path : PathD
         most_is,
         static_is,
         least_step_le (search_rules before.search) path.rest ((search_rules before.search).bound path.rest)
-            (members (open_firsts before.search.film path.rest)) scene (Contains-members (open_firsts before.search.film path.rest) scene firsts_set first),
+            (members (open_firsts before.search.film path.rest)) scene (Contains-members (open_firsts before.search.film path.rest) scene (firsts_set before.search.film path.rest film_is lies) first),
       )
 
   module _ (after : HandData) (known : Known) (known_is : known ≡ known_of path line most) where

@@ -8,6 +8,7 @@ use Rattle.strip_film.specs.Path.{PathData}
 use Rattle.strip_film.specs.Rules.{IsOpen}
 use Rattle.strip_film.specs.Shown.{CursorData}
 use Rattle.strip_lines.specs.Lines.{GrowTo}
+use Rattle.strip_lines.proofs.Grown.{grow_trans}
 use Rattle.strip_count.specs.Parts.{lies_in}
 use Rattle.strip_count.specs.Paths.{ComesAfter}
 use Rattle.strip_hand.specs.Search.{SearchData, depth_of, search_rules}
@@ -21,16 +22,6 @@ use Rattle.strip_walk.specs.Begun.{Begins, Stays}
 use Rattle.strip_walk.proofs.Lists.{begun_not_before, starts_itself, starts_shorter}
 
 -- ---- lines that grow
-
-pub grow_self : (lines : List Line) → GrowTo lines lines
-grow_self lines = record { count = omega arith; same_set = λ place lt. refl; no_lower = λ place lt. omega arith }
-
-pub grow_trans : (lines more most : List Line) → GrowTo lines more → GrowTo more most → GrowTo lines most
-grow_trans lines more most first second = record {
-  count = omega (arith, first.count, second.count);
-  same_set = λ place lt. second.same_set place (omega (arith, lt, first.count)) ∙ first.same_set place lt;
-  no_lower = λ place lt. omega (arith, first.no_lower place lt, second.no_lower place (omega (arith, lt, first.count)));
-}
 
 -- a known line stays known
 pub knows_more : (lines more : List Line) (known : Known) → GrowTo lines more → Knows lines known → Knows more known

@@ -1,11 +1,12 @@
 -- Names of options, and which item words begin with.
-use Rattle.std.proofs.Common.{◌≡◌, ℕ, Bool, true, false, not, eqb, nat_lt, ◌&&◌, ◌||◌, List, [], ◌∷◌, ◌++◌, length, take, All, Contains, ◌⊎◌, inl, inr, refl, sym, ap, ap₂, ◌∙◌, subst, codes, bytes_eq, true≢false, append-nil}
+use Rattle.std.proofs.Common.{◌≡◌, ℕ, Bool, true, false, not, eqb, nat_lt, ◌&&◌, List, [], ◌∷◌, ◌++◌, length, take, All, Contains, ◌⊎◌, inl, inr, refl, sym, ap, ap₂, ◌∙◌, subst, codes, bytes_eq, true≢false, append-nil}
 use Rattle.std.specs.List.{list_any, list_all, AllByRecursion}
 use Rattle.std.proofs.lemmas.List.Elements.{All-contains, All-from_recursion, Contains-append_right}
 use Rattle.std.proofs.lemmas.Slice.Eq.{bytes_eq-Decides}
+use Rattle.std.proofs.lemmas.Bool.{and_parts, not-true}
 use Rattle.strip_words.specs.Words.{Word, Command, Item, Operand, Joined, Apart, Flag, IsPlain, BelongsTo}
 use Rattle.strip_words.specs.Reader.{Begins, is_option_name, has_names}
-use Rattle.strip_pay.proofs.Lists.{contains_none, contains_here, contains_later, contains_cases}
+use Rattle.strip_pay.proofs.Lists.{any_from, contains_here, contains_later}
 
 -- two hyphens and more, no equals sign
 pub record IsName (word : Word) : Type 0 where
@@ -19,30 +20,6 @@ pub record HasNames (command : Command) : Type 0 where
   pub flags : All IsName command.flags
   pub apart : (word : Word) → Contains command.valued word → ¬ Contains command.flags word
 
-and_parts : (a b : Bool) → (a && b) ≡ true → (a ≡ true) × (b ≡ true)
-and_parts true b is = (refl, is)
-and_parts false b is = absurd (true≢false (sym is))
-
-not_true : (b : Bool) → not b ≡ true → b ≡ false
-not_true true is = absurd (true≢false (sym is))
-not_true false is = refl
-
--- what passes is found
-any_passes : {X : Type 0} (p : X → Bool) (xs : List X) (x : X) → Contains xs x → p x ≡ true → list_any p xs ≡ true
-any_passes p [] x there passes = absurd (contains_none x there)
-any_passes p (y ∷ ys) x there passes = elim (contains_cases y ys x there) [
-  | inl same ↦ first (p y) (list_any p ys) (ap p same ∙ passes)
-  | inr later ↦ second (p y) (list_any p ys) (any_passes p ys x later passes)
-]
-  where
-    first : (a b : Bool) → a ≡ true → (a || b) ≡ true
-    first true b is = refl
-    first false b is = absurd (true≢false (sym is))
-
-    second : (a b : Bool) → b ≡ true → (a || b) ≡ true
-    second true b is = refl
-    second false b is = is
-
 all_passes : {X : Type 0} (p : X → Bool) (P : X → Type 0) (xs : List X) → ((x : X) → p x ≡ true → P x) → list_all p xs ≡ true → All P xs
 all_passes {X} p P xs holds is = All-from_recursion P xs (by xs is)
   where
@@ -54,7 +31,7 @@ name_from : (word : Word) → is_option_name word ≡ true → IsName word
 name_from word is =
     let rest = and_parts (bytes_eq (take 2 word) (codes "--") && nat_lt 2 (length word)) (not (list_any (λ byte. eqb byte 61) word)) is in
     let parts = and_parts (bytes_eq (take 2 word) (codes "--")) (nat_lt 2 (length word)) rest.0 in
-    by word ((bytes_eq-Decides (take 2 word) (codes "--")).0 parts.0) parts.1 (λ there. true≢false (sym (any_passes (λ byte. eqb byte 61) word 61 there refl) ∙ not_true _ rest.1))
+    by word ((bytes_eq-Decides (take 2 word) (codes "--")).0 parts.0) parts.1 (λ there. true≢false (sym (any_from (λ byte. eqb byte 61) word 61 there refl) ∙ not-true _ rest.1))
   where
     by : (word : Word) → take 2 word ≡ codes "--" → nat_lt 2 (length word) ≡ true → (¬ Contains word 61) → IsName word
     by [] same long lacks = absurd (true≢false (sym long))
@@ -70,9 +47,9 @@ names_from command is =
       valued = all_passes is_option_name IsName command.valued name_from parts.0;
       flags = all_passes is_option_name IsName command.flags name_from parts.1;
       apart = λ word valued flag. true≢false (
-          sym (any_passes (λ flag. list_any (bytes_eq flag) command.valued) command.flags word flag
-          (any_passes (bytes_eq word) command.valued word valued ((bytes_eq-Decides word word).1 refl)))
-          ∙ not_true _ rest.1);
+          sym (any_from (λ flag. list_any (bytes_eq flag) command.valued) command.flags word flag
+          (any_from (bytes_eq word) command.valued word valued ((bytes_eq-Decides word word).1 refl)))
+          ∙ not-true _ rest.1);
     }
 
 -- a word is cut at its first equals sign in one way

@@ -5,8 +5,9 @@ use Rattle.strip_film.specs.Film.{IsFilm}
 use Rattle.strip_film.specs.Shoot.{step_cost}
 use Rattle.strip_bound.specs.Bounds.{bound}
 use Rattle.strip_rule.specs.Rule.{open_firsts}
+use Rattle.strip_rule.proofs.Firsts.{first_there, firsts_set}
 use Rattle.strip_lines.specs.Lines.{known, rules_of}
-use Rattle.strip_check.proofs.Known.{first_there, firsts_set, justified_by_steps, no_firsts_decide, steps_decide}
+use Rattle.strip_check.proofs.Known.{justified_by_steps, no_firsts_decide, steps_decide}
 use Rattle.strip_check.proofs.justify.is_by_steps.Goals as goal
 
 pub steps_reach-requires-clause-firsts : goal.steps_reach-requires-clause-firsts

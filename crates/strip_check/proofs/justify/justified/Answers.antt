@@ -3,9 +3,10 @@ use Rattle.strip_mask.specs.Set.{members}
 use Rattle.strip_pay.specs.Film.{FilmData}
 use Rattle.strip_bound.specs.Bounds.{bound}
 use Rattle.strip_rule.specs.Rule.{open_firsts}
+use Rattle.strip_rule.proofs.Firsts.{first_there}
 use Rattle.strip_lines.specs.Lines.{least_step, rules_of}
 use Rattle.strip_check.specs.Reasons.{by_lines}
-use Rattle.strip_check.proofs.Known.{first_there, justified_alone}
+use Rattle.strip_check.proofs.Known.{justified_alone}
 use Rattle.strip_check.proofs.justify.justified.Goals as goal
 
 pub returns-then-is_empty : goal.returns-then-is_empty

@@ -3,7 +3,7 @@ use Rattle.strip_mask.specs.Iter.{rest_of}
 use Rattle.strip_mask.specs.Set.{IsSet, has, size, without}
 use Rattle.strip_mask.proofs.Below.{is_set_below}
 use Rattle.strip_mask.proofs.Sizes.{size-without}
-use Rattle.strip_mask.proofs.Turns.{turn_member, turns_all}
+use Rattle.strip_mask.proofs.Turns.{lesser_before, turn_member, turns_all}
 use Rattle.strip_pay.specs.Film.{FilmData}
 use Rattle.strip_film.specs.Film.{IsFilm}
 use Rattle.strip_film.specs.Path.{IsPath, PathData}
@@ -11,7 +11,6 @@ use Rattle.strip_film.specs.Shoot.{ready}
 use Rattle.strip_film.specs.Shown.{path_data}
 use Rattle.strip_film.proofs.Paths.{rest_lies, there}
 use Rattle.strip_exhaustive.specs.Beginning.{IsFirstCheapestFrom}
-use Rattle.strip_exhaustive.proofs.Next.{lesser_before}
 use Rattle.strip_exhaustive.proofs.Search.{best_all, best_pay, best_tries, first_at_end, none_left, pay_at_end}
 use Rattle.strip_exhaustive.proofs.cheapest.+cheapest_from.Goals as goal
 

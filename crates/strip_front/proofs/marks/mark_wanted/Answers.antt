@@ -5,10 +5,10 @@ use Rattle.strip_mask.proofs.Below.{LiesBelow-full}
 use Rattle.strip_mask.proofs.Turns.{turn_below, turn_member, turns_all}
 use Rattle.strip_film.specs.Film.{all_scenes}
 use Rattle.strip_rule.specs.Rule.{open_firsts}
+use Rattle.strip_rule.proofs.Firsts.{first_there}
 use Rattle.strip_front.specs.Front.{FrontData}
 use Rattle.strip_front.specs.Shown.{front_data}
 use Rattle.strip_front.proofs.Leaving.{marks_all, marks_more, marks_past}
-use Rattle.strip_front.proofs.Tasks.{first_there}
 use Rattle.strip_front.proofs.marks.mark_wanted.Goals as goal
 
 pub open_firsts-requires : goal.open_firsts-requires

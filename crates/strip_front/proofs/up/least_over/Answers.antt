@@ -4,10 +4,10 @@ use Rattle.strip_mask.specs.Set.{has}
 use Rattle.strip_mask.proofs.Members.{Contains-members, has_from_members}
 use Rattle.strip_mask.proofs.Turns.{turn_below, turn_member, turns_all}
 use Rattle.strip_rule.specs.Rule.{open_firsts}
+use Rattle.strip_rule.proofs.Firsts.{first_there, firsts_set}
 use Rattle.strip_front.specs.Raised.{ReachesBy}
 use Rattle.strip_front.specs.Shown.{front_data}
 use Rattle.strip_front.proofs.Least.{MostOf, least_more, most_more}
-use Rattle.strip_front.proofs.Tasks.{first_there, firsts_set}
 use Rattle.strip_front.proofs.up.least_over.Goals as goal
 use Rattle.strip_front.proofs.up.least_over.Goals.{After-found_for}
 
@@ -55,7 +55,7 @@ pub returns-clause-most : goal.returns-clause-most
 returns-clause-most c = λ second reach there reaches.
     c.loop-second.invariant.most second reach
     (subst (λ (xs : List ℕ). Contains xs second) (sym (turns_all (open_firsts c.args.film.now c.args.rest.0) c.loop-second.yielded (rest_of c.loop-second.second-iterator) c.loop-second.invariant.turns c.in-None.ensures.steps.0))
-    (Contains-members (open_firsts c.args.film.now c.args.rest.0) second (firsts_set c.args.film.now c.keeps_limits.ensures c.args.rest.0 c.requires.lies) there)) reaches
+    (Contains-members (open_firsts c.args.film.now c.args.rest.0) second (firsts_set c.args.film.now c.args.rest.0 c.keeps_limits.ensures c.requires.lies) there)) reaches
 
 pub returns-clause-least : goal.returns-clause-least
 returns-clause-least c = λ value small all.

@@ -6,10 +6,11 @@ use Rattle.strip_pay.specs.Film.{FilmData}
 use Rattle.strip_film.specs.Film.{LiesIn, all_scenes}
 use Rattle.strip_bound.specs.Bounds.{bound}
 use Rattle.strip_rule.specs.Rule.{open_firsts}
+use Rattle.strip_rule.proofs.Firsts.{first_there}
 use Rattle.strip_front.specs.Front.{IsFrontOf}
 use Rattle.strip_front.specs.Shown.{front_data}
 use Rattle.strip_front.proofs.Raised.{AllFor, LeastFor, MostFor, all_for, may_raise_first, reached_one, reached_raised, reached_static}
-use Rattle.strip_front.proofs.Tasks.{first_there, rest_lies}
+use Rattle.strip_front.proofs.Tasks.{rest_lies}
 use Rattle.strip_front.proofs.up.raise_first.Given.{Over}
 use Rattle.strip_front.proofs.up.raise_first.Goals as goal
 use Rattle.strip_front.proofs.up.raise_first.Goals.{After-all, After-least_over, After-without-rest, Else-scenes-eq1}

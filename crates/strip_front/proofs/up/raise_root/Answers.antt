@@ -9,6 +9,7 @@ use Rattle.strip_film.specs.Film.{IsFilm, all_scenes}
 use Rattle.strip_film.specs.Shoot.{step_cost}
 use Rattle.strip_bound.specs.Bounds.{bound}
 use Rattle.strip_rule.specs.Rule.{open_firsts}
+use Rattle.strip_rule.proofs.Firsts.{first_there}
 use Rattle.strip_lines.specs.Lines.{ahead, known}
 use Rattle.strip_hand.specs.Hand.{HandData}
 use Rattle.strip_hand.specs.Search.{SearchData, search_rules}
@@ -16,7 +17,6 @@ use Rattle.strip_front.specs.Filled.{HasLine, IsWhole}
 use Rattle.strip_front.specs.Shown.{front_data}
 use Rattle.strip_front.proofs.Root.{LeastSoFar, first_small, least_with, may_raise_root, root_ahead, root_reaches}
 use Rattle.strip_front.proofs.Small.{filled_still, found_still, learns_then, line_makes_known, same_search}
-use Rattle.strip_front.proofs.Tasks.{first_there}
 use Rattle.strip_front.proofs.up.raise_root.Given.{Over}
 use Rattle.strip_front.proofs.up.raise_root.Goals as goal
 use Rattle.strip_front.proofs.up.raise_root.Goals.{After-max-number, After-raise_first, After-step, In-Some}

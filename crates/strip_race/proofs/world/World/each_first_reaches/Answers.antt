@@ -7,10 +7,11 @@ use Rattle.strip_mask.proofs.Turns.{turn_below, turn_member, turns_all}
 use Rattle.strip_film.specs.Film.{IsFilm}
 use Rattle.strip_film.specs.Shoot.{step_cost}
 use Rattle.strip_rule.specs.Rule.{open_firsts}
+use Rattle.strip_rule.proofs.Firsts.{first_there, firsts_set}
 use Rattle.strip_lines.specs.Lines.{known}
 use Rattle.strip_hand.specs.Search.{search_rules}
 use Rattle.strip_race.specs.World.{WorldData}
-use Rattle.strip_race.proofs.Reached.{each_more, first_there, open_is_set}
+use Rattle.strip_race.proofs.Reached.{each_more}
 use Rattle.strip_race.proofs.world.World.each_first_reaches.Given.{Over}
 use Rattle.strip_race.proofs.world.World.each_first_reaches.Goals as goal
 use Rattle.strip_race.proofs.world.World.each_first_reaches.Goals.{After-saturating_sub, In-Some}
@@ -67,6 +68,6 @@ returns g c =
     let all : c.loop-scene.yielded ≡ members firsts
     = turns_all firsts c.loop-scene.yielded (rest_of c.loop-scene.scene-iterator) c.loop-scene.invariant.turns c.in-None.ensures.steps.0 in (
       λ _ scene first. c.loop-scene.invariant.reach scene (subst (λ (xs : List ℕ). Contains xs scene) (sym all)
-          (Contains-members firsts scene (open_is_set c.args.self.now.search.film c.args.set.0 limits c.requires.lies) first)),
+          (Contains-members firsts scene (firsts_set c.args.self.now.search.film c.args.set.0 limits c.requires.lies) first)),
       λ _. refl,
     )
