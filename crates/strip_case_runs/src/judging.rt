@@ -1,4 +1,6 @@
 // Case files that are judged: each of their cases is run.
+ghost use Rattle.std.specs.Prelude.{◌≡◌, ◌↔◌, false};
+
 use crate::running::run_case;
 use std::alloc::Global;
 use strip_cases::{CaseFault, Cases, Wrong, read_cases};
@@ -47,7 +49,10 @@ pub fn judge<F: Files, S: Sink>(
     }
 }
 
-fn status_of(tally: Tally) -> u8 {
+/// The status is 0 exactly where each file was read and no case differs.
+fn status_of(tally: Tally) -> u8
+    ensures { (result ≡ 0) ↔ ((tally.differing ≡ 0) × (tally.is_unread ≡ false)) }
+{
     if tally.is_unread {
         2
     } else if tally.differing > 0 {
