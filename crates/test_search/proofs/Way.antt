@@ -1,17 +1,15 @@
 -- A search over a hand stays on its way.
-use Rattle.std.proofs.Common.{◌≡◌, ℕ, suc, ◌<◌, ◌≤◌, true, Some, None, List, length, nat_eq, slice_index_or, slice_set, All, sym, ap, ◌∙◌, subst, arith}
+use Rattle.std.proofs.Common.{◌≡◌, ℕ, suc, ◌<◌, ◌≤◌, Some, List, length, slice_set, All, sym, ap, ◌∙◌, subst, arith}
 use Rattle.std.proofs.lemmas.List.{length-set}
-use Rattle.std.specs.List.{starts_with}
 use Rattle.strip_kind.specs.declared.kind.Kind.{Kind}
 use Rattle.strip_pay.specs.Film.{FilmData}
 use Rattle.strip_film.specs.Path.{PathData}
 use Rattle.strip_film.specs.Rules.{IsOpen}
 use Rattle.strip_film.specs.Shown.{CursorData}
 use Rattle.strip_lines.specs.Lines.{GrowTo, known, rules_of}
-use Rattle.strip_count.specs.Parts.{lies_in, no_task}
 use Rattle.strip_hand.specs.Calls.{Claims}
 use Rattle.strip_hand.specs.Hand.{HandData}
-use Rattle.strip_hand.specs.Search.{SearchData, depth_of, search_rules}
+use Rattle.strip_hand.specs.Search.{SearchData, search_rules}
 use Rattle.strip_front.specs.Front.{FrontData, task_at}
 use Rattle.strip_front.specs.Tasks.{tasks_of}
 use Rattle.strip_front.proofs.Grown.{grow_same}
@@ -19,9 +17,10 @@ use Rattle.strip_front.proofs.Small.{filled_grows, found_grows}
 use Rattle.strip_walk.specs.declared.found.Found.{Found}
 use Rattle.strip_walk.specs.Found.{IsFound, MayExplore}
 use Rattle.strip_walk.specs.Walked.{Walks}
-use Rattle.strip_walk.proofs.Lists.{starts_itself}
 use Rattle.strip_walk.proofs.Bounds.{bound_known}
+use Rattle.strip_team.specs.Team.{beginning}
 use Rattle.strip_team.proofs.Settled.{found_with}
+use Rattle.strip_team.proofs.Tasks.{may_walk_task}
 use Rattle.test_search.specs.Way.{IsOnItsWay}
 
 -- ---- the hand goes on
@@ -59,28 +58,9 @@ module _ (kind : Kind) (film : FilmData) (before after : HandData) (front : Fron
       let count = ap (λ (h : HandData). length h.search.tasks) claims.0 in
       omega (arith, claims.1, count, ap (λ (tasks : List PathData). length tasks) tasks_same)
 
-  module _ (all : All (IsOpen (rules_of kind film)) (tasks_of film)) where
-    pub open_task : IsOpen (rules_of kind film) (task_at front task)
-    open_task = subst (λ (tasks : List PathData). All (IsOpen (rules_of kind film)) tasks) (sym was.front_of.tasks) all task no_task within
-
-    open_by : IsOpen (search_rules after.search) (task_at front task)
-    open_by =
-        subst (λ (k : Kind). IsOpen (rules_of k after.search.film) (task_at front task)) (sym way_claimed.search.same_kind)
-        (subst (λ (f : FilmData). IsOpen (rules_of kind f) (task_at front task)) (sym way_claimed.search.same_film) open_task)
-
-    lies_task : lies_in (depth_of after.search) after.search.tasks (suc task) (task_at front task) ≡ true
-    lies_task =
-        subst (λ (tasks : List PathData). starts_with nat_eq (task_at front task).scenes (slice_index_or tasks task no_task).scenes ≡ true)
-        (sym tasks_same) (starts_itself (task_at front task).scenes)
-
-    pub may_walk : MayExplore after (record { task = suc task; last = None }) (task_at front task)
-    may_walk = record {
-      stands = (0, claims.3);
-      task = λ zero_is. absurd (omega (arith, zero_is));
-      is_open = open_by;
-      lies = lies_task;
-      later = tt;
-    }
+  pub may_walk : All (IsOpen (rules_of kind film)) (tasks_of film) → MayExplore after (beginning (suc task)) (task_at front task)
+  may_walk all = may_walk_task kind film front task was.front_of.tasks within all after (way_claimed.search.same_film, way_claimed.search.same_kind)
+      way_claimed.search.tasks claims.3
 
 -- ---- a task is walked
 

@@ -8,7 +8,8 @@ use Rattle.strip_front.specs.Front.{task_at}
 use Rattle.strip_hand.specs.Calls.{Claims}
 use Rattle.strip_walk.specs.Found.{MayExplore}
 use Rattle.strip_team.proofs.Taken.{task_read}
-use Rattle.test_search.proofs.Way.{may_walk, open_task, way_claimed, way_walked, within}
+use Rattle.strip_team.proofs.Tasks.{open_task}
+use Rattle.test_search.proofs.Way.{may_walk, way_claimed, way_walked, within}
 use Rattle.test_search.proofs.walks.take_task.Goals as goal
 
 pub of-running-requires : goal.of-running-requires
@@ -24,8 +25,7 @@ of-running-requires g c =
     subst (λ f. IsPath f (path_data c.index-then-index.result.now)) (sym c.film-then-index.ensures)
     (subst (IsPath film)
     (sym (task_read c.args.front.now task c.index-then-index.result.now (omega (arith, below, length-map c.args.front.now.tasks.items path_data)) c.index-then-index.ensures))
-    (open_task c.args.kept.now.kind film (g.H.Hand.shows c.args.hand.now) (g.H.Hand.shows c.claimed.new.hand) front c.args.found.now.items task
-    c.requires.way claims all).0)
+    (open_task c.args.kept.now.kind film front task c.requires.way.front_of.tasks below all).0)
 
 pub explore-requires-clause-may : goal.explore-requires-clause-may
 explore-requires-clause-may g c =
