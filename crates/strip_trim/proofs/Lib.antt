@@ -6,4 +6,3 @@ pub mod Firsts
 pub mod Reached
 pub mod Known
 pub mod Counted
-pub mod Rows

@@ -1,3 +1,2 @@
 pub mod Trimmed
 pub mod Marks
-pub mod Worked

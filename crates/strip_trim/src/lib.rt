@@ -3,8 +3,6 @@
 
 pub mod laws;
 mod marks;
-#[cfg(test)]
-mod tests;
 mod trimming;
 
 pub use trimming::trim;

@@ -505,44 +505,39 @@ static LARGEST: [Film; 2] = [
     },
 ];
 
+fn have_values(alloc: Global, films: &[Film]) -> Result<bool, Memory> {
+    for film in films {
+        if !has_value(alloc, film)? {
+            return Ok(false);
+        }
+    }
+    Ok(true)
+}
+
 #[test]
 fn small_films_have_their_values(rt: HostRuntime) -> Result<(), Fail> {
-    for film in &FIRST {
-        assert!(rt; has_value(rt.alloc(), film)?);
-    }
-    for film in &SECOND {
-        assert!(rt; has_value(rt.alloc(), film)?);
-    }
+    assert!(&rt; have_values(rt.alloc(), &FIRST)?);
+    assert!(&rt; have_values(rt.alloc(), &SECOND)?);
     Ok(())
 }
 
 #[test]
 fn more_films_have_their_values(rt: HostRuntime) -> Result<(), Fail> {
-    for film in &THIRD {
-        assert!(rt; has_value(rt.alloc(), film)?);
-    }
-    for film in &FOURTH {
-        assert!(rt; has_value(rt.alloc(), film)?);
-    }
+    assert!(&rt; have_values(rt.alloc(), &THIRD)?);
+    assert!(&rt; have_values(rt.alloc(), &FOURTH)?);
     Ok(())
 }
 
 #[test]
 fn yet_more_films_have_their_values(rt: HostRuntime) -> Result<(), Fail> {
-    for film in &FIFTH {
-        assert!(rt; has_value(rt.alloc(), film)?);
-    }
-    for film in &SIXTH {
-        assert!(rt; has_value(rt.alloc(), film)?);
-    }
+    assert!(&rt; have_values(rt.alloc(), &FIFTH)?);
+    assert!(&rt; have_values(rt.alloc(), &SIXTH)?);
     Ok(())
 }
 
 #[test]
 fn films_at_the_limits_have_their_values(rt: HostRuntime) -> Result<(), Fail> {
-    for film in &LARGEST {
-        assert!(rt; has_value(rt.alloc(), film)?);
-    }
+    assert!(&rt; have_values(rt.alloc(), &LARGEST)?);
     Ok(())
 }
 

@@ -378,19 +378,24 @@ static SECOND: [Row; 22] = [
     },
 ];
 
+fn are_bounded(alloc: Global, rows: &[Row]) -> Result<bool, Fail> {
+    for row in rows {
+        if !is_bounded(alloc, row)? {
+            return Ok(false);
+        }
+    }
+    Ok(true)
+}
+
 #[test]
 fn no_bound_is_above_the_cost_of_finishing(rt: HostRuntime) -> Result<(), Fail> {
-    for row in &FIRST {
-        assert!(rt; is_bounded(rt.alloc(), row)?);
-    }
+    assert!(&rt; are_bounded(rt.alloc(), &FIRST)?);
     Ok(())
 }
 
 #[test]
 fn no_bound_of_more_films_is_above_the_cost(rt: HostRuntime) -> Result<(), Fail> {
-    for row in &SECOND {
-        assert!(rt; is_bounded(rt.alloc(), row)?);
-    }
+    assert!(&rt; are_bounded(rt.alloc(), &SECOND)?);
     Ok(())
 }
 

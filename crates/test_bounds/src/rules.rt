@@ -59,18 +59,24 @@ static ROWS: [Row; 6] = [
 
 #[test]
 fn open_firsts_are_those_worked_by_hand(rt: HostRuntime) -> Result<(), Fail> {
-    for row in &ROWS {
-        let film = film_of(rt.alloc(), row)?;
-        assert_eq!(rt; opens(&film, Mask(row.set)), Some(row.open));
-    }
+    assert!(&rt; all_are_open(rt.alloc(), &ROWS)?);
     Ok(())
+}
+
+fn all_are_open(alloc: Global, rows: &[Row]) -> Result<bool, Fail> {
+    for row in rows {
+        let film = film_of(alloc, row)?;
+        if opens(&film, Mask(row.set)) != Some(row.open) {
+            return Ok(false);
+        }
+    }
+    Ok(true)
 }
 
 #[test]
 fn of_two_equal_casts_the_lesser_rules(rt: HostRuntime) -> Result<(), Fail> {
     let film = film_of(rt.alloc(), &ROWS[2])?;
-    assert_eq!(rt; rules(&film, 0, 1), Some(true));
-    assert_eq!(rt; rules(&film, 1, 0), Some(false));
+    assert!(&rt; rules(&film, 0, 1) == Some(true) && rules(&film, 1, 0) == Some(false));
     Ok(())
 }
 

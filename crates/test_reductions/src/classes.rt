@@ -459,7 +459,7 @@ fn alike() -> &'static [Reduction] {
 #[test]
 fn films_are_reduced_to_their_classes(rt: HostRuntime) -> Result<(), Fail> {
     for table in tables() {
-        assert!(rt; all_reduce(rt.alloc(), table)?);
+        assert!(&rt; all_reduce(rt.alloc(), table)?);
     }
     Ok(())
 }

@@ -205,20 +205,36 @@ pub(crate) static FILMS: [Kept; 17] = [
 
 #[test]
 fn finds_the_cheapest_orders_that_keep_the_pairs(rt: HostRuntime) -> Result<(), Fail> {
-    let alloc = rt.alloc();
-    for row in &FILMS {
-        let best = cheapest_order(alloc, &film_of(alloc, &row.film)?)?;
-        assert_eq!(rt; best.pay, row.pay);
-        assert_eq!(rt; best.order.as_slice(), row.order);
-        let inst = instance_of(alloc, &row.film)?;
-        let order = widened(alloc, row.order)?;
-        if !is_order(&inst, &order) {
-            return Err("an order".into());
-        }
-        assert_eq!(rt; pay(&inst, &order), row.pay);
-        assert!(rt; keeps_pairs(&inst, &order));
-    }
+    assert!(&rt; all_are_cheapest(rt.alloc(), &FILMS)?);
     Ok(())
+}
+
+fn all_are_cheapest(alloc: Global, rows: &[Kept]) -> Result<bool, Fail> {
+    for row in rows {
+        if !is_cheapest(alloc, row)? {
+            return Ok(false);
+        }
+    }
+    Ok(true)
+}
+
+fn is_cheapest(alloc: Global, row: &Kept) -> Result<bool, Fail> {
+    let best = cheapest_order(alloc, &film_of(alloc, &row.film)?)?;
+    let inst = instance_of(alloc, &row.film)?;
+    let order = widened(alloc, row.order)?;
+    Ok(
+        best.pay == row.pay
+            && best.order.as_slice() == row.order
+            && is_priced(&inst, &order, row.pay, true),
+    )
+}
+
+/// Whether it is an order that pays this, and keeps the pairs or not.
+pub(crate) fn is_priced(inst: &Instance, order: &[u16], paid: u64, keeps: bool) -> bool {
+    if !is_order(inst, order) {
+        return false;
+    }
+    pay(inst, order) == paid && keeps_pairs(inst, order) == keeps
 }
 
 // A film's scene numbers as an instance's.
@@ -241,47 +257,60 @@ fn triangle(alloc: Global) -> Result<Instance, Fail> {
     )
 }
 
+// Orders, what they pay, and whether they keep the pairs.
+static PRICED: [([u16; 3], u64, bool); 6] = [
+    ([0, 1, 2], 13, false),
+    ([0, 2, 1], 14, true),
+    ([1, 0, 2], 15, false),
+    ([1, 2, 0], 14, false),
+    ([2, 0, 1], 15, true),
+    ([2, 1, 0], 13, false),
+];
+
+fn all_are_priced(inst: &Instance) -> bool {
+    for (order, paid, keeps) in &PRICED {
+        if !is_priced(inst, order, *paid, *keeps) {
+            return false;
+        }
+    }
+    true
+}
+
 #[test]
 fn prices_orders_that_keep_the_pairs_or_not(rt: HostRuntime) -> Result<(), Fail> {
     let alloc = rt.alloc();
     let inst = with_pairs(alloc, triangle(alloc)?, &[(0, 1), (2, 1)])?;
-    let rows: [([u16; 3], u64, bool); 6] = [
-        ([0, 1, 2], 13, false),
-        ([0, 2, 1], 14, true),
-        ([1, 0, 2], 15, false),
-        ([1, 2, 0], 14, false),
-        ([2, 0, 1], 15, true),
-        ([2, 1, 0], 13, false),
-    ];
-    for (order, paid, keeps) in rows {
-        if !is_order(&inst, &order) {
-            return Err("an order".into());
-        }
-        assert_eq!(rt; pay(&inst, &order), paid);
-        assert_eq!(rt; keeps_pairs(&inst, &order), keeps);
-    }
-    assert_eq!(rt; inst.pairs().len(), 2);
+    assert!(&rt; all_are_priced(&inst));
+    assert!(&rt; inst.pairs().len() == 2);
     Ok(())
+}
+
+// Pairs, and whether they fit.
+static FITTING: [(&'static [(u16, u16)], bool); 9] = [
+    (&[], true),
+    (&[(0, 1), (2, 1)], true),
+    (&[(0, 1), (1, 2), (0, 2)], true),
+    (&[(0, 1), (1, 2), (2, 0)], false),
+    (&[(0, 1), (1, 0)], false),
+    (&[(0, 1), (0, 1)], false),
+    (&[(1, 1)], false),
+    (&[(0, 3)], false),
+    (&[(65_535, 0)], false),
+];
+
+fn all_fit_so(alloc: Global, inst: &Instance) -> Result<bool, Fail> {
+    for (pairs, fit) in &FITTING {
+        if inst.fits_pairs(&pairs_of(alloc, pairs)?) != *fit {
+            return Ok(false);
+        }
+    }
+    Ok(true)
 }
 
 #[test]
 fn tells_pairs_that_fit(rt: HostRuntime) -> Result<(), Fail> {
-    let alloc = rt.alloc();
-    let inst = triangle(alloc)?;
-    let rows: [(&[(u16, u16)], bool); 9] = [
-        (&[], true),
-        (&[(0, 1), (2, 1)], true),
-        (&[(0, 1), (1, 2), (0, 2)], true),
-        (&[(0, 1), (1, 2), (2, 0)], false),
-        (&[(0, 1), (1, 0)], false),
-        (&[(0, 1), (0, 1)], false),
-        (&[(1, 1)], false),
-        (&[(0, 3)], false),
-        (&[(65_535, 0)], false),
-    ];
-    for (pairs, fit) in rows {
-        assert_eq!(rt; inst.fits_pairs(&pairs_of(alloc, pairs)?), fit);
-    }
+    let inst = triangle(rt.alloc())?;
+    assert!(&rt; all_fit_so(rt.alloc(), &inst)?);
     Ok(())
 }
 
@@ -295,11 +324,11 @@ fn tells_a_chain_from_a_ring(rt: HostRuntime) -> Result<(), Fail> {
         let then = first + 1;
         pairs.push(Pair { first, then })?;
     }
-    assert!(rt; inst.fits_pairs(&pairs));
+    assert!(&rt; inst.fits_pairs(&pairs));
     pairs.push(Pair {
         first: 199,
         then: 0,
     })?;
-    assert!(rt; !inst.fits_pairs(&pairs));
+    assert!(&rt; !inst.fits_pairs(&pairs));
     Ok(())
 }

@@ -3,24 +3,30 @@
 ghost use Rattle.std.specs.Prelude.{◌↔◌, ◌<◌, All, IsTrue};
 
 use crate::classes::{Reduction, joins, tables};
-use crate::kept::FILMS;
+use crate::kept::{FILMS, Kept, is_priced};
 use crate::lists::{Lists, casts_of_two, film_of, instance, instance_of};
 use std::alloc::Global;
 use std::test::Fail;
 use strip_exhaustive::cheapest_order;
-use strip_model::{Instance, is_order, keeps_pairs, pay};
 use strip_reduce::{ReduceFault, Reduced, expand, orient, reduce};
 
 #[test]
 fn reduced_films_cost_the_same_but_for_what_is_set_apart(rt: HostRuntime) -> Result<(), Fail> {
     let alloc = rt.alloc();
-    for row in &FILMS {
-        assert!(rt; costs_the_same(alloc, &row.film)?);
-    }
+    assert!(&rt; kept_films_cost_the_same(alloc, &FILMS)?);
     for table in tables() {
-        assert!(rt; all_cost_the_same(alloc, table)?);
+        assert!(&rt; all_cost_the_same(alloc, table)?);
     }
     Ok(())
+}
+
+fn kept_films_cost_the_same(alloc: Global, rows: &[Kept]) -> Result<bool, Fail> {
+    for row in rows {
+        if !costs_the_same(alloc, &row.film)? {
+            return Ok(false);
+        }
+    }
+    Ok(true)
 }
 
 fn all_cost_the_same(alloc: Global, table: &[Reduction]) -> Result<bool, Fail> {
@@ -40,14 +46,7 @@ fn costs_the_same(alloc: Global, lists: &Lists) -> Result<bool, Fail> {
     let reduced = reduce(alloc, &inst)?;
     let best = cheapest_order(alloc, &reduced.film)?;
     let order = way_back(alloc, &reduced, &best.order)?;
-    Ok(best.pay.checked_add(reduced.apart) == Some(least) && is_kept_for(&inst, &order, least))
-}
-
-fn is_kept_for(inst: &Instance, order: &[u16], paid: u64) -> bool {
-    if !is_order(inst, order) {
-        return false;
-    }
-    pay(inst, order) == paid && keeps_pairs(inst, order)
+    Ok(best.pay.checked_add(reduced.apart) == Some(least) && is_priced(&inst, &order, least, true))
 }
 
 // The scenes of an order of the classes.
@@ -76,44 +75,69 @@ const WAYS_BACK: [(usize, &[u8], &[u16]); 7] = [
     (6, &[2, 0, 1], &[6, 0, 3, 2, 1, 4, 5]),
 ];
 
+fn is_way_back(alloc: Global, row: usize, order: &[u8], scenes: &[u16]) -> Result<bool, Fail> {
+    let film = &joins().get(row).ok_or("a row of the table")?.film;
+    let reduced = reduce(alloc, &instance_of(alloc, film)?)?;
+    Ok(way_back(alloc, &reduced, order)?.as_slice() == scenes)
+}
+
+fn all_are_ways_back(alloc: Global) -> Result<bool, Fail> {
+    for (row, order, scenes) in WAYS_BACK {
+        if !is_way_back(alloc, row, order, scenes)? {
+            return Ok(false);
+        }
+    }
+    Ok(true)
+}
+
 #[test]
 fn classes_are_written_as_their_scenes(rt: HostRuntime) -> Result<(), Fail> {
-    let alloc = rt.alloc();
-    for (row, order, scenes) in WAYS_BACK {
-        let film = &joins().get(row).ok_or("a row of the table")?.film;
-        let reduced = reduce(alloc, &instance_of(alloc, film)?)?;
-        assert_eq!(rt; way_back(alloc, &reduced, order)?.as_slice(), scenes);
-    }
+    assert!(&rt; all_are_ways_back(rt.alloc())?);
     Ok(())
+}
+
+// Orders, and what they are turned to.
+const ORIENTED: [(&[u8], &[u8]); 7] = [
+    (&[], &[]),
+    (&[0], &[0]),
+    (&[0, 1, 2], &[0, 1, 2]),
+    (&[2, 1, 0], &[0, 1, 2]),
+    (&[1, 0], &[0, 1]),
+    (&[1, 2, 0], &[0, 2, 1]),
+    (&[0, 2, 1], &[0, 2, 1]),
+];
+
+fn all_are_turned(alloc: Global) -> Result<bool, Fail> {
+    for (order, oriented) in ORIENTED {
+        let mut turned = Vec::from_slice(alloc, order)?;
+        orient(&mut turned);
+        if turned.as_slice() != oriented {
+            return Ok(false);
+        }
+    }
+    Ok(true)
 }
 
 #[test]
 fn orders_are_turned_round_where_they_end_lower(rt: HostRuntime) -> Result<(), Fail> {
-    let rows: [(&[u8], &[u8]); 7] = [
-        (&[], &[]),
-        (&[0], &[0]),
-        (&[0, 1, 2], &[0, 1, 2]),
-        (&[2, 1, 0], &[0, 1, 2]),
-        (&[1, 0], &[0, 1]),
-        (&[1, 2, 0], &[0, 2, 1]),
-        (&[0, 2, 1], &[0, 2, 1]),
-    ];
-    for (order, oriented) in rows {
-        let mut turned = Vec::from_slice(rt.alloc(), order)?;
-        orient(&mut turned);
-        assert_eq!(rt; turned.as_slice(), oriented);
-    }
+    assert!(&rt; all_are_turned(rt.alloc())?);
     Ok(())
 }
 
-// How many classes a film of 200 scenes and so many casts of two actors has, and how many scenes are
-// in them; or how many classes are too many.
-fn counts(alloc: Global, kinds: usize) -> Result<Result<(usize, usize), ReduceFault>, Fail> {
+// Whether a film of 200 scenes and so many casts of two actors has as many classes, with all scenes in them; or so many classes
+// are too many.
+fn has_classes(alloc: Global, kinds: usize, too_many: bool) -> Result<bool, Fail> {
     let casts = casts_of_two(alloc, 200, kinds)?;
     let inst = instance(alloc, &casts, &[1; 200], &[1; 13], &[1; 13])?;
     Ok(match reduce(alloc, &inst) {
-        Ok(reduced) => Ok((reduced.film.scenes(), scenes_in(&reduced.classes))),
-        Err(fault) => Err(fault),
+        Ok(reduced) => {
+            !too_many && reduced.film.scenes() == kinds && scenes_in(&reduced.classes) == 200
+        }
+        Err(fault) => too_many
+            && fault
+                == ReduceFault::TooManyClasses {
+                    count: kinds as u64,
+                },
     })
 }
 
@@ -125,13 +149,8 @@ fn scenes_in(classes: &[Vec<u16>]) -> usize {
 
 #[test]
 fn a_film_has_at_most_64_classes(rt: HostRuntime) -> Result<(), Fail> {
-    let alloc = rt.alloc();
-    for (kinds, found) in [
-        (64, Ok((64, 200))),
-        (65, Err(ReduceFault::TooManyClasses { count: 65 })),
-        (70, Err(ReduceFault::TooManyClasses { count: 70 })),
-    ] {
-        assert_eq!(rt; counts(alloc, kinds)?, found);
-    }
+    assert!(&rt; has_classes(rt.alloc(), 64, false)?);
+    assert!(&rt; has_classes(rt.alloc(), 65, true)?);
+    assert!(&rt; has_classes(rt.alloc(), 70, true)?);
     Ok(())
 }

@@ -1,2 +1,3 @@
 pub mod Forgetful
 pub mod Way
+pub mod Worked

@@ -1,20 +1,64 @@
-// Films whose scenes take a day each, and whose actors get as much for waiting as for work.
+// Films made of lists.
 use std::alloc::Global;
 use std::test::Fail;
 use strip_film::Film;
+use strip_pay::Pair;
 
-fn film(alloc: Global, casts: &[u64], rates: &[u64]) -> Result<Film, Fail> {
-    let days = vec![in alloc; 1; casts.len()]?;
+/// The film of these lists, none where they aren't within the limits.
+pub(crate) fn film_of(
+    alloc: Global,
+    casts: &[u64],
+    days: &[u64],
+    rates: &[u64],
+    holds: &[u64],
+    pairs: &[Pair],
+) -> Result<Option<Film>, Fail> {
     let casts = Vec::from_slice(alloc, casts)?;
-    let holds = Vec::from_slice(alloc, rates)?;
+    let days = Vec::from_slice(alloc, days)?;
     let rates = Vec::from_slice(alloc, rates)?;
-    let film = Film::of(casts, days, rates, holds, Vec::new(alloc)).ok_or("within the limits")?;
+    let holds = Vec::from_slice(alloc, holds)?;
+    let pairs = Vec::from_slice(alloc, pairs)?;
+    Ok(Film::of(casts, days, rates, holds, pairs))
+}
+
+/// A film whose actors get as much for waiting as for work, without pairs.
+pub(crate) fn film(
+    alloc: Global,
+    casts: &[u64],
+    days: &[u64],
+    rates: &[u64],
+) -> Result<Film, Fail> {
+    let film = film_of(alloc, casts, days, rates, rates, &[])?.ok_or("within the limits")?;
     Ok(film)
+}
+
+/// The casts of the triangle: three scenes of two actors each.
+pub(crate) const CASTS: [u64; 3] = [0b011, 0b110, 0b101];
+
+/// The triangle, one day a scene.
+pub(crate) fn triangle(
+    alloc: Global,
+    rates: &[u64],
+    holds: &[u64],
+    pairs: &[Pair],
+) -> Result<Film, Fail> {
+    let film = film_of(alloc, &CASTS, &[1, 1, 1], rates, holds, pairs)?;
+    let film = film.ok_or("within the limits")?;
+    Ok(film)
+}
+
+pub(crate) fn plain_triangle(alloc: Global) -> Result<Film, Fail> {
+    triangle(alloc, &[1, 2, 3], &[1, 2, 3], &[])
 }
 
 /// Four actors in a ring: each shares a scene with the one before and one with the next.
 pub(crate) fn ring(alloc: Global) -> Result<Film, Fail> {
-    film(alloc, &[0b1001, 0b0011, 0b0110, 0b1100], &[1, 2, 3, 4])
+    film(
+        alloc,
+        &[0b1001, 0b0011, 0b0110, 0b1100],
+        &[1; 4],
+        &[1, 2, 3, 4],
+    )
 }
 
 /// Eight scenes whose casts are pairs of five actors.
@@ -22,5 +66,5 @@ pub(crate) fn eight(alloc: Global) -> Result<Film, Fail> {
     let casts = [
         0b00011, 0b00101, 0b01001, 0b10001, 0b00110, 0b01010, 0b10010, 0b01100,
     ];
-    film(alloc, &casts, &[1, 2, 3, 4, 5])
+    film(alloc, &casts, &[1; 8], &[1, 2, 3, 4, 5])
 }

@@ -1,5 +1,5 @@
 //! Tests: what no clause says of the parts of a search, by calls that no command makes. Films and their paths, the running state,
-//! the orders that a search begins with, the table and the world on films that were worked by hand; that a search whose hand drops
+//! the orders that a search begins with, the table, the world and the trimming of lines on films that were worked by hand; that a search whose hand drops
 //! its notes makes more lines; and that searches from a start that wasn't improved agree with the program that tries every order.
 #![tactic(auto)]
 
@@ -14,8 +14,6 @@ mod forgetful;
 #[cfg(test)]
 mod instances;
 #[cfg(test)]
-mod no_faults;
-#[cfg(test)]
 mod notes;
 #[cfg(test)]
 mod paths;
@@ -29,6 +27,8 @@ mod states;
 mod tables;
 #[cfg(test)]
 mod tasks;
+#[cfg(test)]
+mod trims;
 #[cfg(test)]
 mod walks;
 #[cfg(test)]

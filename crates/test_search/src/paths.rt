@@ -3,56 +3,12 @@ ghost use Rattle.std.specs.Prelude.{IfOk};
 ghost use Rattle.strip_film.specs.Path.{IsPath};
 ghost use Rattle.strip_film.specs.Shown.{path_data};
 
+use crate::films::{CASTS, film, film_of, plain_triangle, triangle};
 use std::alloc::Global;
 use std::test::Fail;
 use strip_film::{Cursor, Film, Path, cast_of, laws, on, ready};
 use strip_mask::Mask;
 use strip_pay::Pair;
-
-fn film_of(
-    alloc: Global,
-    casts: &[u64],
-    days: &[u64],
-    rates: &[u64],
-    holds: &[u64],
-    pairs: &[Pair],
-) -> Result<Option<Film>, Fail> {
-    let casts = Vec::from_slice(alloc, casts)?;
-    let days = Vec::from_slice(alloc, days)?;
-    let rates = Vec::from_slice(alloc, rates)?;
-    let holds = Vec::from_slice(alloc, holds)?;
-    let pairs = Vec::from_slice(alloc, pairs)?;
-    Ok(Film::of(casts, days, rates, holds, pairs))
-}
-
-// A film whose actors get as much for waiting as for work, without pairs.
-pub(crate) fn film(
-    alloc: Global,
-    casts: &[u64],
-    days: &[u64],
-    rates: &[u64],
-) -> Result<Film, Fail> {
-    let film = film_of(alloc, casts, days, rates, rates, &[])?.ok_or("within the limits")?;
-    Ok(film)
-}
-
-// Three scenes of two actors each, one day each.
-const CASTS: [u64; 3] = [0b011, 0b110, 0b101];
-
-pub(crate) fn triangle(
-    alloc: Global,
-    rates: &[u64],
-    holds: &[u64],
-    pairs: &[Pair],
-) -> Result<Film, Fail> {
-    let film = film_of(alloc, &CASTS, &[1, 1, 1], rates, holds, pairs)?;
-    let film = film.ok_or("within the limits")?;
-    Ok(film)
-}
-
-pub(crate) fn plain_triangle(alloc: Global) -> Result<Film, Fail> {
-    triangle(alloc, &[1, 2, 3], &[1, 2, 3], &[])
-}
 
 fn pair(first: u16, then: u16) -> Pair {
     Pair { first, then }
@@ -72,47 +28,141 @@ pub(crate) fn path(film: &Film, scenes: &[u32]) -> Result<Path, Fail>
     Ok(path)
 }
 
-#[test]
-fn pays_for_each_step(rt: HostRuntime) -> Result<(), Fail> {
-    let alloc = rt.alloc();
-    let triangle = plain_triangle(alloc)?;
-    let costly = film(alloc, &[0b11, 0b01, 0b10], &[1, 1, 1], &[1, 10])?;
-    let shared = film(alloc, &[0b01, 0b10, 0b11], &[1, 1, 1], &[10, 20])?;
-    let rows = [
-        (&triangle, [0, 1].as_slice(), 9),
-        (&triangle, [0, 2].as_slice(), 9),
-        (&triangle, [0, 1, 2].as_slice(), 13),
-        (&triangle, [2, 1, 0].as_slice(), 13),
-        (&triangle, [1, 2, 0].as_slice(), 14),
-        (&costly, [0].as_slice(), 11),
-        (&costly, [0, 1, 2].as_slice(), 32),
-        (&costly, [0, 2, 1].as_slice(), 23),
-        (&shared, [0, 2, 1].as_slice(), 60),
-        (&shared, [0, 1, 2].as_slice(), 70),
-    ];
-    for (film, scenes, paid) in rows {
-        assert_eq!(rt; path(film, scenes)?.paid(), paid);
+// A film whose scenes take a day each, a path of it, and what that pays.
+struct Paid {
+    casts: &'static [u64],
+    rates: &'static [u64],
+    holds: &'static [u64],
+    scenes: &'static [u32],
+    paid: u64,
+}
+
+static STEPS: [Paid; 5] = [
+    Paid {
+        casts: &CASTS,
+        rates: &[1, 2, 3],
+        holds: &[1, 2, 3],
+        scenes: &[0, 1],
+        paid: 9,
+    },
+    Paid {
+        casts: &CASTS,
+        rates: &[1, 2, 3],
+        holds: &[1, 2, 3],
+        scenes: &[0, 2],
+        paid: 9,
+    },
+    Paid {
+        casts: &CASTS,
+        rates: &[1, 2, 3],
+        holds: &[1, 2, 3],
+        scenes: &[0, 1, 2],
+        paid: 13,
+    },
+    Paid {
+        casts: &CASTS,
+        rates: &[1, 2, 3],
+        holds: &[1, 2, 3],
+        scenes: &[2, 1, 0],
+        paid: 13,
+    },
+    Paid {
+        casts: &CASTS,
+        rates: &[1, 2, 3],
+        holds: &[1, 2, 3],
+        scenes: &[1, 2, 0],
+        paid: 14,
+    },
+];
+
+// Of the last two, one pays less for waiting, and one pays for waiting alone.
+static OTHERS: [Paid; 7] = [
+    Paid {
+        casts: &[0b11, 0b01, 0b10],
+        rates: &[1, 10],
+        holds: &[1, 10],
+        scenes: &[0],
+        paid: 11,
+    },
+    Paid {
+        casts: &[0b11, 0b01, 0b10],
+        rates: &[1, 10],
+        holds: &[1, 10],
+        scenes: &[0, 1, 2],
+        paid: 32,
+    },
+    Paid {
+        casts: &[0b11, 0b01, 0b10],
+        rates: &[1, 10],
+        holds: &[1, 10],
+        scenes: &[0, 2, 1],
+        paid: 23,
+    },
+    Paid {
+        casts: &[0b01, 0b10, 0b11],
+        rates: &[10, 20],
+        holds: &[10, 20],
+        scenes: &[0, 2, 1],
+        paid: 60,
+    },
+    Paid {
+        casts: &[0b01, 0b10, 0b11],
+        rates: &[10, 20],
+        holds: &[10, 20],
+        scenes: &[0, 1, 2],
+        paid: 70,
+    },
+    Paid {
+        casts: &CASTS,
+        rates: &[1, 2, 3],
+        holds: &[5, 1, 4],
+        scenes: &[0, 2, 1],
+        paid: 13,
+    },
+    Paid {
+        casts: &CASTS,
+        rates: &[0, 0, 0],
+        holds: &[1, 1, 1],
+        scenes: &[0, 1, 2],
+        paid: 1,
+    },
+];
+
+fn all_pay(alloc: Global, rows: &[Paid]) -> Result<bool, Fail> {
+    for row in rows {
+        if !pays(alloc, row)? {
+            return Ok(false);
+        }
     }
-    Ok(())
+    Ok(true)
+}
+
+fn pays(alloc: Global, row: &Paid) -> Result<bool, Fail> {
+    let film = film_of(alloc, row.casts, &[1, 1, 1], row.rates, row.holds, &[])?;
+    let film = film.ok_or("within the limits")?;
+    Ok(path(&film, row.scenes)?.paid() == row.paid)
 }
 
 #[test]
-fn pays_less_for_waiting(rt: HostRuntime) -> Result<(), Fail> {
-    let alloc = rt.alloc();
-    let held = triangle(alloc, &[1, 2, 3], &[5, 1, 4], &[])?;
-    assert_eq!(rt; path(&held, &[0, 2, 1])?.paid(), 13);
-    let waiting_alone = triangle(alloc, &[0, 0, 0], &[1, 1, 1], &[])?;
-    assert_eq!(rt; path(&waiting_alone, &[0, 1, 2])?.paid(), 1);
+fn pays_for_each_step(rt: HostRuntime) -> Result<(), Fail> {
+    assert!(&rt; all_pay(rt.alloc(), &STEPS)?);
+    assert!(&rt; all_pay(rt.alloc(), &OTHERS)?);
     Ok(())
+}
+
+/// Who plays in what remains after the path, and who is on location then.
+fn who_is_there(film: &Film, path: &Path) -> (Mask, Mask)
+    requires { IsPath film.now (path_data path.now) }
+{
+    laws::what_remains_lies_in_the_film();
+    (cast_of(film, path.rest()), on(film, path.rest()))
 }
 
 #[test]
 fn tells_who_is_on_location(rt: HostRuntime) -> Result<(), Fail> {
     let triangle = plain_triangle(rt.alloc())?;
-    laws::what_remains_lies_in_the_film();
-    let first = path(&triangle, &[0])?;
-    assert_eq!(rt; cast_of(&triangle, first.rest()), Mask(0b111));
-    assert_eq!(rt; on(&triangle, first.rest()), Mask(0b011));
+    let (plays, waits) = who_is_there(&triangle, &path(&triangle, &[0])?);
+    assert!(&rt; plays.0 == 0b111 && waits.0 == 0b011);
     Ok(())
 }
 
@@ -122,34 +172,136 @@ fn ready_after(film: &Film, scenes: &[u32]) -> Result<Mask, Fail> {
     Ok(ready(film, path.rest()))
 }
 
+// Paths, and the scenes that are ready after them.
+static READY: [(&'static [u32], u64); 3] = [(&[], 0b101), (&[0], 0b100), (&[0, 2], 0b010)];
+
+fn are_ready(film: &Film) -> Result<bool, Fail> {
+    for (scenes, expected) in &READY {
+        if ready_after(film, scenes)?.0 != *expected {
+            return Ok(false);
+        }
+    }
+    Ok(true)
+}
+
 #[test]
 fn tells_which_scenes_are_ready(rt: HostRuntime) -> Result<(), Fail> {
     let pairs = [pair(0, 1), pair(2, 1)];
     let triangle = triangle(rt.alloc(), &[1, 2, 3], &[1, 2, 3], &pairs)?;
-    assert_eq!(rt; ready_after(&triangle, &[])?, Mask(0b101));
-    assert_eq!(rt; ready_after(&triangle, &[0])?, Mask(0b100));
-    assert_eq!(rt; ready_after(&triangle, &[0, 2])?, Mask(0b010));
-    assert_eq!(rt; path(&triangle, &[0, 2, 1])?.paid(), 14);
+    assert!(&rt; are_ready(&triangle)?);
+    assert!(&rt; path(&triangle, &[0, 2, 1])?.paid() == 14);
     Ok(())
+}
+
+// Paths in rising order.
+static RISING: [&'static [u32]; 6] = [&[], &[0], &[0, 1], &[0, 1, 2], &[0, 2], &[1]];
+
+/// Whether the path at this place comes before those behind it, and no others.
+fn stands_so(film: &Film, place: usize, scenes: &[u32]) -> Result<bool, Fail> {
+    let first = path(film, scenes)?;
+    for other in 0..RISING.len() {
+        if first.before(&path(film, RISING[other])?) != (place < other) {
+            return Ok(false);
+        }
+    }
+    Ok(true)
+}
+
+fn are_rising(film: &Film) -> Result<bool, Fail> {
+    for place in 0..RISING.len() {
+        if !stands_so(film, place, RISING[place])? {
+            return Ok(false);
+        }
+    }
+    Ok(true)
 }
 
 #[test]
 fn orders_paths(rt: HostRuntime) -> Result<(), Fail> {
     let triangle = plain_triangle(rt.alloc())?;
-    let rising = [
-        path(&triangle, &[])?,
-        path(&triangle, &[0])?,
-        path(&triangle, &[0, 1])?,
-        path(&triangle, &[0, 1, 2])?,
-        path(&triangle, &[0, 2])?,
-        path(&triangle, &[1])?,
-    ];
-    for (i, first) in rising.iter().enumerate() {
-        for (j, second) in rising.iter().enumerate() {
-            assert_eq!(rt; first.before(second), i < j);
+    assert!(&rt; are_rising(&triangle)?);
+    Ok(())
+}
+
+// Lists that a film may not have.
+struct Lists {
+    casts: &'static [u64],
+    days: &'static [u64],
+    rates: &'static [u64],
+    holds: &'static [u64],
+}
+
+static BROKEN: [Lists; 10] = [
+    Lists {
+        casts: &[],
+        days: &[],
+        rates: &[1],
+        holds: &[1],
+    },
+    Lists {
+        casts: &[0b1],
+        days: &[1, 1],
+        rates: &[1],
+        holds: &[1],
+    },
+    Lists {
+        casts: &[0b1],
+        days: &[0],
+        rates: &[1],
+        holds: &[1],
+    },
+    Lists {
+        casts: &[0b1],
+        days: &[19_801],
+        rates: &[1],
+        holds: &[1],
+    },
+    Lists {
+        casts: &[0b1],
+        days: &[1],
+        rates: &[64_000_000_001],
+        holds: &[1],
+    },
+    Lists {
+        casts: &[0b1],
+        days: &[1],
+        rates: &[1],
+        holds: &[64_000_000_001],
+    },
+    Lists {
+        casts: &[0b1],
+        days: &[1],
+        rates: &[1],
+        holds: &[1, 1],
+    },
+    Lists {
+        casts: &[0b10],
+        days: &[1],
+        rates: &[1],
+        holds: &[1],
+    },
+    Lists {
+        casts: &[0b1; 65],
+        days: &[1; 65],
+        rates: &[1],
+        holds: &[1],
+    },
+    Lists {
+        casts: &[0b1],
+        days: &[1],
+        rates: &[1; 65],
+        holds: &[1; 65],
+    },
+];
+
+fn all_are_refused(alloc: Global, rows: &[Lists]) -> Result<bool, Fail> {
+    for row in rows {
+        let film = film_of(alloc, row.casts, row.days, row.rates, row.holds, &[])?;
+        if film.is_some() {
+            return Ok(false);
         }
     }
-    Ok(())
+    Ok(true)
 }
 
 #[test]
@@ -157,69 +309,83 @@ fn refuses_each_broken_limit(rt: HostRuntime) -> Result<(), Fail> {
     let alloc = rt.alloc();
     let most = [0, 64_000_000_000];
     let accepted = film(alloc, &[0b11], &[19_800], &most)?;
-    assert_eq!(rt; accepted.scenes(), 1);
-    let broken = [
-        ([].as_slice(), [].as_slice(), [1].as_slice(), [1].as_slice()),
-        (&[0b1], &[1, 1], &[1], &[1]),
-        (&[0b1], &[0], &[1], &[1]),
-        (&[0b1], &[19_801], &[1], &[1]),
-        (&[0b1], &[1], &[64_000_000_001], &[1]),
-        (&[0b1], &[1], &[1], &[64_000_000_001]),
-        (&[0b1], &[1], &[1], &[1, 1]),
-        (&[0b10], &[1], &[1], &[1]),
-        (&[0b1; 65], &[1; 65], &[1], &[1]),
-        (&[0b1], &[1], &[1; 65], &[1; 65]),
-    ];
-    for (casts, days, rates, holds) in broken {
-        assert!(rt; film_of(alloc, casts, days, rates, holds, &[])?.is_none());
-    }
+    assert!(&rt; accepted.scenes() == 1);
+    assert!(&rt; all_are_refused(alloc, &BROKEN)?);
     Ok(())
+}
+
+// A scene before itself, one that isn't there, a pair twice, and a cycle.
+static UNKEPT: [&'static [Pair]; 4] = [
+    &[Pair { first: 1, then: 1 }],
+    &[Pair { first: 0, then: 3 }],
+    &[Pair { first: 0, then: 1 }, Pair { first: 0, then: 1 }],
+    &[
+        Pair { first: 0, then: 1 },
+        Pair { first: 1, then: 2 },
+        Pair { first: 2, then: 0 },
+    ],
+];
+
+fn all_pairs_are_refused(alloc: Global) -> Result<bool, Fail> {
+    let rates = [1, 2, 3];
+    for pairs in &UNKEPT {
+        let film = film_of(alloc, &CASTS, &[1, 1, 1], &rates, &rates, pairs)?;
+        if film.is_some() {
+            return Ok(false);
+        }
+    }
+    Ok(true)
 }
 
 #[test]
 fn refuses_pairs_that_cannot_be_kept(rt: HostRuntime) -> Result<(), Fail> {
     let alloc = rt.alloc();
-    let rates = [1, 2, 3];
     let kept = [pair(0, 1), pair(1, 2), pair(0, 2)];
-    let accepted = triangle(alloc, &rates, &rates, &kept)?;
-    assert_eq!(rt; accepted.pairs(), kept.as_slice());
-    let itself = [pair(1, 1)];
-    let nowhere = [pair(0, 3)];
-    let twice = [pair(0, 1), pair(0, 1)];
-    let cycle = [pair(0, 1), pair(1, 2), pair(2, 0)];
-    for pairs in [itself.as_slice(), &nowhere, &twice, &cycle] {
-        let film = film_of(alloc, &CASTS, &[1, 1, 1], &rates, &rates, pairs)?;
-        assert!(rt; film.is_none());
-    }
+    let accepted = triangle(alloc, &[1, 2, 3], &[1, 2, 3], &kept)?;
+    assert!(&rt; accepted.pairs() == kept.as_slice());
+    assert!(&rt; all_pairs_are_refused(alloc)?);
     Ok(())
 }
 
-// 64 scenes of all 64 actors: the whole costs all days at the rate of all actors.
-#[test]
-fn takes_the_largest_film(rt: HostRuntime) -> Result<(), Fail> {
-    let alloc = rt.alloc();
+/// 64 scenes of all 64 actors.
+fn largest(alloc: Global) -> Result<Film, Fail> {
     let mut days = [314; 64];
     days[63] = 18;
-    let largest = film(alloc, &[u64::MAX; 64], &days, &[1_000_000_000; 64])?;
-    let copy = largest.copy()?;
+    film(alloc, &[u64::MAX; 64], &days, &[1_000_000_000; 64])
+}
+
+/// Whether a copy of the film has the path of all 64 scenes, which pays this.
+fn pays_as_a_whole(film: &Film, paid: u64) -> Result<bool, Fail> {
     let mut order = [0; 64];
     for scene in 0..64 {
         order[scene] = scene as u32;
     }
+    let copy = film.copy()?;
     let whole = path(&copy, &order)?;
-    assert!(rt; whole.rest().is_empty());
-    assert_eq!(rt; whole.paid(), 1_267_200_000_000_000);
+    Ok(whole.rest().is_empty() && whole.paid() == paid)
+}
+
+// The whole costs all days at the rate of all actors.
+#[test]
+fn takes_the_largest_film(rt: HostRuntime) -> Result<(), Fail> {
+    let largest = largest(rt.alloc())?;
+    assert!(&rt; pays_as_a_whole(&largest, 1_267_200_000_000_000)?);
     Ok(())
+}
+
+fn is_last(cursor: &Cursor, scenes: &[u8]) -> bool {
+    match cursor.last() {
+        Some(last) => last.scenes() == scenes,
+        None => false,
+    }
 }
 
 #[test]
 fn keeps_the_last_path(rt: HostRuntime) -> Result<(), Fail> {
     let triangle = plain_triangle(rt.alloc())?;
     let mut cursor = Cursor::of(7);
-    assert!(rt; cursor.last().is_none());
+    assert!(&rt; cursor.last().is_none());
     cursor.moved(&path(&triangle, &[0, 2])?);
-    let last = cursor.last().ok_or("the last path")?;
-    assert_eq!(rt; last.scenes(), [0, 2].as_slice());
-    assert_eq!(rt; cursor.task(), 7);
+    assert!(&rt; is_last(&cursor, &[0, 2]) && cursor.task() == 7);
     Ok(())
 }

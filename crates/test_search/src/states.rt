@@ -3,13 +3,13 @@ ghost use Rattle.std.specs.Prelude.{◌≡◌, ℕ, ◌<◌, length, IsTrue};
 ghost use Rattle.strip_film.specs.Running.{IsRunning};
 ghost use Rattle.strip_film.specs.Shown.{running_data};
 
-use std::alloc::Global;
+use crate::films::plain_triangle;
 use std::test::Fail;
 use strip_film::{Film, Path, Running, laws, ready};
 
 #[test]
 fn moves_forward_and_back(rt: HostRuntime) -> Result<(), Fail> {
-    let film = triangle(rt.alloc())?;
+    let film = plain_triangle(rt.alloc())?;
     let mut state = Running::of(&film, &Path::start(&film));
     assert!(&rt; takes(&mut state, &film, 0));
     assert!(&rt; is_after_the_first(&state, &film));
@@ -53,13 +53,4 @@ fn is_after_the_first(state: &Running, film: &Film) -> bool
         return false;
     }
     state.rest().has(1) && state.step(film, 1) == 6
-}
-
-fn triangle(alloc: Global) -> Result<Film, Fail> {
-    let casts = Vec::from_slice(alloc, &[0b011, 0b110, 0b101])?;
-    let days = Vec::from_slice(alloc, &[1, 1, 1])?;
-    let rates = Vec::from_slice(alloc, &[1, 2, 3])?;
-    let holds = Vec::from_slice(alloc, &[1, 2, 3])?;
-    let film = Film::of(casts, days, rates, holds, Vec::new(alloc)).ok_or("within the limits")?;
-    Ok(film)
 }

@@ -8,7 +8,8 @@ ghost use Rattle.strip_bound.specs.Kept.{Keeps};
 ghost use Rattle.strip_hand.specs.Search.{GoesBy};
 ghost use Rattle.strip_race.specs.Sound.{IsSound};
 
-use crate::paths::{film, path, plain_triangle, triangle};
+use crate::films::{film, plain_triangle, triangle};
+use crate::paths::path;
 use std::alloc::Global;
 use std::test::Fail;
 use strip_bound::{BoundTables, Kept, static_reach};
@@ -76,8 +77,95 @@ fn known(line: u32, set: u64, bound: u64) -> Known {
     Known { line, set, bound }
 }
 
+/// An event, and its reply, none where it may not come.
+#[derive(Drop)]
+struct Step(Event, Option<Reply>);
+
+/// Whether the events are replied so, one after the other.
+fn are_replied<F: Fn(u64, u64) -> u64>(kept: &Kept<F>, world: &mut World, steps: &[Step]) -> bool
+    requires sound { IsSound world.old }
+    requires keeps { Keeps (F.pre kept.now.f) (F.post kept.now.f) kept.now.kind kept.now.film.now }
+    requires search { GoesBy kept.now.kind kept.now.film.now world.old.search }
+    ensures sound { IsSound world.new }
+    ensures search { GoesBy kept.now.kind kept.now.film.now world.new.search }
+{
+    for Step(event, expected) in steps {
+        if reply(kept, world, event) != *expected {
+            return false;
+        }
+    }
+    true
+}
+
+fn enlist(who: u32, task: u32, path: Path) -> Event {
+    Event::Enlist { who, task, path }
+}
+
+fn raise(who: u32, bound: u64) -> Event {
+    Event::Raise {
+        who,
+        line: 0,
+        bound,
+    }
+}
+
+// One line, which worker 0 makes and worker 1 raises, and which can't be raised further.
+fn nine_steps(start: Path) -> [Step; 9] {
+    let whole = known(0, 7, 13);
+    let note = Event::Note {
+        who: 0,
+        known: whole,
+    };
+    let hit = Reply::Probed(Probe::Hit(whole));
+    let line = Reply::Listed(Listed::Line(0));
+    [
+        Step(Event::Look { who: 0 }, Some(Reply::Least(13))),
+        Step(Event::Claim { who: 0 }, Some(Reply::Task(Some(0)))),
+        Step(Event::Claim { who: 1 }, Some(Reply::Task(Some(1)))),
+        Step(enlist(0, 0, start), Some(line)),
+        Step(raise(1, 13), Some(Reply::Raised)),
+        Step(note, Some(Reply::Noted(Noted::Fresh))),
+        Step(Event::Probe { who: 1, set: 7 }, Some(hit)),
+        Step(
+            Event::Probe { who: 1, set: 6 },
+            Some(Reply::Probed(Probe::Miss)),
+        ),
+        Step(raise(0, 14), None),
+    ]
+}
+
+fn replies_to_nine_events<F: Fn(u64, u64) -> u64>(
+    alloc: Global,
+    kept: &Kept<F>,
+) -> Result<bool, Fail>
+    requires { Keeps (F.pre kept.now.f) (F.post kept.now.f) kept.now.kind kept.now.film.now }
+{
+    let film = kept.film();
+    let mut world = world(alloc, kept, &greedy(film), 1)?;
+    let steps = nine_steps(Path::start(film));
+    Ok(are_replied(kept, &mut world, &steps) && has_line_of_13(&world))
+}
+
+fn has_line_of_13(world: &World) -> bool {
+    world.least() == 13 && world.lines() == [Line { set: 7, bound: 13 }].as_slice()
+}
+
+// The first scene pays 3, and to finish costs 10 at least: no less than 13, which was told.
+fn rules_out_by_its_bound<F: Fn(u64, u64) -> u64>(
+    alloc: Global,
+    kept: &Kept<F>,
+) -> Result<bool, Fail>
+    requires { Keeps (F.pre kept.now.f) (F.post kept.now.f) kept.now.kind kept.now.film.now }
+{
+    let film = kept.film();
+    let mut world = world(alloc, kept, &greedy(film), 9)?;
+    reply(kept, &mut world, &Event::Claim { who: 0 });
+    reply(kept, &mut world, &enlist(0, 0, path(film, &[])?));
+    Ok(!world.allows(kept, &enlist(0, 0, path(film, &[0])?)))
+}
+
 #[test]
-fn nine_events(rt: HostRuntime) -> Result<(), Fail> {
+fn worlds_by_pairs(rt: HostRuntime) -> Result<(), Fail> {
     let alloc = rt.alloc();
     let film = plain_triangle(alloc)?;
     let tables = BoundTables::of(alloc, &film)?;
@@ -86,62 +174,42 @@ fn nine_events(rt: HostRuntime) -> Result<(), Fail> {
         Kind::Pairs,
         |q, need| static_reach(&film, &tables, Kind::Pairs, Mask(q), need),
     );
-    let mut world = world(alloc, &kept, &greedy(&film), 1)?;
-    let whole = known(0, 7, 13);
-    assert_eq!(rt;
-        reply(&kept, &mut world, &Event::Look { who: 0 }),
-        Some(Reply::Least(13))
-    );
-    assert_eq!(rt;
-        reply(&kept, &mut world, &Event::Claim { who: 0 }),
-        Some(Reply::Task(Some(0)))
-    );
-    assert_eq!(rt;
-        reply(&kept, &mut world, &Event::Claim { who: 1 }),
-        Some(Reply::Task(Some(1)))
-    );
-    let first = Event::Enlist {
-        who: 0,
-        task: 0,
-        path: Path::start(&film),
-    };
-    assert_eq!(rt;
-        reply(&kept, &mut world, &first),
-        Some(Reply::Listed(Listed::Line(0)))
-    );
-    let raise = Event::Raise {
-        who: 1,
-        line: 0,
-        bound: 13,
-    };
-    assert_eq!(rt; reply(&kept, &mut world, &raise), Some(Reply::Raised));
-    let note = Event::Note {
-        who: 0,
-        known: whole,
-    };
-    assert_eq!(rt;
-        reply(&kept, &mut world, &note),
-        Some(Reply::Noted(Noted::Fresh))
-    );
-    let hit = Some(Reply::Probed(Probe::Hit(whole)));
-    assert_eq!(rt;
-        reply(&kept, &mut world, &Event::Probe { who: 1, set: 7 }),
-        hit
-    );
-    let miss = Some(Reply::Probed(Probe::Miss));
-    assert_eq!(rt;
-        reply(&kept, &mut world, &Event::Probe { who: 1, set: 6 }),
-        miss
-    );
-    let above = Event::Raise {
-        who: 0,
-        line: 0,
-        bound: 14,
-    };
-    assert_eq!(rt; reply(&kept, &mut world, &above), None);
-    assert_eq!(rt; world.least(), 13);
-    assert!(rt; world.lines() == [Line { set: 7, bound: 13 }].as_slice());
+    assert!(&rt; replies_to_nine_events(alloc, &kept)?);
+    assert!(&rt; rules_out_by_its_bound(alloc, &kept)?);
     Ok(())
+}
+
+// With one line at most, the second is refused.
+fn spends_its_lines<F: Fn(u64, u64) -> u64>(alloc: Global, kept: &Kept<F>) -> Result<bool, Fail>
+    requires { Keeps (F.pre kept.now.f) (F.post kept.now.f) kept.now.kind kept.now.film.now }
+{
+    let film = kept.film();
+    let steps = [
+        Step(Event::Claim { who: 0 }, Some(Reply::Task(Some(0)))),
+        Step(
+            enlist(0, 0, path(film, &[])?),
+            Some(Reply::Listed(Listed::Line(0))),
+        ),
+        Step(
+            enlist(0, 0, path(film, &[0])?),
+            Some(Reply::Listed(Listed::Spent { lines: 1 })),
+        ),
+    ];
+    let mut world = world(alloc, kept, &greedy(film), 1)?;
+    Ok(are_replied(kept, &mut world, &steps))
+}
+
+/// Takes the events, each where it may come.
+fn take_all<F: Fn(u64, u64) -> u64>(kept: &Kept<F>, world: &mut World, events: &[Event])
+    requires sound { IsSound world.old }
+    requires keeps { Keeps (F.pre kept.now.f) (F.post kept.now.f) kept.now.kind kept.now.film.now }
+    requires search { GoesBy kept.now.kind kept.now.film.now world.old.search }
+    ensures sound { IsSound world.new }
+    ensures search { GoesBy kept.now.kind kept.now.film.now world.new.search }
+{
+    for event in events {
+        reply(kept, world, event);
+    }
 }
 
 // The world of the triangle with plain bounds and an order that costs 14, in which worker 0 has the front and worker 1 the first task,
@@ -153,44 +221,15 @@ fn begun<F: Fn(u64, u64) -> u64>(alloc: Global, kept: &Kept<F>) -> Result<World,
 {
     let film = kept.film();
     let mut world = world(alloc, kept, &order(film, &[0, 2, 1])?, 9)?;
-    reply(kept, &mut world, &Event::Look { who: 0 });
-    reply(kept, &mut world, &Event::Claim { who: 0 });
-    reply(kept, &mut world, &Event::Claim { who: 1 });
-    reply(kept, &mut world, &enlist(0, 0, path(film, &[])?));
-    reply(kept, &mut world, &enlist(0, 0, path(film, &[0])?));
+    let events = [
+        Event::Look { who: 0 },
+        Event::Claim { who: 0 },
+        Event::Claim { who: 1 },
+        enlist(0, 0, path(film, &[])?),
+        enlist(0, 0, path(film, &[0])?),
+    ];
+    take_all(kept, &mut world, &events);
     Ok(world)
-}
-
-fn enlist(who: u32, task: u32, path: Path) -> Event {
-    Event::Enlist { who, task, path }
-}
-
-#[test]
-fn spent_lines(rt: HostRuntime) -> Result<(), Fail> {
-    let alloc = rt.alloc();
-    let film = plain_triangle(alloc)?;
-    let tables = BoundTables::of(alloc, &film)?;
-    let kept = Kept::new(
-        &film,
-        Kind::Plain,
-        |q, need| static_reach(&film, &tables, Kind::Plain, Mask(q), need),
-    );
-    let mut world = world(alloc, &kept, &greedy(&film), 1)?;
-    assert_eq!(rt;
-        reply(&kept, &mut world, &Event::Claim { who: 0 }),
-        Some(Reply::Task(Some(0)))
-    );
-    let line = Some(Reply::Listed(Listed::Line(0)));
-    assert_eq!(rt;
-        reply(&kept, &mut world, &enlist(0, 0, path(&film, &[])?)),
-        line
-    );
-    let spent = Some(Reply::Listed(Listed::Spent { lines: 1 }));
-    assert_eq!(rt;
-        reply(&kept, &mut world, &enlist(0, 0, path(&film, &[0])?)),
-        spent
-    );
-    Ok(())
 }
 
 fn unknown_workers(start: Path, first: Path) -> [Event; 7] {
@@ -258,28 +297,27 @@ fn unfit(unfinished: Path) -> [Event; 9] {
     ]
 }
 
-#[test]
-fn events_that_may_not_come(rt: HostRuntime) -> Result<(), Fail> {
-    let alloc = rt.alloc();
-    let film = plain_triangle(alloc)?;
-    let tables = BoundTables::of(alloc, &film)?;
-    let kept = Kept::new(
-        &film,
-        Kind::Plain,
-        |q, need| static_reach(&film, &tables, Kind::Plain, Mask(q), need),
-    );
-    let world = begun(alloc, &kept)?;
-    for event in &unknown_workers(greedy(&film), path(&film, &[1])?) {
-        assert!(rt; !world.allows(&kept, event));
+fn none_may_come<F: Fn(u64, u64) -> u64>(kept: &Kept<F>, world: &World, events: &[Event]) -> bool
+    requires sound { IsSound world.now }
+    requires keeps { Keeps (F.pre kept.now.f) (F.post kept.now.f) kept.now.kind kept.now.film.now }
+    requires search { GoesBy kept.now.kind kept.now.film.now world.now.search }
+{
+    for event in events {
+        if world.allows(kept, event) {
+            return false;
+        }
     }
-    for event in &unfit(path(&film, &[0, 1])?) {
-        assert!(rt; !world.allows(&kept, event));
-    }
-    for (who, task, scenes) in &PATHS {
-        let event = enlist(*who, *task, path(&film, scenes)?);
-        assert!(rt; !world.allows(&kept, &event));
-    }
-    Ok(())
+    true
+}
+
+fn refuses_events<F: Fn(u64, u64) -> u64>(alloc: Global, kept: &Kept<F>) -> Result<bool, Fail>
+    requires { Keeps (F.pre kept.now.f) (F.post kept.now.f) kept.now.kind kept.now.film.now }
+{
+    let film = kept.film();
+    let unknown = unknown_workers(greedy(film), path(film, &[1])?);
+    let unfit = unfit(path(film, &[0, 1])?);
+    let world = begun(alloc, kept)?;
+    Ok(none_may_come(kept, &world, &unknown) && none_may_come(kept, &world, &unfit))
 }
 
 // Paths that may not be enlisted: in a task of another worker, one that nobody claimed, one that isn't
@@ -297,10 +335,86 @@ static PATHS: [(u32, u32, &'static [u32]); 9] = [
     (1, 1, &[0, 1]),
 ];
 
+fn refuses_paths<F: Fn(u64, u64) -> u64>(alloc: Global, kept: &Kept<F>) -> Result<bool, Fail>
+    requires { Keeps (F.pre kept.now.f) (F.post kept.now.f) kept.now.kind kept.now.film.now }
+{
+    let world = begun(alloc, kept)?;
+    for (who, task, scenes) in &PATHS {
+        let event = enlist(*who, *task, path(kept.film(), scenes)?);
+        if world.allows(kept, &event) {
+            return Ok(false);
+        }
+    }
+    Ok(true)
+}
+
+fn refuses_paths_of_other_films<F: Fn(u64, u64) -> u64>(
+    alloc: Global,
+    kept: &Kept<F>,
+) -> Result<bool, Fail>
+    requires { Keeps (F.pre kept.now.f) (F.post kept.now.f) kept.now.kind kept.now.film.now }
+{
+    let other = triangle(alloc, &[1, 2, 4], &[1, 2, 4], &[])?;
+    let finished = Event::Offer {
+        who: 0,
+        path: greedy(&other),
+    };
+    let events = [finished, enlist(0, 0, path(&other, &[1])?)];
+    let own = enlist(0, 0, path(kept.film(), &[2])?);
+    let world = begun(alloc, kept)?;
+    Ok(none_may_come(kept, &world, &events) && world.allows(kept, &own))
+}
+
+// The path of a task may be enlisted once a set that remains after it was looked up.
+fn asks_for_a_probe<F: Fn(u64, u64) -> u64>(alloc: Global, kept: &Kept<F>) -> Result<bool, Fail>
+    requires { Keeps (F.pre kept.now.f) (F.post kept.now.f) kept.now.kind kept.now.film.now }
+{
+    let event = enlist(1, 1, path(kept.film(), &[0, 1])?);
+    let mut world = begun(alloc, kept)?;
+    reply(kept, &mut world, &Event::Probe { who: 1, set: 2 });
+    if world.allows(kept, &event) {
+        return Ok(false);
+    }
+    reply(kept, &mut world, &Event::Probe { who: 1, set: 4 });
+    Ok(world.allows(kept, &event))
+}
+
+#[test]
+fn worlds_by_plain_bounds(rt: HostRuntime) -> Result<(), Fail> {
+    let alloc = rt.alloc();
+    let film = plain_triangle(alloc)?;
+    let tables = BoundTables::of(alloc, &film)?;
+    let kept = Kept::new(
+        &film,
+        Kind::Plain,
+        |q, need| static_reach(&film, &tables, Kind::Plain, Mask(q), need),
+    );
+    assert!(&rt; spends_its_lines(alloc, &kept)?);
+    assert!(&rt; refuses_events(alloc, &kept)?);
+    assert!(&rt; refuses_paths(alloc, &kept)?);
+    assert!(&rt; refuses_paths_of_other_films(alloc, &kept)?);
+    assert!(&rt; asks_for_a_probe(alloc, &kept)?);
+    Ok(())
+}
+
+fn lets_open_paths_through<F: Fn(u64, u64) -> u64>(
+    alloc: Global,
+    kept: &Kept<F>,
+) -> Result<bool, Fail>
+    requires { Keeps (F.pre kept.now.f) (F.post kept.now.f) kept.now.kind kept.now.film.now }
+{
+    let film = kept.film();
+    let closed = enlist(0, 0, path(film, &[2])?);
+    let opening = enlist(0, 0, path(film, &[1])?);
+    let mut world = world(alloc, kept, &greedy(film), 9)?;
+    reply(kept, &mut world, &Event::Claim { who: 0 });
+    Ok(!world.allows(kept, &closed) && world.allows(kept, &opening))
+}
+
+// The scenes of one actor each come before that of both.
 #[test]
 fn paths_that_are_not_open(rt: HostRuntime) -> Result<(), Fail> {
     let alloc = rt.alloc();
-    // The scenes of one actor each come before that of both.
     let film = film(alloc, &[0b01, 0b10, 0b11], &[1, 1, 1], &[10, 20])?;
     let tables = BoundTables::of(alloc, &film)?;
     let kept = Kept::new(
@@ -308,68 +422,6 @@ fn paths_that_are_not_open(rt: HostRuntime) -> Result<(), Fail> {
         Kind::Plain,
         |q, need| static_reach(&film, &tables, Kind::Plain, Mask(q), need),
     );
-    let mut world = world(alloc, &kept, &greedy(&film), 9)?;
-    reply(&kept, &mut world, &Event::Claim { who: 0 });
-    assert!(rt; !world.allows(&kept, &enlist(0, 0, path(&film, &[2])?)));
-    assert!(rt; world.allows(&kept, &enlist(0, 0, path(&film, &[1])?)));
-    Ok(())
-}
-
-#[test]
-fn paths_of_other_films(rt: HostRuntime) -> Result<(), Fail> {
-    let alloc = rt.alloc();
-    let film = plain_triangle(alloc)?;
-    let other = triangle(alloc, &[1, 2, 4], &[1, 2, 4], &[])?;
-    let tables = BoundTables::of(alloc, &film)?;
-    let kept = Kept::new(
-        &film,
-        Kind::Plain,
-        |q, need| static_reach(&film, &tables, Kind::Plain, Mask(q), need),
-    );
-    let world = begun(alloc, &kept)?;
-    let finished = Event::Offer {
-        who: 0,
-        path: greedy(&other),
-    };
-    assert!(rt; !world.allows(&kept, &finished));
-    assert!(rt; !world.allows(&kept, &enlist(0, 0, path(&other, &[1])?)));
-    assert!(rt; world.allows(&kept, &enlist(0, 0, path(&film, &[2])?)));
-    Ok(())
-}
-
-#[test]
-fn paths_that_a_bound_rules_out(rt: HostRuntime) -> Result<(), Fail> {
-    let alloc = rt.alloc();
-    let film = plain_triangle(alloc)?;
-    let tables = BoundTables::of(alloc, &film)?;
-    let kept = Kept::new(
-        &film,
-        Kind::Pairs,
-        |q, need| static_reach(&film, &tables, Kind::Pairs, Mask(q), need),
-    );
-    let mut world = world(alloc, &kept, &greedy(&film), 9)?;
-    reply(&kept, &mut world, &Event::Claim { who: 0 });
-    reply(&kept, &mut world, &enlist(0, 0, path(&film, &[])?));
-    // The first scene pays 3, and to finish costs 10 at least: no less than 13, which was told.
-    assert!(rt; !world.allows(&kept, &enlist(0, 0, path(&film, &[0])?)));
-    Ok(())
-}
-
-#[test]
-fn paths_that_no_probe_lets_through(rt: HostRuntime) -> Result<(), Fail> {
-    let alloc = rt.alloc();
-    let film = plain_triangle(alloc)?;
-    let tables = BoundTables::of(alloc, &film)?;
-    let kept = Kept::new(
-        &film,
-        Kind::Plain,
-        |q, need| static_reach(&film, &tables, Kind::Plain, Mask(q), need),
-    );
-    let mut world = begun(alloc, &kept)?;
-    let event = enlist(1, 1, path(&film, &[0, 1])?);
-    reply(&kept, &mut world, &Event::Probe { who: 1, set: 2 });
-    assert!(rt; !world.allows(&kept, &event));
-    reply(&kept, &mut world, &Event::Probe { who: 1, set: 4 });
-    assert!(rt; world.allows(&kept, &event));
+    assert!(&rt; lets_open_paths_through(alloc, &kept)?);
     Ok(())
 }

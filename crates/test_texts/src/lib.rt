@@ -1,9 +1,11 @@
 //! Tests: what no clause says of texts. That the calls succeed where memory is left; streams that are cut short, fail and
-//! stop in the middle; and texts worked by hand, of calls that no command makes.
+//! stop in the middle; texts worked by hand, of calls that no command makes; and the whole program over files that never fail.
 #![tactic(auto)]
 
 #[cfg(test)]
 mod canonical;
+#[cfg(test)]
+mod no_faults;
 #[cfg(test)]
 mod rows;
 #[cfg(test)]

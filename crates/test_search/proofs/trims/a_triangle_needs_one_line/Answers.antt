@@ -2,9 +2,9 @@ use Rattle.std.proofs.Common.{sym, subst}
 use Rattle.strip_kind.specs.declared.kind.Kind.TheVariants.{Pairs}
 use Rattle.strip_pay.specs.Film.{FilmData}
 use Rattle.strip_lines.specs.Lines.{AreJustified, rules_of}
-use Rattle.strip_trim.specs.Worked.{triangle_lines}
-use Rattle.strip_trim.proofs.Rows.{triangle_justified}
-use Rattle.strip_trim.proofs.tests.a_triangle_needs_one_line.Goals as goal
+use Rattle.test_search.specs.Worked.{triangle_lines}
+use Rattle.test_search.proofs.Rows.{triangle_justified}
+use Rattle.test_search.proofs.trims.a_triangle_needs_one_line.Goals as goal
 
 pub trimmed-requires : goal.trimmed-requires
 trimmed-requires g c = subst (λ (film : FilmData). AreJustified (rules_of Pairs film) triangle_lines) (sym c.in_ok-film.ensures) triangle_justified

@@ -1,9 +1,8 @@
 // Films whose lines were trimmed by hand.
 ghost use Rattle.std.specs.Prelude.{◌≡◌, IfOk};
 ghost use Rattle.strip_lines.specs.Lines.{AreJustified, rules_of};
-ghost use Rattle.strip_trim.specs.Worked.{ring, triangle};
+ghost use Rattle.test_search.specs.Worked.{ring, triangle};
 
-use crate::trim;
 use std::alloc::Global;
 use std::test::Fail;
 use strip_bound::{BoundTables, Kept, static_reach};
@@ -11,6 +10,7 @@ use strip_film::{Film, Line};
 use strip_kind::Kind;
 use strip_mask::Mask;
 use strip_memo::Memo;
+use strip_trim::trim;
 
 fn triangle(alloc: Global) -> Result<Film, Fail>
     ensures { IfOk result (λ film. film ≡ triangle) }

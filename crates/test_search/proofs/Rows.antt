@@ -13,7 +13,7 @@ use Rattle.strip_film.specs.Film.{LiesIn}
 use Rattle.strip_film.specs.Rules.{Rules}
 use Rattle.strip_film.specs.Shoot.{step_cost}
 use Rattle.strip_lines.specs.Lines.{AreJustified, IsJustified, known, rules_of}
-use Rattle.strip_trim.specs.Worked.{ring, ring_lines, triangle, triangle_lines}
+use Rattle.test_search.specs.Worked.{ring, ring_lines, triangle, triangle_lines}
 
 -- each first step and what is known of the rest reach the bound
 abbrev reaches : Rules → List Line → Line → ℕ → Bool

@@ -1,0 +1,10 @@
+use Rattle.strip_hand.specs.Search.{GoesBy}
+use Rattle.strip_race.specs.Sound.{IsSound}
+use Rattle.test_search.proofs.worlds.are_replied.Given as goal
+
+-- the world is sound, and its search stays
+abbrev pub invariant-loop-event : goal.invariant-loop-event
+invariant-loop-event g l = record {
+  sound : IsSound l.world;
+  search : GoesBy l.kept.kind l.kept.film.now l.world.search;
+}
