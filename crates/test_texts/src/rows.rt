@@ -84,21 +84,25 @@ fn writes_rows(rt: HostRuntime) -> Result<(), Fail> {
     Ok(())
 }
 
+/// Whether the words and what was told make this row.
+fn is_told(alloc: Global, word: &'static [u8], told: Told<'_>, row: &str) -> Result<bool, Memory> {
+    Ok(told_row(alloc, word, told)?.as_slice() == row.as_bytes())
+}
+
 #[test]
 fn tells_faults(rt: HostRuntime) -> Result<(), Fail> {
+    let alloc = rt.alloc();
     let told = Told {
         name: "BadMark",
         first: Some(12),
         second: None,
         names: &[],
     };
-    let row = told_row(rt.alloc(), b"refused", told)?;
-    assert!(&rt; row.as_slice() == "refused,BadMark,12,\n".as_bytes());
-    let answer = Answer::error(rt.alloc(), Status::BadPlan, told)?;
+    assert!(&rt; is_told(alloc, b"refused", told, "refused,BadMark,12,\n")?);
+    let answer = Answer::error(alloc, Status::BadPlan, told)?;
     assert!(&rt;
         answer.status.code() == 6 && answer.text.as_slice() == "error,BadMark,12,\n".as_bytes()
     );
-    let alloc = rt.alloc();
     let mut names = Vec::new(alloc);
     names.push(String::from_str(alloc, "s,1")?)?;
     names.push(String::from_str(alloc, "s2")?)?;
@@ -106,8 +110,7 @@ fn tells_faults(rt: HostRuntime) -> Result<(), Fail> {
         names: &names,
         ..told
     };
-    let row = told_row(alloc, b"error", told)?;
-    assert!(&rt; row.as_slice() == "error,BadMark,12,,\"s,1\",s2\n".as_bytes());
+    assert!(&rt; is_told(alloc, b"error", told, "error,BadMark,12,,\"s,1\",s2\n")?);
     Ok(())
 }
 

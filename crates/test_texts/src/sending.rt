@@ -1,4 +1,6 @@
 // The rows of lines, sent to sinks that take them in pieces, and to sinks that fail.
+ghost use Rattle.std.specs.Prelude.{◌≤◌};
+
 use std::alloc::Global;
 use std::test::Fail;
 use strip_film::Line;
@@ -25,17 +27,41 @@ fn rows(alloc: Global, lines: &[Line]) -> Result<Vec<u8>, Fail> {
     Ok(rows)
 }
 
+// Whether a sink that takes so many bytes at a time gets these rows.
+fn are_sent(alloc: Global, lines: &[Line], rows: &[u8], piece: usize) -> Result<bool, Fail>
+    requires { 1 ≤ piece }
+{
+    let mut out = MemSink::new(alloc, rows.len(), piece, &[])?;
+    send_lines(&mut out, lines)?;
+    Ok(out.taken() == rows)
+}
+
 #[test]
 fn lines_are_sent_as_their_rows(rt: HostRuntime) -> Result<(), Fail> {
     let alloc = rt.alloc();
     let lines = lines(alloc)?;
     let rows = rows(alloc, &lines)?;
-    for piece in [1, 100, 4096, 10_000] {
-        let mut out = MemSink::new(alloc, rows.len(), piece, &[])?;
-        send_lines(&mut out, &lines)?;
-        assert!(&rt; out.taken() == rows.as_slice());
-    }
+    assert!(&rt; are_sent(alloc, &lines, &rows, 1)?);
+    assert!(&rt; are_sent(alloc, &lines, &rows, 100)?);
+    assert!(&rt; are_sent(alloc, &lines, &rows, 4096)?);
+    assert!(&rt; are_sent(alloc, &lines, &rows, 10_000)?);
     Ok(())
+}
+
+// Whether a sink whose third write fails gets so many of the bytes of these rows.
+fn is_cut_short(
+    alloc: Global,
+    lines: &[Line],
+    rows: &[u8],
+    piece: usize,
+    taken: usize,
+) -> Result<bool, Fail>
+    requires { 1 ≤ piece }
+{
+    let mut out = MemSink::new(alloc, rows.len(), piece, &[3])?;
+    let failed = send_lines(&mut out, lines) == Err(Failed);
+    let got = out.taken();
+    Ok(failed && got.len() == taken && taken < rows.len() && rows.starts_with(got))
 }
 
 #[test]
@@ -43,11 +69,8 @@ fn the_third_write_fails(rt: HostRuntime) -> Result<(), Fail> {
     let alloc = rt.alloc();
     let lines = lines(alloc)?;
     let rows = rows(alloc, &lines)?;
-    for (piece, taken) in [(1, 2), (100, 200), (1_000, 2_000)] {
-        let mut out = MemSink::new(alloc, rows.len(), piece, &[3])?;
-        assert_eq!(rt; send_lines(&mut out, &lines), Err(Failed));
-        assert_eq!(rt; out.taken().len(), taken);
-        assert!(&rt; taken < rows.len() && rows.starts_with(out.taken()));
-    }
+    assert!(&rt; is_cut_short(alloc, &lines, &rows, 1, 2)?);
+    assert!(&rt; is_cut_short(alloc, &lines, &rows, 100, 200)?);
+    assert!(&rt; is_cut_short(alloc, &lines, &rows, 1_000, 2_000)?);
     Ok(())
 }

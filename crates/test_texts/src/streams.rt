@@ -107,17 +107,25 @@ fn read(file: &mut Reader, at: u64, into: &mut [u8; 4]) -> Option<usize> {
     read_at(file, at, into).ok()
 }
 
+// Whether a read at a place gives so many bytes, or fails, and this is what was read into then.
+fn reads_so(
+    file: &mut Reader,
+    at: u64,
+    into: &mut [u8; 4],
+    count: Option<usize>,
+    text: &[u8; 4],
+) -> bool {
+    read(file, at, into) == count && &*into == text
+}
+
 #[test]
 fn a_read_may_be_cut_short(rt: HostRuntime) -> Result<(), Fail> {
     let mut file = Reader::new(3, 0);
     let mut into = [0; 4];
-    assert_eq!(rt; read(&mut file, 5, &mut into), Some(3));
-    assert_eq!(rt; &into, b"fgh\0");
-    assert_eq!(rt; read(&mut file, 2, &mut into), Some(3));
-    assert_eq!(rt; &into, b"cde\0");
-    assert_eq!(rt; read(&mut file, 7, &mut into), Some(1));
-    assert_eq!(rt; &into, b"hde\0");
-    assert_eq!(rt; read(&mut file, 8, &mut into), Some(0));
+    assert!(&rt; reads_so(&mut file, 5, &mut into, Some(3), b"fgh\0"));
+    assert!(&rt; reads_so(&mut file, 2, &mut into, Some(3), b"cde\0"));
+    assert!(&rt; reads_so(&mut file, 7, &mut into, Some(1), b"hde\0"));
+    assert!(&rt; reads_so(&mut file, 8, &mut into, Some(0), b"hde\0"));
     Ok(())
 }
 
@@ -125,37 +133,26 @@ fn a_read_may_be_cut_short(rt: HostRuntime) -> Result<(), Fail> {
 fn a_failed_read_is_no_end(rt: HostRuntime) -> Result<(), Fail> {
     let mut file = Reader::new(3, 2);
     let mut into = [0; 4];
-    assert_eq!(rt; read(&mut file, 0, &mut into), Some(3));
-    assert_eq!(rt; read(&mut file, 3, &mut into), None);
-    assert_eq!(rt; read(&mut file, 3, &mut into), Some(3));
+    assert!(&rt; read(&mut file, 0, &mut into) == Some(3));
+    assert!(&rt; read(&mut file, 3, &mut into).is_none());
+    assert!(&rt; read(&mut file, 3, &mut into) == Some(3));
     file.stuck = true;
-    assert_eq!(rt; read(&mut file, 0, &mut into), None);
-    assert_eq!(rt; file.calls, 3);
+    assert!(&rt; read(&mut file, 0, &mut into).is_none() && file.calls == 3);
     Ok(())
 }
 
-// What a writer holds after the text was sent to it, and in how many writes.
-fn sent(writer: Writer) -> (Result<(), Failed>, Writer) {
+// Whether the text, sent to the writer, ends so, and the writer then holds this, in so many writes.
+fn takes(writer: Writer, end: Result<(), Failed>, taken: &[u8; 8], calls: u64) -> bool {
     let mut out = HostSink::over(writer);
-    let result = send(&mut out, TEXT);
-    (result, out.into_inner())
+    let found = send(&mut out, TEXT);
+    let writer = out.into_inner();
+    found == end && &writer.taken == taken && writer.calls == calls
 }
 
 #[test]
 fn a_writer_gets_the_text_and_no_more_after_a_fault(rt: HostRuntime) -> Result<(), Fail> {
-    let (whole, writer) = sent(Writer::new(3, 0, 0));
-    assert_eq!(rt; whole, Ok(()));
-    assert_eq!(rt; &writer.taken, TEXT);
-    assert_eq!(rt; writer.calls, 3);
-
-    let (failed, writer) = sent(Writer::new(3, 2, 0));
-    assert_eq!(rt; failed, Err(Failed));
-    assert_eq!(rt; &writer.taken, b"abc\0\0\0\0\0");
-    assert_eq!(rt; writer.calls, 2);
-
-    let (stopped, writer) = sent(Writer::new(3, 0, 3));
-    assert_eq!(rt; stopped, Err(Failed));
-    assert_eq!(rt; &writer.taken, b"abcdef\0\0");
-    assert_eq!(rt; writer.calls, 3);
+    assert!(&rt; takes(Writer::new(3, 0, 0), Ok(()), TEXT, 3));
+    assert!(&rt; takes(Writer::new(3, 2, 0), Err(Failed), b"abc\0\0\0\0\0", 2));
+    assert!(&rt; takes(Writer::new(3, 0, 3), Err(Failed), b"abcdef\0\0", 3));
     Ok(())
 }
