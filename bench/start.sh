@@ -1,6 +1,7 @@
 #!/usr/bin/env bash
-# How long strip_start's greedy and improve take on random films, with and without pairs.
-# It works in a temporary folder and leaves nothing in the repository. It takes rt.
+# How long strip_start's greedy and improve take on random films, with and without pairs, and how many tries a second
+# vary makes, beside the same steps in plain Rust (varied.rs).
+# It works in a temporary folder and leaves nothing in the repository. It takes rt and rustc.
 set -euo pipefail
 repository=$(cd "$(dirname "$0")/.." && pwd)
 work=$(mktemp -d)
@@ -12,7 +13,7 @@ strip_io:
 strip_mask:
 strip_pay: strip_mask
 strip_film: strip_mask strip_io strip_pay
-strip_start: strip_mask strip_pay strip_film
+strip_start: strip_mask strip_pay strip_film rand_core rand_pcg
 start_times: strip_mask strip_pay strip_film strip_start
 END
 times=$work/crates/start_times
@@ -35,13 +36,17 @@ use std::rt::Runtime;
 use std::time::Instant;
 use strip_film::{Film, Path, laws, ready};
 use strip_pay::Pair;
-use strip_start::{greedy, improve};
+use strip_start::{greedy, improve, vary};
 
 /// How often each call is timed; the least time counts.
 const RUNS: u64 = 5;
 
 /// What greedy and improve together should be within, in nanoseconds.
 const LIMIT: u128 = 20_000_000;
+
+/// How many tries are timed, and on films of how many scenes and actors.
+const TRIES: u32 = 300_000;
+const VARIED: [(u64, u64); 4] = [(24, 12), (24, 24), (64, 24), (64, 48)];
 
 /// How many scenes, actors and pairs a film has.
 #[derive(Clone, Copy)]
@@ -66,6 +71,12 @@ fn main(rt: HostRuntime) -> ExitCode {
                     None => return ExitCode::from(1),
                 }
             }
+        }
+    }
+    for (scenes, actors) in VARIED {
+        let size = Size { scenes, actors, pairs: 0 };
+        if tell_tries(&rt, rt.alloc(), size).is_none() {
+            return ExitCode::from(1);
         }
     }
     if slow == 0 {
@@ -114,6 +125,25 @@ fn line<R: Runtime>(
         }
     }
     let _ = println!(rt; "  {}", if cut_off { "64" } else { "fewer" });
+}
+
+/// Prints how many tries a second are made on a film, in thousands, and what its order then costs.
+fn tell_tries<R: Runtime>(rt: &R, alloc: Global, size: Size) -> Option<()> {
+    let film = film(alloc, size)?;
+    let begun = improve(&film, &greedy(&film));
+    let mut least = u128::MAX;
+    let mut paid = 0;
+    for _run in 0..RUNS {
+        let start = Instant::now(rt).ok()?;
+        let best = vary(&film, &begun, TRIES);
+        let took = start.elapsed(rt).ok()?.as_nanos();
+        paid = best.paid();
+        least = least.min(took);
+    }
+    let thousands = u128::from(TRIES).saturating_mul(1_000_000).checked_div(least)?;
+    let Size { scenes, actors, .. } = size;
+    let _ = println!(rt; "{scenes} scenes, {actors} actors: {thousands} thousand tries a second, cost {paid}");
+    Some(())
 }
 
 /// The path improved so often that no move is better in the films here: where that holds, its own
@@ -275,3 +305,9 @@ END
 
 (cd "$times" && rt run > "$work/log" 2>&1) || { cat "$work/log"; exit 1; }
 "$times/out/start_times"
+
+echo 'the same in plain Rust:'
+rustc -O -C target-cpu=x86-64-v3 -o "$work/varied" "$repository/bench/varied.rs"
+for size in '24 12' '24 24' '64 24' '64 48'; do
+    "$work/varied" times $size 300000
+done

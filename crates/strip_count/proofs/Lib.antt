@@ -4,3 +4,4 @@ pub mod Length
 pub mod Later
 pub mod Shares
 pub mod Rows
+pub mod Lesser

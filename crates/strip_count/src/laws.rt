@@ -84,3 +84,10 @@ pub fn counted_lines_are_few()
         → part < suc (length tasks) → IsUnfinished rules.film next → ComesAfter (last part) next
         → lies_in depth tasks part next ≡ true → is_candidate rules cost next ≡ true → length lines + 1 ≤ few rules cost }
 {}
+
+/// Below a lesser cost there are at most as many candidates, in all and of each set: what is said of the
+/// number of candidates below what an order pays holds below what a dearer one pays.
+pub fn a_lesser_cost_has_fewer_candidates()
+    ensures few { (rules : Rules) (lesser cost : ℕ) → lesser ≤ cost → few rules lesser ≤ few rules cost }
+    ensures ways { (rules : Rules) (lesser cost set : ℕ) → lesser ≤ cost → ways rules lesser set ≤ ways rules cost set }
+{}

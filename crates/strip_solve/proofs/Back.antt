@@ -22,7 +22,7 @@ use Rattle.strip_proof.specs.declared.plan.Status.{Status}
 use Rattle.strip_proof.specs.declared.plan.Status.TheVariants.{Optimal, Bounded}
 use Rattle.strip_proof.specs.Plan.{PlanData}
 use Rattle.strip_check.specs.Accepted.{class_rules}
-use Rattle.strip_solve.specs.Solved.{AreRows, Closes, IsSolved, IsStart, RanOut}
+use Rattle.strip_solve.specs.Solved.{AreRows, Closes, IsSolved, IsStart, IsVaried, RanOut}
 use Rattle.strip_trim.proofs.Counted.{no_longer, no_more_of}
 use Rattle.strip_trim.proofs.Known.{justified, known_whole}
 
@@ -52,9 +52,10 @@ Tells ended Bounded = ended.bound ≢ ended.cost
 abbrev pub HasOptimum : FilmData → Type 0
 HasOptimum film = (cost : ℕ) × IsOptimum film cost
 
-module _ (kind : Kind) (film : FilmData) (most : ℕ) (start : PathData) (ended : EndedData) (stands : StandsFor film (reduced film))
-    (is_start : IsStart (reduced film).film start) (is : IsEnded kind (reduced film).film start most ended)
-    (optimum : HasOptimum (reduced film).film) (orders : few (class_rules kind film) start.paid ≤ 2 * factorial (length (reduced film).film.casts)) where
+module _ (kind : Kind) (film : FilmData) (most : ℕ) (start varied : PathData) (ended : EndedData) (stands : StandsFor film (reduced film))
+    (is_start : IsStart (reduced film).film start) (is_varied : IsVaried (reduced film).film start varied)
+    (is : IsEnded kind (reduced film).film varied most ended)
+    (optimum : HasOptimum (reduced film).film) (orders : few (class_rules kind film) varied.paid ≤ 2 * factorial (length (reduced film).film.casts)) where
   abbrev state : State
   state = reduced film
 
@@ -99,7 +100,7 @@ module _ (kind : Kind) (film : FilmData) (most : ℕ) (start : PathData) (ended 
       lines = lines;
     }
 
-    ran_out : ended.bound ≢ ended.cost → RanOut kind film most start plan
+    ran_out : ended.bound ≢ ended.cost → RanOut kind film most varied plan
     ran_out apart = elim (cases_Bool ended.spent) [
       | inl spent ↦ (let out = is.spent spent in record {
         below = omega (arith, bound_below, apart);
@@ -111,7 +112,7 @@ module _ (kind : Kind) (film : FilmData) (most : ℕ) (start : PathData) (ended 
       | inr unspent ↦ absurd (apart (is.closed unspent))
     ]
 
-    closes : (s : Status) → Tells ended s → Closes kind film most start plan s
+    closes : (s : Status) → Tells ended s → Closes kind film most varied plan s
     closes Optimal same = ap (λ (n : ℕ). n + state.apart) same
     closes Bounded apart = ran_out apart
 
@@ -127,6 +128,8 @@ module _ (kind : Kind) (film : FilmData) (most : ℕ) (start : PathData) (ended 
       few_lines = is.most;
       start = start;
       is_start = is_start;
+      varied = varied;
+      is_varied = is_varied;
       no_dearer = omega (arith, is.no_dearer);
       proof = record {
         found = ended.lines;
@@ -142,10 +145,10 @@ module _ (kind : Kind) (film : FilmData) (most : ℕ) (start : PathData) (ended 
     }
 
 -- the same by the state that the code has
-abbrev Solves : Kind → FilmData → ℕ → PathData → EndedData → List ℕ → Status → List Line → State → Type 0
-Solves kind film most start ended order status lines draft =
-    StandsFor film draft → IsStart draft.film start → IsEnded kind draft.film start most ended → HasOptimum draft.film
-    → few (rules_of kind draft.film) start.paid ≤ 2 * factorial (length draft.film.casts)
+abbrev Solves : Kind → FilmData → ℕ → PathData → PathData → EndedData → List ℕ → Status → List Line → State → Type 0
+Solves kind film most start varied ended order status lines draft =
+    StandsFor film draft → IsStart draft.film start → IsVaried draft.film start varied → IsEnded kind draft.film varied most ended
+    → HasOptimum draft.film → few (rules_of kind draft.film) varied.paid ≤ 2 * factorial (length draft.film.casts)
     → IsKeptOrder draft.film order → pay_of draft.film order ≡ pay_of draft.film ended.order → Tells ended status
     → AreRows (rules_of kind draft.film) status ended.lines lines
     → IsSolved kind film most (record {
@@ -158,8 +161,8 @@ Solves kind film most start ended order status lines draft =
       lines = lines;
     })
 
-pub solved_by : (kind : Kind) (film : FilmData) (most : ℕ) (start : PathData) (ended : EndedData) (order : List ℕ) (status : Status) (lines : List Line) (draft : State)
-    → draft ≡ reduced film → Solves kind film most start ended order status lines draft
-solved_by kind film most start ended order status lines draft same =
-    subst (Solves kind film most start ended order status lines) (sym same)
-    (λ stands is_start is optimum orders kept pays tells rows. solved kind film most start ended stands is_start is optimum orders order kept pays status tells lines rows)
+pub solved_by : (kind : Kind) (film : FilmData) (most : ℕ) (start varied : PathData) (ended : EndedData) (order : List ℕ) (status : Status) (lines : List Line) (draft : State)
+    → draft ≡ reduced film → Solves kind film most start varied ended order status lines draft
+solved_by kind film most start varied ended order status lines draft same =
+    subst (Solves kind film most start varied ended order status lines) (sym same)
+    (λ stands is_start is_varied is optimum orders kept pays tells rows. solved kind film most start varied ended stands is_start is_varied is optimum orders order kept pays status tells lines rows)

@@ -12,6 +12,7 @@ use Rattle.strip_team.specs.Shown.{ended_data}
 use Rattle.strip_proof.specs.declared.plan.Status.{Status}
 use Rattle.strip_proof.specs.declared.plan.Status.TheVariants.{Optimal, Bounded}
 use Rattle.strip_solve.specs.declared.solve.Searched.{Searched}
+use Rattle.strip_solve.specs.Solved.{IsVaried}
 
 -- lines are trimmed exactly where the bound is the cost
 abbrev pub IsTrimmed : Kind → FilmData → EndedData → Option (Vec Line Global) → Type 0
@@ -21,6 +22,12 @@ IsTrimmed kind film ended None = ended.bound ≢ ended.cost
 pub record IsSearched (kind : Kind) (film : FilmData) (start : PathData) (most : ℕ) (searched : Searched) : Type 0 where
   pub ended : IsEnded kind film start most (ended_data searched.ended)
   pub trimmed : IsTrimmed kind film (ended_data searched.ended) searched.trimmed
+
+-- the search of a film was begun with a path that varying the start gave
+pub record IsSearchedFrom (kind : Kind) (film : FilmData) (start : PathData) (most : ℕ) (searched : Searched) : Type 0 where
+  pub varied : PathData
+  pub is_varied : IsVaried film start varied
+  pub ends : IsSearched kind film varied most searched
 
 -- the status and the lines of a plan, by whether lines were trimmed
 abbrev pub IsProofOf : Option (Vec Line Global) → List Line → Status → List Line → Type 0

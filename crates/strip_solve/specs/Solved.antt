@@ -26,39 +26,45 @@ pub record IsStart (film : FilmData) (start : PathData) : Type 0 where
   pub is_greedy : IsGreedy film greedy
   pub improved : IsImproved film greedy start.scenes
 
+-- the path that the search begins with: one that varying the start gave, no dearer than it
+pub record IsVaried (film : FilmData) (start varied : PathData) : Type 0 where
+  pub complete : IsComplete film varied
+  pub no_dearer : varied.paid ≤ start.paid
+
 -- the lines that prove a bound, of those that a search held: all of them, or where the bound is the cost those that the bound needs
 abbrev pub AreRows : Rules → Status → List Line → List Line → Type 0
 AreRows rules Optimal found lines = AreTrimmed rules found lines
 AreRows rules Bounded found lines = lines ≡ found
 
 -- the lines are those that the bound needs of as many as were held; they are justified, and what they make known of all classes, with what
--- is set apart, reaches the bound; and as many as were held are at most the candidates of the start, as are the lines of each set
-pub record AreProof (kind : Kind) (film : FilmData) (start : PathData) (plan : PlanData) : Type 0 where
+-- is set apart, reaches the bound; and as many as were held are at most the candidates of the path that the search began with, as are the
+-- lines of each set
+pub record AreProof (kind : Kind) (film : FilmData) (begun : PathData) (plan : PlanData) : Type 0 where
   pub found : List Line
   pub held : plan.held ≡ length found
   pub rows : AreRows (class_rules kind film) plan.status found plan.lines
   pub justified : AreJustified (class_rules kind film) plan.lines
   pub reaches : plan.bound ≤ known (class_rules kind film) plan.lines (all_scenes (reduced film).film) + (reduced film).apart
   pub few_rows : length plan.lines ≤ plan.held
-  pub candidates : plan.held ≤ few (class_rules kind film) start.paid
-  pub sets : (set : ℕ) → count_by (λ line. line.set == set) plan.lines ≤ ways (class_rules kind film) start.paid set
+  pub candidates : plan.held ≤ few (class_rules kind film) begun.paid
+  pub sets : (set : ℕ) → count_by (λ line. line.set == set) plan.lines ≤ ways (class_rules kind film) begun.paid set
 
--- the lines that there may be were all made, though there are fewer than candidates of the start, and so than twice the orders of the
+-- the lines that there may be were all made, though there are fewer than candidates of the path that the search began with, and so than twice the orders of the
 -- classes; and the bound is at least the look-ahead of all classes with what is set apart
-pub record RanOut (kind : Kind) (film : FilmData) (most : ℕ) (start : PathData) (plan : PlanData) : Type 0 where
+pub record RanOut (kind : Kind) (film : FilmData) (most : ℕ) (begun : PathData) (plan : PlanData) : Type 0 where
   pub below : plan.bound < plan.cost
   pub full : plan.held ≡ most
-  pub fewer : most < few (class_rules kind film) start.paid
+  pub fewer : most < few (class_rules kind film) begun.paid
   pub orders : most < 2 * factorial (length (reduced film).film.casts)
   pub ahead_reached : ahead (class_rules kind film) (all_scenes (reduced film).film) + (reduced film).apart ≤ plan.bound
 
 -- an optimal plan's bound is its cost; else the lines ran out
 abbrev pub Closes : Kind → FilmData → ℕ → PathData → PlanData → Status → Type 0
-Closes kind film most start plan Optimal = plan.bound ≡ plan.cost
-Closes kind film most start plan Bounded = RanOut kind film most start plan
+Closes kind film most begun plan Optimal = plan.bound ≡ plan.cost
+Closes kind film most begun plan Bounded = RanOut kind film most begun plan
 
 -- a plan of the film by static bounds of this kind, and with this many lines at most: its order keeps the pairs and pays the cost, which
--- is no more than the start costs; no order that keeps the pairs pays less than the bound; the lines prove it; and its status holds
+-- is no more than the path costs that varying the start gave; no order that keeps the pairs pays less than the bound; the lines prove it; and its status holds
 pub record IsSolved (kind : Kind) (film : FilmData) (most : ℕ) (plan : PlanData) : Type 0 where
   pub same_kind : plan.kind ≡ kind
   pub order : IsKeptOrder film plan.order
@@ -67,6 +73,8 @@ pub record IsSolved (kind : Kind) (film : FilmData) (most : ℕ) (plan : PlanDat
   pub few_lines : plan.held ≤ most
   pub start : PathData
   pub is_start : IsStart (reduced film).film start
-  pub no_dearer : plan.cost ≤ start.paid + (reduced film).apart
-  pub proof : AreProof kind film start plan
-  pub closes : Closes kind film most start plan plan.status
+  pub varied : PathData
+  pub is_varied : IsVaried (reduced film).film start varied
+  pub no_dearer : plan.cost ≤ varied.paid + (reduced film).apart
+  pub proof : AreProof kind film varied plan
+  pub closes : Closes kind film most varied plan plan.status

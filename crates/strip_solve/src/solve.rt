@@ -10,10 +10,11 @@ ghost use Rattle.strip_reduce.specs.declared.fault.ReduceFault.TheVariants.{TooM
 ghost use Rattle.strip_reduce.specs.Law.{StandsFor};
 ghost use Rattle.strip_reduce.specs.Reduction.{class_count, reduced as reduction};
 ghost use Rattle.strip_reduce.specs.Shown.{reduced_data};
+ghost use Rattle.strip_bound.specs.Kept.{Keeps};
 ghost use Rattle.strip_proof.specs.Plan.{plan_data};
 ghost use Rattle.strip_proof.specs.Text.{IsReadablePlan};
-ghost use Rattle.strip_solve.specs.Searched.{IsProofOf, IsSearched};
-ghost use Rattle.strip_solve.specs.Solved.{IsSolved, IsStart};
+ghost use Rattle.strip_solve.specs.Searched.{IsProofOf, IsSearchedFrom};
+ghost use Rattle.strip_solve.specs.Solved.{IsSolved, IsStart, IsVaried};
 
 use std::alloc::Global;
 use strip_bound::{BoundTables, Kept, static_reach};
@@ -29,12 +30,16 @@ use strip_model::Instance;
 use strip_pay::laws::pays_stay_small;
 use strip_proof::{Plan, Status};
 use strip_reduce::{ReduceFault, Reduced, expand, orient, reduce};
-use strip_start::{greedy, improve};
+use strip_start::{greedy, improve, vary};
 use strip_team::{Ended, alone};
 use strip_trim::trim;
 
+/// How often the order that a search begins with is varied for each class, where nothing is said of it.
+const TRIES_A_CLASS: u32 = 5_000;
+
 /// A plan of the instance, found by one worker with static bounds of this kind, at most `nodes` lines, 1 to
-/// 16,777,216, and a table of `entries` entries, 64 to 4,194,304. `TooManyClasses` where more than 64
+/// 16,777,216, and a table of `entries` entries, 64 to 4,194,304. The order that the search begins with is varied
+/// by so many tries before, 5,000 for each class where none are given. `TooManyClasses` where more than 64
 /// classes are left. It takes room for the lines and entries before it searches.
 pub fn solve_alone(
     alloc: Global,
@@ -42,6 +47,7 @@ pub fn solve_alone(
     kind: Kind,
     nodes: u32,
     entries: u32,
+    tries: Option<u32>,
 ) -> Result<Plan, ReduceFault>
     requires nodes { (1 ≤ nodes) × (nodes ≤ 16777216) }
     requires entries { (64 ≤ entries) × (entries ≤ 4194304) }
@@ -55,7 +61,7 @@ pub fn solve_alone(
     the_rules_are_true();
     let reduced = reduce(alloc, inst)?;
     reduced.film.keeps_limits();
-    match solve_classes(alloc, &reduced, kind, nodes, entries) {
+    match solve_classes(alloc, &reduced, kind, nodes, entries, tries) {
         Ok(plan) => Ok(plan),
         Err(Memory) => Err(ReduceFault::Memory),
     }
@@ -68,14 +74,18 @@ fn solve_classes(
     kind: Kind,
     nodes: u32,
     entries: u32,
+    tries: Option<u32>,
 ) -> Result<Plan, Memory>
     requires nodes { (1 ≤ nodes) × (nodes ≤ 16777216) }
     requires entries { (64 ≤ entries) × (entries ≤ 4194304) }
     ensures { (film : FilmData) → reduced_data reduced.now ≡ reduction film → StandsFor film (reduced_data reduced.now)
         → IfOk result (λ plan. IsSolved kind film nodes (plan_data plan)) }
 {
-    let start = improve(&reduced.film, &greedy(&reduced.film));
-    let searched = search(alloc, &reduced.film, kind, &start, nodes, entries)?;
+    let film = &reduced.film;
+    film.keeps_limits();
+    let start = improve(film, &greedy(film));
+    let tries = tries.unwrap_or(TRIES_A_CLASS * film.scenes() as u32);
+    let searched = search(alloc, film, kind, &start, tries, nodes, entries)?;
     plan_of(alloc, reduced, kind, &start, nodes, searched)
 }
 
@@ -86,32 +96,48 @@ struct Searched {
     trimmed: Option<Vec<Line>>,
 }
 
-/// The end of the search of a film that starts with this path.
+/// The end of the search of a film that begins with what varying this path gives.
 fn search(
     alloc: Global,
     film: &Film,
     kind: Kind,
     start: &Path,
+    tries: u32,
     nodes: u32,
     entries: u32,
 ) -> Result<Searched, Memory>
     requires start { IsComplete film.now (path_data start.now) }
     requires nodes { (1 ≤ nodes) × (nodes ≤ 16777216) }
     requires entries { (64 ≤ entries) × (entries ≤ 4194304) }
-    ensures { IfOk result (IsSearched kind film.now (path_data start.now) nodes) }
+    ensures { IfOk result (IsSearchedFrom kind film.now (path_data start.now) nodes) }
 {
     let tables = BoundTables::of(alloc, film)?;
     let kept = Kept::new(film, kind, |q, need| {
         static_reach(film, &tables, kind, Mask(q), need)
     });
+    let begun = varied(&kept, start, tries);
     let mut memo = Memo::new(alloc, &kept)?;
-    let ended = alone(alloc, &kept, &mut memo, start, nodes, entries)?;
+    let ended = alone(alloc, &kept, &mut memo, &begun, nodes, entries)?;
     let trimmed = if ended.bound == ended.cost {
         Some(trim(alloc, &kept, &mut memo, &ended.lines)?)
     } else {
         None
     };
     Ok(Searched { ended, trimmed })
+}
+
+/// What varying the path gives; nothing is tried where the static bound of all scenes says that none is cheaper.
+fn varied<F: Fn(u64, u64) -> u64>(kept: &Kept<F>, start: &Path, tries: u32) -> Path
+    requires keeps { Keeps (F.pre kept.now.f) (F.post kept.now.f) kept.now.kind kept.now.film.now }
+    requires start { IsComplete kept.now.film.now (path_data start.now) }
+    ensures { IsVaried kept.now.film.now (path_data start.now) (path_data result) }
+{
+    let film = kept.film();
+    film.keeps_limits();
+    if kept.reach(film.all(), start.paid()) >= start.paid() {
+        return *start;
+    }
+    vary(film, start, tries)
 }
 
 /// The plan of the instance that the end of its classes' search stands for.
@@ -124,7 +150,7 @@ fn plan_of(
     searched: Searched,
 ) -> Result<Plan, Memory>
     requires start { IsStart reduced.now.film (path_data start.now) }
-    requires searched { IsSearched kind reduced.now.film (path_data start.now) nodes searched }
+    requires searched { IsSearchedFrom kind reduced.now.film (path_data start.now) nodes searched }
     ensures { (film : FilmData) → reduced_data reduced.now ≡ reduction film → StandsFor film (reduced_data reduced.now)
         → IfOk result (λ plan. IsSolved kind film nodes (plan_data plan)) }
 {

@@ -1,11 +1,17 @@
-//! The order that a search begins with, found quickly: a greedy one, improved by moves.
+//! The order that a search begins with, found quickly: a greedy one, improved by moves and then varied.
 #![tactic(auto)]
 
+mod change;
 mod choose;
+mod draws;
 pub mod laws;
 mod moves;
+mod order;
+mod prices;
 mod scan;
 mod sides;
+mod varying;
 
 pub use choose::greedy;
 pub use moves::improve;
+pub use varying::vary;

@@ -31,10 +31,10 @@ use Rattle.strip_top.specs.Plan.{exit_of, text_of}
 use Rattle.strip_top.specs.Solve.{IsAnswerTo, IsSolveAnswer, IsSolveDue}
 
 -- the status of a plan that was found tells whether its bound is its cost
-status_tells : (kind : Kind) (film : FilmData) (most : ℕ) (start : PathData) (plan : PlanData) (status : PlanStatus) → Closes kind film most start plan status
+status_tells : (kind : Kind) (film : FilmData) (most : ℕ) (begun : PathData) (plan : PlanData) (status : PlanStatus) → Closes kind film most begun plan status
     → (status ≡ Optimal) ↔ (plan.bound ≡ plan.cost)
-status_tells kind film most start plan Optimal closes = ((λ is. closes), (λ is. refl))
-status_tells kind film most start plan CutShort closes =
+status_tells kind film most begun plan Optimal closes = ((λ is. closes), (λ is. refl))
+status_tells kind film most begun plan CutShort closes =
     ((λ is. absurd (let e : CutShort ≡ Optimal = is in cc)), (λ is. absurd (omega (arith, is, closes.below))))
 
 -- a plan that was found is accepted by a checker
@@ -47,7 +47,7 @@ solved_accepted kind film most plan solved = record {
       let reached = solved.proof.reaches in
       subst (λ k. plan.bound ≤ (reduced film).apart + known (class_rules k film) plan.lines (all_scenes (reduced film).film)) (sym solved.same_kind)
       (omega (arith, reached));
-  status = status_tells kind film most solved.start plan plan.status solved.closes;
+  status = status_tells kind film most solved.varied plan plan.status solved.closes;
 }
 
 proved_text : (proof : Bool) (inst : InstanceData) (plan : PlanData) → proof ≡ true → text_of proof inst plan ≡ plan_text inst plan

@@ -1,5 +1,5 @@
 -- What the program claims of its jobs. Each command has a line in each definition by jobs.
-use Rattle.std.specs.Prelude.{◌≡◌, ◌⊎◌, ◌<◌, ◌≤◌, List, ℕ}
+use Rattle.std.specs.Prelude.{◌≡◌, ◌⊎◌, ◌<◌, ◌≤◌, List, IfSome, ℕ}
 use Rattle.strip_model.specs.Film.{film_of}
 use Rattle.strip_reduce.specs.Reduction.{class_count}
 use Rattle.strip_reports.specs.Text.{dood_text}
@@ -30,13 +30,16 @@ IsFileOf (Trial job) file = ⊥
 
 -- the job's numbers lie within their ends
 abbrev pub IsWithin : JobData → Type 0
-IsWithin (Solve job) = (1 ≤ job.nodes) × (job.nodes ≤ 16777216) × (64 ≤ job.table) × (job.table ≤ 4194304)
+IsWithin (Solve job) =
+    (1 ≤ job.nodes) × (job.nodes ≤ 16777216) × (64 ≤ job.table) × (job.table ≤ 4194304) × IfSome job.tries (λ tries. tries ≤ 100000000)
 IsWithin (Check files) = Unit {0}
 IsWithin (Convert files) = Unit {0}
 IsWithin (Dood files) = Unit {0}
 IsWithin (Sheet files) = Unit {0}
 IsWithin (Gen film) = IsSized film
-IsWithin (Trial job) = IsSized job.film × (1 ≤ job.nodes) × (job.nodes ≤ 16777216) × (64 ≤ job.table) × (job.table ≤ 4194304)
+IsWithin (Trial job) =
+    IsSized job.film × (1 ≤ job.nodes) × (job.nodes ≤ 16777216) × (64 ≤ job.table) × (job.table ≤ 4194304)
+    × IfSome job.tries (λ tries. tries ≤ 100000000)
 
 -- what is due for the job
 abbrev pub IsDueFor : JobData → FilesData → FilesData → Status → List ℕ → Type 0

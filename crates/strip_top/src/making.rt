@@ -13,7 +13,7 @@ ghost use Rattle.strip_top.specs.Made.{IsGenDue, IsTrialDue, made_of, trial_row}
 ghost use Rattle.strip_top.specs.Plan.{exit_of};
 
 use crate::reports::printed;
-use crate::solve::status_of;
+use crate::solve::{status_of, tries_of};
 use std::alloc::Global;
 use strip_answer::Answer;
 use strip_canonical::write_instance;
@@ -74,7 +74,15 @@ fn try_classes(
     requires few { classes ≤ 64 }
     ensures { IfOk result (λ answer. IsTrialDue (trial_data job.now) answer.status (answer_text answer)) }
 {
-    match solve_alone(alloc, inst, job.kind, job.nodes as u32, job.table as u32) {
+    let tries = tries_of(job.tries);
+    match solve_alone(
+        alloc,
+        inst,
+        job.kind,
+        job.nodes as u32,
+        job.table as u32,
+        tries,
+    ) {
         Ok(plan) => try_plan(alloc, inst, job, classes, &plan),
         Err(ReduceFault::TooManyClasses { .. }) => unreachable!("there are at most 64 classes"),
         Err(ReduceFault::Memory) => Err(Memory),

@@ -1,5 +1,5 @@
 // The command `solve`.
-ghost use Rattle.std.specs.Prelude.{◌≡◌, ◌<◌, length, string_bytes, All, Err, IfOk};
+ghost use Rattle.std.specs.Prelude.{◌≡◌, ◌<◌, ◌≤◌, length, string_bytes, All, Err, IfOk, IfSome};
 ghost use Rattle.strip_io.specs.Counts.{ReadFailed};
 ghost use Rattle.strip_words.specs.Shown.{solve_data};
 ghost use Rattle.strip_words.specs.Jobs.{Solve as ToSolve};
@@ -50,10 +50,29 @@ fn solve_instance(alloc: Global, inst: &Instance, job: &SolveJob) -> Result<Answ
     ensures { IfOk result (λ answer. IsSolveAnswer (solve_data job.now) inst.now answer.status (answer_text answer)) }
 {
     written_plans_read_back();
-    match solve_alone(alloc, inst, job.kind, job.nodes as u32, job.table as u32) {
+    let tries = tries_of(job.tries);
+    match solve_alone(
+        alloc,
+        inst,
+        job.kind,
+        job.nodes as u32,
+        job.table as u32,
+        tries,
+    ) {
         Ok(plan) => answer_plan(alloc, inst, plan, job.proof),
         Err(ReduceFault::TooManyClasses { count }) => too_many_classes(alloc, count),
         Err(ReduceFault::Memory) => Err(Memory),
+    }
+}
+
+/// How often the order that a search begins with is varied, where a job says it.
+pub(crate) fn tries_of(tries: Option<u64>) -> Option<u32>
+    requires { IfSome tries (λ number. number ≤ 100000000) }
+    ensures { result ≡ tries }
+{
+    match tries {
+        Some(number) => Some(number as u32),
+        None => None,
     }
 }
 

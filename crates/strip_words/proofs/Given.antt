@@ -1,9 +1,9 @@
 -- The values that items give.
-use Rattle.std.proofs.Common.{◌≡◌, ℕ, ◌≤◌, Option, None, Some, List, [], ◌∷◌, length, All, Any, Contains, take, take_all, inl, inr, sym, ap, ◌∙◌, subst}
+use Rattle.std.proofs.Common.{◌≡◌, ℕ, ◌≤◌, Option, None, Some, List, [], ◌∷◌, length, All, Any, Contains, take, take_all, inl, inr, refl, sym, ap, ◌∙◌, subst}
 use Rattle.std.specs.List.{cons_option}
 use Rattle.strip_words.specs.declared.item.Item.{Item as CodeItem}
 use Rattle.strip_words.specs.Words.{Word, Item, Operand, Joined, Apart, Flag, option_of, options_in, AreDistinct}
-use Rattle.strip_words.specs.Options.{Gives, IsLeftOut, IsNumber, NumberOption, ChoiceOption, IsChosen, IsPicked}
+use Rattle.strip_words.specs.Options.{Gives, IsLeftOut, IsNumber, NumberOption, FreeOption, ChoiceOption, IsChosen, IsGiven, IsPicked}
 use Rattle.strip_words.specs.Shown.{item_data, items_data}
 use Rattle.strip_words.proofs.Members.{any_none, any_cases, any_map, any_kept, any_weaker}
 
@@ -60,6 +60,12 @@ not_chosen option value items distinct given none n (inl left) = left.0 value gi
 not_chosen option value items distinct given none n (inr some) =
     none n (subst (λ (w : Word). IsNumber option.least option.most w n) (given_once option.name some.0 value items distinct some.1 given) some.2)
 
+pub not_given : (option : FreeOption) (value : Word) (items : List Item) → AreDistinct (options_in items) → Any (Gives option.name value) items
+    → ((n : ℕ) → ¬ IsNumber option.least option.most value n) → (n : Option ℕ) → ¬ IsGiven option items n
+not_given option value items distinct given none None left = left value given
+not_given option value items distinct given none (Some n) some =
+    none n (subst (λ (w : Word). IsNumber option.least option.most w n) (given_once option.name some.0 value items distinct some.1 given) some.2)
+
 pub not_picked : (option : ChoiceOption) (value : Word) (items : List Item) → AreDistinct (options_in items) → Any (Gives option.name value) items
     → (¬ Contains option.choices value) → (word : Word) → ¬ IsPicked option items word
 not_picked option value items distinct given absent word (inl left) = left.0 value given
@@ -73,6 +79,17 @@ chosen_once option items a b distinct (inl one) (inl two) = one.1 ∙ sym two.1
 chosen_once option items a b distinct (inl one) (inr two) = absurd (one.0 two.0 two.1)
 chosen_once option items a b distinct (inr one) (inl two) = absurd (two.0 one.0 one.1)
 chosen_once option items a b distinct (inr one) (inr two) =
+    let same : one.0 ≡ two.0 = given_once option.name one.0 two.0 items distinct one.1 two.1 in
+    let a_is = one.2.value in
+    let b_is = two.2.value in
+    cc
+
+pub given_number_once : (option : FreeOption) (items : List Item) (a b : Option ℕ) → AreDistinct (options_in items)
+    → IsGiven option items a → IsGiven option items b → a ≡ b
+given_number_once option items None None distinct one two = refl
+given_number_once option items None (Some b) distinct one two = absurd (one two.0 two.1)
+given_number_once option items (Some a) None distinct one two = absurd (two one.0 one.1)
+given_number_once option items (Some a) (Some b) distinct one two =
     let same : one.0 ≡ two.0 = given_once option.name one.0 two.0 items distinct one.1 two.1 in
     let a_is = one.2.value in
     let b_is = two.2.value in

@@ -1,5 +1,5 @@
 -- Names of options, and which item words begin with.
-use Rattle.std.proofs.Common.{◌≡◌, ℕ, Bool, true, false, not, eqb, nat_lt, ◌&&◌, List, [], ◌∷◌, ◌++◌, length, take, All, Contains, ◌⊎◌, inl, inr, refl, sym, ap, ap₂, ◌∙◌, subst, codes, bytes_eq, true≢false, append-nil}
+use Rattle.std.proofs.Common.{◌≡◌, ℕ, Bool, true, not, eqb, nat_lt, ◌&&◌, List, [], ◌∷◌, ◌++◌, length, take, All, Contains, ◌⊎◌, inl, inr, refl, sym, ap, ap₂, ◌∙◌, subst, codes, bytes_eq, true≢false, append-nil}
 use Rattle.std.specs.List.{list_any, list_all, AllByRecursion}
 use Rattle.std.proofs.lemmas.List.Elements.{All-contains, All-from_recursion, Contains-append_right}
 use Rattle.std.proofs.lemmas.Slice.Eq.{bytes_eq-Decides}

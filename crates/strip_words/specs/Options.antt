@@ -1,5 +1,5 @@
 -- What the options among the items say.
-use Rattle.std.specs.Prelude.{◌≡◌, ◌≢◌, ℕ, ◌+◌, ◌*◌, ◌-◌, ◌≤◌, ◌⊎◌, List, [], ◌∷◌, All, Any, Contains}
+use Rattle.std.specs.Prelude.{◌≡◌, ◌≢◌, ℕ, ◌+◌, ◌*◌, ◌-◌, ◌≤◌, ◌⊎◌, Option, None, Some, List, [], ◌∷◌, All, Any, Contains}
 use Rattle.strip_words.specs.Words.{Word, Item, Operand, Joined, Apart, Flag}
 
 -- the item gives the option this value
@@ -32,6 +32,12 @@ pub record NumberOption : Type 0 where
   pub most : ℕ
   pub default : ℕ
 
+-- an option whose value is a number within two ends, and which may say nothing
+pub record FreeOption : Type 0 where
+  pub name : Word
+  pub least : ℕ
+  pub most : ℕ
+
 -- an option whose value is one of a few words, and the word where the option is left out
 pub record ChoiceOption : Type 0 where
   pub name : Word
@@ -43,6 +49,11 @@ abbrev pub IsChosen : NumberOption → List Item → ℕ → Type 0
 IsChosen option items n =
     (IsLeftOut option.name items × (n ≡ option.default))
     ⊎ ((value : Word) × Any (Gives option.name value) items × IsNumber option.least option.most value n)
+
+-- the option's number, where it has one
+abbrev pub IsGiven : FreeOption → List Item → Option ℕ → Type 0
+IsGiven option items None = IsLeftOut option.name items
+IsGiven option items (Some n) = (value : Word) × Any (Gives option.name value) items × IsNumber option.least option.most value n
 
 -- the option's word
 abbrev pub IsPicked : ChoiceOption → List Item → Word → Type 0

@@ -4,16 +4,17 @@ use Rattle.std.specs.Borrow.{Bor}
 use Rattle.std.specs.List.{filter_map}
 use Rattle.std.specs.declared.alloc.Global.{Global}
 use Rattle.strip_words.specs.Words.{Word, Command as CommandData, Item as ItemData, Operand as AnOperand, Joined as AJoined, Apart as AnApart, Flag as AFlag}
-use Rattle.strip_words.specs.Options.{NumberOption as NumberData, ChoiceOption as ChoiceData}
+use Rattle.strip_words.specs.Options.{NumberOption as NumberData, FreeOption as FreeData, ChoiceOption as ChoiceData}
 use Rattle.strip_words.specs.Solve.{SolveData}
 use Rattle.strip_words.specs.Plans.{PlanFilesData}
 use Rattle.strip_words.specs.Gen.{GenData, TrialData}
 use Rattle.strip_words.specs.Jobs.{JobData, Solve as ToSolve, Check as ToCheck, Convert as ToConvert, Dood as ToDood, Sheet as ToSheet, Gen as ToGen, Trial as ToTrial}
 use Rattle.strip_words.specs.declared.command.Command.{Command}
 use Rattle.strip_words.specs.declared.command.NumberOption.{NumberOption}
+use Rattle.strip_words.specs.declared.command.FreeOption.{FreeOption}
 use Rattle.strip_words.specs.declared.command.ChoiceOption.{ChoiceOption}
 use Rattle.strip_words.specs.declared.command.CommandOption.{CommandOption}
-use Rattle.strip_words.specs.declared.command.CommandOption.TheVariants.{Number, Choice, Flag as FlagOption}
+use Rattle.strip_words.specs.declared.command.CommandOption.TheVariants.{Number, Free, Choice, Flag as FlagOption}
 use Rattle.strip_words.specs.declared.solve.SolveJob.{SolveJob}
 use Rattle.strip_words.specs.declared.plans.PlanFiles.{PlanFiles}
 use Rattle.strip_words.specs.declared.making.GenJob.{GenJob}
@@ -32,16 +33,21 @@ strs words = map (λ word. word.now) words
 
 abbrev pub valued_name : CommandOption → Option Word
 valued_name (Number option) = Some option.name.now
+valued_name (Free option) = Some option.name.now
 valued_name (Choice option) = Some option.name.now
 valued_name (FlagOption name) = None
 
 abbrev pub flag_name : CommandOption → Option Word
 flag_name (Number option) = None
+flag_name (Free option) = None
 flag_name (Choice option) = None
 flag_name (FlagOption name) = Some name.now
 
 abbrev pub number_data : NumberOption → NumberData
 number_data option = record { name = option.name.now; least = option.least; most = option.most; default = option.default }
+
+abbrev pub free_data : FreeOption → FreeData
+free_data option = record { name = option.name.now; least = option.least; most = option.most }
 
 abbrev pub choice_data : ChoiceOption → ChoiceData
 choice_data option = record { name = option.name.now; choices = strs option.choices.now; default = option.default.now }
@@ -75,6 +81,7 @@ solve_data job = record {
   workers = job.workers;
   nodes = job.nodes;
   table = job.table;
+  tries = job.tries;
   kind = job.kind;
   proof = job.proof;
 }
@@ -88,7 +95,7 @@ abbrev pub gen_data : GenJob → GenData
 gen_data job = record { number = job.number; scenes = job.scenes; actors = job.actors }
 
 abbrev pub trial_data : TrialJob → TrialData
-trial_data job = record { film = gen_data job.film; nodes = job.nodes; table = job.table; kind = job.kind }
+trial_data job = record { film = gen_data job.film; nodes = job.nodes; table = job.table; tries = job.tries; kind = job.kind }
 
 abbrev pub job_data : Job → JobData
 job_data (Solve job) = ToSolve (solve_data job)

@@ -1,7 +1,7 @@
 -- The words of `solve`, and the job that they name.
 use Rattle.std.specs.Prelude.{◌≡◌, ◌↔◌, ℕ, Bool, true, Option, List, [], ◌∷◌, Contains, codes}
 use Rattle.strip_words.specs.Words.{Word, Command, Item, Flag, IsSpelled, operands_of}
-use Rattle.strip_words.specs.Options.{NumberOption, ChoiceOption, IsChosen, IsPicked}
+use Rattle.strip_words.specs.Options.{NumberOption, FreeOption, ChoiceOption, IsChosen, IsGiven, IsPicked}
 use Rattle.strip_kind.specs.declared.kind.Kind.{Kind}
 use Rattle.strip_kind.specs.declared.kind.Kind.TheVariants.{Plain, Pairs, Groups, Arrivals}
 
@@ -14,6 +14,9 @@ nodes_option = record { name = codes "--nodes"; least = 1; most = 16777216; defa
 abbrev pub table_option : NumberOption
 table_option = record { name = codes "--table"; least = 64; most = 4194304; default = 65536 }
 
+abbrev pub tries_option : FreeOption
+tries_option = record { name = codes "--tries"; least = 0; most = 100000000 }
+
 abbrev pub bounds_option : ChoiceOption
 bounds_option = record { name = codes "--bounds"; choices = codes "plain" ∷ codes "pairs" ∷ codes "groups" ∷ codes "arrivals" ∷ []; default = codes "pairs" }
 
@@ -24,7 +27,7 @@ abbrev pub solve : Command
 solve = record {
   word = codes "solve";
   operands = 1;
-  valued = workers_option.name ∷ nodes_option.name ∷ table_option.name ∷ bounds_option.name ∷ [];
+  valued = workers_option.name ∷ nodes_option.name ∷ table_option.name ∷ tries_option.name ∷ bounds_option.name ∷ [];
   flags = proof_flag ∷ [];
 }
 
@@ -35,12 +38,14 @@ bound_word Pairs = codes "pairs"
 bound_word Groups = codes "groups"
 bound_word Arrivals = codes "arrivals"
 
--- a job to solve a file: how many workers, the greatest number of lines, the table's entries, the static bound, and whether line rows are written
+-- a job to solve a file: how many workers, the greatest number of lines, the table's entries, how often the start is
+-- varied where the words say it, the static bound, and whether line rows are written
 pub record SolveData : Type 0 where
   pub file : Word
   pub workers : ℕ
   pub nodes : ℕ
   pub table : ℕ
+  pub tries : Option ℕ
   pub kind : Kind
   pub proof : Bool
 
@@ -50,6 +55,7 @@ pub record SayJob (items : List Item) (rest : Option (List Word)) (job : SolveDa
   pub workers : IsChosen workers_option items job.workers
   pub nodes : IsChosen nodes_option items job.nodes
   pub table : IsChosen table_option items job.table
+  pub tries : IsGiven tries_option items job.tries
   pub kind : IsPicked bounds_option items (bound_word job.kind)
   pub proof : (job.proof ≡ true) ↔ Contains items (Flag proof_flag)
 

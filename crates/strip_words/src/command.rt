@@ -11,6 +11,7 @@ pub(crate) struct Command {
 /// An option of a command. A flag has no value.
 pub(crate) enum CommandOption {
     Number(NumberOption),
+    Free(FreeOption),
     Choice(ChoiceOption),
     Flag(&'static str),
 }
@@ -22,6 +23,14 @@ pub(crate) struct NumberOption {
     pub(crate) least: u64,
     pub(crate) most: u64,
     pub(crate) default: u64,
+}
+
+/// An option whose value is a number within two ends, and which says nothing where it is left out.
+#[derive(Clone, Copy)]
+pub(crate) struct FreeOption {
+    pub(crate) name: &'static str,
+    pub(crate) least: u64,
+    pub(crate) most: u64,
 }
 
 /// An option whose value is one of a few words.
@@ -42,6 +51,7 @@ impl Command {
     {
         self.options.iter().any(|option| match option {
             CommandOption::Number(option) => option.name == name,
+            CommandOption::Free(option) => option.name == name,
             CommandOption::Choice(option) => option.name == name,
             CommandOption::Flag(_) => false,
         })

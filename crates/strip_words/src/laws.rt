@@ -1,5 +1,5 @@
 //! Laws of the definitions. Each function does nothing: its contract is the law.
-ghost use Rattle.std.specs.Prelude.{◌≡◌, ◌≤◌, List};
+ghost use Rattle.std.specs.Prelude.{◌≡◌, ◌≤◌, List, IfSome};
 ghost use Rattle.strip_words.specs.Words.{Word};
 ghost use Rattle.strip_words.specs.Jobs.{JobData, NameJob};
 ghost use Rattle.strip_words.specs.Solve.{NameSolve, SolveData};
@@ -16,7 +16,9 @@ pub fn numbers_lie_within_their_ends()
     ensures workers { (words : List Word) (job : SolveData) → NameSolve words job → (1 ≤ job.workers) × (job.workers ≤ 64) }
     ensures nodes { (words : List Word) (job : SolveData) → NameSolve words job → (1 ≤ job.nodes) × (job.nodes ≤ 16777216) }
     ensures table { (words : List Word) (job : SolveData) → NameSolve words job → (64 ≤ job.table) × (job.table ≤ 4194304) }
+    ensures tries { (words : List Word) (job : SolveData) → NameSolve words job → IfSome job.tries (λ tries. tries ≤ 100000000) }
     ensures film { (words : List Word) (film : GenData) → NameGen words film → IsSized film }
     ensures trial { (words : List Word) (job : TrialData) → NameTrial words job
-        → IsSized job.film × (1 ≤ job.nodes) × (job.nodes ≤ 16777216) × (64 ≤ job.table) × (job.table ≤ 4194304) }
+        → IsSized job.film × (1 ≤ job.nodes) × (job.nodes ≤ 16777216) × (64 ≤ job.table) × (job.table ≤ 4194304)
+        × IfSome job.tries (λ tries. tries ≤ 100000000) }
 {}

@@ -8,7 +8,7 @@ use crate::WordsFault;
 use crate::command::{Command, CommandOption};
 use crate::number::number_of;
 use crate::reader::read;
-use crate::solve::{BOUNDS, NODES, TABLE, kind_of};
+use crate::solve::{BOUNDS, NODES, TABLE, TRIES, kind_of};
 use std::alloc::Global;
 use strip_kind::Kind;
 
@@ -24,6 +24,7 @@ const TRIAL: Command = Command {
     options: &[
         CommandOption::Number(NODES),
         CommandOption::Number(TABLE),
+        CommandOption::Free(TRIES),
         CommandOption::Choice(BOUNDS),
     ],
 };
@@ -46,6 +47,8 @@ pub struct TrialJob {
     pub nodes: u64,
     /// How many entries the table has, 64 to 4,194,304.
     pub table: u64,
+    /// How often the order that the search begins with is varied, 0 to 100,000,000, where the words say it.
+    pub tries: Option<u64>,
     /// The static bound.
     pub kind: Kind,
 }
@@ -69,6 +72,7 @@ pub(crate) fn trial_job(alloc: Global, later: &[String]) -> Result<TrialJob, Wor
     let items = reading.items.as_slice();
     let nodes = NODES.chosen(items)?;
     let table = TABLE.chosen(items)?;
+    let tries = TRIES.given(items)?;
     let kind = kind_of(BOUNDS.picked(items)?);
     let operands = reading.operands(alloc)?;
     let film = film_named(operands.as_slice())?;
@@ -76,6 +80,7 @@ pub(crate) fn trial_job(alloc: Global, later: &[String]) -> Result<TrialJob, Wor
         film,
         nodes,
         table,
+        tries,
         kind,
     })
 }

@@ -1,11 +1,11 @@
 // What the options among the items say.
-ghost use Rattle.std.specs.Prelude.{◌↔◌, ℕ, IsTrue, IfOk, IfErr, IfSome, IfNone, Any, Contains};
+ghost use Rattle.std.specs.Prelude.{◌↔◌, ℕ, Option, IsTrue, IfOk, IfErr, IfSome, IfNone, Any, Contains};
 ghost use Rattle.strip_words.specs.Words.{Word, Flag as AFlag, AreDistinct, options_in};
-ghost use Rattle.strip_words.specs.Options.{Gives, IsLeftOut, IsChosen, IsPicked};
-ghost use Rattle.strip_words.specs.Shown.{number_data, choice_data, items_data};
+ghost use Rattle.strip_words.specs.Options.{Gives, IsLeftOut, IsChosen, IsGiven, IsPicked};
+ghost use Rattle.strip_words.specs.Shown.{number_data, free_data, choice_data, items_data};
 
 use crate::WordsFault;
-use crate::command::{ChoiceOption, NumberOption};
+use crate::command::{ChoiceOption, FreeOption, NumberOption};
 use crate::item::Item;
 use crate::number::number_of;
 
@@ -19,6 +19,23 @@ impl NumberOption {
         match value_of(items, self.name) {
             None => Ok(self.default),
             Some(value) => number_of(value, self.least, self.most).ok_or(WordsFault::BadWords),
+        }
+    }
+}
+
+impl FreeOption {
+    /// The option's number, where it isn't left out.
+    pub(crate) fn given(&self, items: &[Item]) -> Result<Option<u64>, WordsFault>
+        requires { AreDistinct (options_in (items_data items.now)) }
+        ensures ok { IfOk result (IsGiven (free_data self.now) (items_data items.now)) }
+        ensures bad { IfErr result (λ e. (n : Option ℕ) → ¬ IsGiven (free_data self.now) (items_data items.now) n) }
+    {
+        match value_of(items, self.name) {
+            None => Ok(None),
+            Some(value) => match number_of(value, self.least, self.most) {
+                Some(number) => Ok(Some(number)),
+                None => Err(WordsFault::BadWords),
+            },
         }
     }
 }

@@ -5,7 +5,7 @@ ghost use Rattle.strip_words.specs.Solve.{SolveData, NameSolve, bounds_option, b
 ghost use Rattle.strip_words.specs.Shown.{texts, solve_data};
 
 use crate::WordsFault;
-use crate::command::{ChoiceOption, Command, CommandOption, NumberOption};
+use crate::command::{ChoiceOption, Command, CommandOption, FreeOption, NumberOption};
 use crate::options::has_flag;
 use crate::reader::read;
 use std::alloc::Global;
@@ -18,6 +18,7 @@ const SOLVE: Command = Command {
         CommandOption::Number(WORKERS),
         CommandOption::Number(NODES),
         CommandOption::Number(TABLE),
+        CommandOption::Free(TRIES),
         CommandOption::Choice(BOUNDS),
         CommandOption::Flag(PROOF),
     ],
@@ -44,6 +45,12 @@ pub(crate) const TABLE: NumberOption = NumberOption {
     default: 65_536,
 };
 
+pub(crate) const TRIES: FreeOption = FreeOption {
+    name: "--tries",
+    least: 0,
+    most: 100_000_000,
+};
+
 pub(crate) const BOUNDS: ChoiceOption = ChoiceOption {
     name: "--bounds",
     choices: &["plain", "pairs", "groups", "arrivals"],
@@ -63,6 +70,8 @@ pub struct SolveJob {
     pub nodes: u64,
     /// How many entries the table has, 64 to 4,194,304.
     pub table: u64,
+    /// How often the order that the search begins with is varied, 0 to 100,000,000, where the words say it.
+    pub tries: Option<u64>,
     /// The static bound.
     pub kind: Kind,
     /// Whether the plan's line rows are printed.
@@ -79,6 +88,7 @@ pub(crate) fn solve_job(alloc: Global, later: &[String]) -> Result<SolveJob, Wor
     let workers = WORKERS.chosen(items)?;
     let nodes = NODES.chosen(items)?;
     let table = TABLE.chosen(items)?;
+    let tries = TRIES.given(items)?;
     let kind = kind_of(BOUNDS.picked(items)?);
     let proof = has_flag(items, PROOF);
     let operands = reading.operands(alloc)?;
@@ -88,6 +98,7 @@ pub(crate) fn solve_job(alloc: Global, later: &[String]) -> Result<SolveJob, Wor
         workers,
         nodes,
         table,
+        tries,
         kind,
         proof,
     })

@@ -6,7 +6,12 @@ use strip_instance::read_instance;
 use strip_model::{Actor, Instance, Pair, Scene};
 
 // Texts, and the canonical texts of what they say.
-const CANONICAL: [(&str, &str); 11] = [
+const CANONICAL: [(&str, &str); 12] = [
+    // the film of docs/FORMATS.md
+    (
+        "scene,days,Ann Lee,\"Bo, Jr\",Cleo\nrate,,900,400,0\n\"INT. HOUSE, DAY\",2,x,x,\nEXT. ROAD,1,X,.,-\n12A,03,,1,0\n",
+        "scene,days,Ann Lee,\"Bo, Jr\",Cleo\nrate,,900,400,0\n\"INT. HOUSE, DAY\",2,x,x,.\nEXT. ROAD,1,x,.,.\n12A,3,.,x,.\n",
+    ),
     (
         "\u{feff}scene,days,a,b\r\nrate,,10,20\r\n s1 , 1 , x , .\r\ns2,1,X,x\r\n",
         "scene,days,a,b\nrate,,10,20\ns1,1,x,.\ns2,1,x,x\n",

@@ -34,14 +34,16 @@ returns c film same stands =
     let classes : FilmData = c.args.reduced.now.film in
     let ended : EndedData = ended_data c.args.searched.ended in
     let start : PathData = path_data c.args.start.now in
+    let varied : PathData = c.requires.searched.varied in
+    let searched = c.requires.searched.ends in
     let finish = c.a_least_tail_exists.ensures classes (all_scenes classes) c.keeps_limits.ensures (IsSet-full (length classes.casts) c.keeps_limits.ensures.scene_count.1) in
     let optimum : HasOptimum classes = (finish.0, (c.finishing_everything_is_the_optimum.ensures classes finish.0 c.keeps_limits.ensures).0 finish.1) in
-    let most = c.paths_are_few.ensures.most classes (is_candidate (rules_of c.args.kind classes) start.paid) c.keeps_limits.ensures in
-    let orders : few (rules_of c.args.kind classes) start.paid ≤ 2 * factorial (length classes.casts)
+    let most = c.paths_are_few.ensures.most classes (is_candidate (rules_of c.args.kind classes) varied.paid) c.keeps_limits.ensures in
+    let orders : few (rules_of c.args.kind classes) varied.paid ≤ 2 * factorial (length classes.casts)
     = omega (arith, most, c.paths_are_few.ensures.orders (length classes.casts)) in
     let status = c.proof_of-status.result.0 in
     let lines = c.proof_of-status.result.1.items in
-    let so = tells_so c.args.kind classes ended c.args.searched.trimmed status lines c.requires.searched.trimmed c.proof_of-status.ensures in
+    let so = tells_so c.args.kind classes ended c.args.searched.trimmed status lines searched.trimmed c.proof_of-status.ensures in
     subst (λ (order : List ℕ). IsSolved c.args.kind film c.args.nodes (record {
       status = status;
       kind = c.args.kind;
@@ -52,5 +54,5 @@ returns c film same stands =
       lines = lines;
     }))
     (ap (way_back (reduced_data c.args.reduced.now).members) (sym c.deref.ensures.value) ∙ sym c.in_ok-expand.ensures)
-    (solved_by c.args.kind film c.args.nodes start ended c.oriented-order.result.items status lines (reduced_data c.args.reduced.now) same stands
-    c.requires.start c.requires.searched.ended optimum orders c.oriented-order.ensures.kept c.oriented-order.ensures.pay so.0 so.1)
+    (solved_by c.args.kind film c.args.nodes start varied ended c.oriented-order.result.items status lines (reduced_data c.args.reduced.now) same stands
+    c.requires.start c.requires.searched.is_varied searched.ended optimum orders c.oriented-order.ensures.kept c.oriented-order.ensures.pay so.0 so.1)

@@ -28,6 +28,11 @@ returns-in_err-table-clause-bad c = if_err c.from_residual-in_err-table.result _
     c.in_err-table.ensures.bad job.table
     (said_by_items (codes "solve" ∷ texts c.args.later.now) c.in_ok-reading.reading.items.items c.as_slice-items.result.now (rest_data c.in_ok-reading.reading.rest) job c.as_slice-items.ensures.value c.in_ok-reading.ensures.ok names).table)
 
+pub returns-in_err-tries-clause-bad : goal.returns-in_err-tries-clause-bad
+returns-in_err-tries-clause-bad c = if_err c.from_residual-in_err-tries.result _ (λ e is job names.
+    c.in_err-tries.ensures.bad job.tries
+    (said_by_items (codes "solve" ∷ texts c.args.later.now) c.in_ok-reading.reading.items.items c.as_slice-items.result.now (rest_data c.in_ok-reading.reading.rest) job c.as_slice-items.ensures.value c.in_ok-reading.ensures.ok names).tries)
+
 pub returns-in_err-picked-clause-bad : goal.returns-in_err-picked-clause-bad
 returns-in_err-picked-clause-bad c = if_err c.from_residual-in_err-picked.result _ (λ e is job names.
     c.in_err-picked.ensures.bad (bound_word job.kind)
@@ -46,6 +51,7 @@ returns-clause-named c =
       workers = c.in_ok-workers.workers;
       nodes = c.in_ok-nodes.nodes;
       table = c.in_ok-table.table;
+      tries = c.in_ok-tries.tries;
       kind = c.kind_of-kind.result;
       proof = c.has_flag-proof.result;
     }) in
@@ -55,6 +61,7 @@ returns-clause-named c =
       workers = c.in_ok-workers.ensures.ok;
       nodes = c.in_ok-nodes.ensures.ok;
       table = c.in_ok-table.ensures.ok;
+      tries = c.in_ok-tries.ensures.ok;
       kind = subst (IsPicked bounds_option (items_data slice)) (sym c.kind_of-kind.ensures) c.in_ok-picked.ensures.ok;
       proof = c.has_flag-proof.ensures;
     } in (

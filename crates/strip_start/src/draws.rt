@@ -1,0 +1,56 @@
+// Changes that are drawn.
+ghost use Rattle.std.specs.Prelude.{◌<◌, ◌≤◌};
+
+use crate::change::Change;
+use rand_core::utils::NextWord;
+use rand_pcg::Pcg32;
+use strip_film::MAX_COUNT;
+
+/// The generator's stream. State and stream are the same for every film, so that the same film is varied in
+/// the same way.
+const STREAM: u64 = 54;
+
+/// Where changes are drawn from.
+#[derive(Drop)]
+pub(crate) struct Draws {
+    words: Pcg32,
+}
+
+impl Draws {
+    pub(crate) fn new() -> Draws {
+        Draws {
+            words: Pcg32::new(0, STREAM),
+        }
+    }
+
+    /// A change of an order of so many scenes: a scene moved, two scenes or more moved together, at most a third of
+    /// all and one more, or a piece turned round. None where the two places that were drawn are the same.
+    pub(crate) fn draw(&mut self, count: usize) -> Option<Change>
+        requires { (3 ≤ count) × (count ≤ MAX_COUNT) }
+    {
+        let kind = self.words.next_word() % 3;
+        if kind == 2 {
+            let one = self.below(count);
+            let other = self.below(count);
+            return Change::turned(one, other);
+        }
+        let size = if kind == 0 {
+            1
+        } else {
+            2 + self.below(count / 3)
+        };
+        let places = count - size + 1;
+        let from = self.below(places);
+        let to = self.below(places);
+        Change::moved(size, from, to)
+    }
+
+    /// A number below `count`.
+    fn below(&mut self, count: usize) -> usize
+        requires { (0 < count) × (count ≤ MAX_COUNT) }
+        ensures { result < count }
+    {
+        let word = u64::from(self.words.next_word());
+        ((word * count as u64) >> 32) as usize
+    }
+}
