@@ -7,5 +7,6 @@ pub mod laws;
 mod party;
 mod rows;
 mod table;
+mod width;
 
 pub use table::ArrivalsTable;

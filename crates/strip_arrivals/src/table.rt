@@ -12,7 +12,7 @@ use std::marker::Model;
 use strip_group::DaySums;
 use strip_io::Memory;
 use strip_mask::{Mask, sum_over};
-use strip_sets::{BySet, Eight, Five, FourPlaces, Nine, Seven, Six, Ten, WideSeven, WideTen};
+use strip_sets::BySet;
 
 /// A quarter of what fits in 32 bits.
 const NARROW: u64 = 1_073_741_823;
@@ -86,44 +86,15 @@ impl ArrivalsTable {
         }
     }
 
-    /// The same by numbers of 32 bits, for the sets of no more places than the group has, or of four.
-    fn narrow_value(&self, set: Mask, group: Mask, newcomers: Mask, never: u64) -> u64
-        requires company { IsCompany self.now set.0 group.0 newcomers.0 }
-        requires enough { most_paid self.now set.0 group.0 newcomers.0 < never }
-        requires low { sum_over self.now.holds group.0 + sum_over self.now.holds newcomers.0 < never }
-        requires narrow { 4 * never < 2 ^ 32 }
-        ensures same { result ≡ arrivals_value self.now set.0 group.0 newcomers.0 }
-        ensures small { result ≤ sum self.now.days * sum self.now.holds }
-    {
-        match group.size() {
-            0..=4 => self.value_by::<FourPlaces>(set, group, newcomers, never),
-            5 => self.value_by::<Five>(set, group, newcomers, never),
-            6 => self.value_by::<Six>(set, group, newcomers, never),
-            7 => self.value_by::<Seven>(set, group, newcomers, never),
-            8 => self.value_by::<Eight>(set, group, newcomers, never),
-            9 => self.value_by::<Nine>(set, group, newcomers, never),
-            _ => self.value_by::<Ten>(set, group, newcomers, never),
-        }
-    }
-
-    /// The same by numbers of 64 bits, for the sets of no more places than the group has, or of seven.
-    fn wide_value(&self, set: Mask, group: Mask, newcomers: Mask, never: u64) -> u64
-        requires company { IsCompany self.now set.0 group.0 newcomers.0 }
-        requires enough { most_paid self.now set.0 group.0 newcomers.0 < never }
-        requires low { sum_over self.now.holds group.0 + sum_over self.now.holds newcomers.0 < never }
-        requires wide { 4 * never < 2 ^ 64 }
-        ensures same { result ≡ arrivals_value self.now set.0 group.0 newcomers.0 }
-        ensures small { result ≤ sum self.now.days * sum self.now.holds }
-    {
-        match group.size() {
-            0..=7 => self.value_by::<WideSeven>(set, group, newcomers, never),
-            _ => self.value_by::<WideTen>(set, group, newcomers, never),
-        }
-    }
-
-    /// The same by numbers of some width for the sets of some places.
+    /// The same by numbers for the sets of some places.
     #[inline(never)]
-    fn value_by<S: BySet>(&self, set: Mask, group: Mask, newcomers: Mask, never: u64) -> u64
+    pub(crate) fn value_by<S: BySet>(
+        &self,
+        set: Mask,
+        group: Mask,
+        newcomers: Mask,
+        never: u64,
+    ) -> u64
         requires few { S.places ≤ 10 }
         requires fits { size group.0 ≤ S.places }
         requires company { IsCompany self.now set.0 group.0 newcomers.0 }

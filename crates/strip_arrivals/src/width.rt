@@ -1,0 +1,111 @@
+// The value by numbers for the sets of as many places as the group has. A type of numbers is made out of
+// one of fewer places a few levels at a time: what a call takes to prove rises with the square of how
+// many levels it names.
+ghost use Rattle.std.specs.Prelude.{◌≡◌, ◌+◌, ◌*◌, ◌-◌, ◌^◌, ◌<◌, ◌≤◌, sum};
+ghost use Rattle.strip_mask.specs.Set.{size, sum_over};
+ghost use Rattle.strip_arrivals.specs.Arrivals.{arrivals_value};
+ghost use Rattle.strip_arrivals.specs.Company.{IsCompany, most_paid};
+
+use crate::table::ArrivalsTable;
+use strip_mask::Mask;
+use strip_sets::{Block, BySet, Five, FourPlaces, Halves, WideFour};
+
+impl ArrivalsTable {
+    /// The value by numbers of 32 bits, for the sets of no more places than the group has, or of four.
+    pub(crate) fn narrow_value(&self, set: Mask, group: Mask, newcomers: Mask, never: u64) -> u64
+        requires company { IsCompany self.now set.0 group.0 newcomers.0 }
+        requires enough { most_paid self.now set.0 group.0 newcomers.0 < never }
+        requires low { sum_over self.now.holds group.0 + sum_over self.now.holds newcomers.0 < never }
+        requires narrow { 4 * never < 2 ^ 32 }
+        ensures same { result ≡ arrivals_value self.now set.0 group.0 newcomers.0 }
+        ensures small { result ≤ sum self.now.days * sum self.now.holds }
+    {
+        match group.size() {
+            0..=4 => self.value_by::<FourPlaces>(set, group, newcomers, never),
+            5 => self.value_by::<Five>(set, group, newcomers, never),
+            _ => self.value_over_five::<Five>(set, group, newcomers, never),
+        }
+    }
+
+    /// The value by numbers of 64 bits, for the sets of seven places, or of ten where the group has more.
+    pub(crate) fn wide_value(&self, set: Mask, group: Mask, newcomers: Mask, never: u64) -> u64
+        requires company { IsCompany self.now set.0 group.0 newcomers.0 }
+        requires enough { most_paid self.now set.0 group.0 newcomers.0 < never }
+        requires low { sum_over self.now.holds group.0 + sum_over self.now.holds newcomers.0 < never }
+        requires wide { 4 * never < 2 ^ 64 }
+        ensures same { result ≡ arrivals_value self.now set.0 group.0 newcomers.0 }
+        ensures small { result ≤ sum self.now.days * sum self.now.holds }
+    {
+        self.value_over_four::<WideFour>(set, group, newcomers, never)
+    }
+
+    /// The same by numbers of six to ten places, out of those of five.
+    fn value_over_five<S: BySet>(&self, set: Mask, group: Mask, newcomers: Mask, never: u64) -> u64
+        requires places { S.places ≡ 5 }
+        requires company { IsCompany self.now set.0 group.0 newcomers.0 }
+        requires enough { most_paid self.now set.0 group.0 newcomers.0 < never }
+        requires low { sum_over self.now.holds group.0 + sum_over self.now.holds newcomers.0 < never }
+        requires room { 4 * never ≤ S.most }
+        requires wide { 2 ^ 32 - 1 ≤ S.most }
+        ensures same { result ≡ arrivals_value self.now set.0 group.0 newcomers.0 }
+        ensures small { result ≤ sum self.now.days * sum self.now.holds }
+    {
+        match group.size() {
+            0..=6 => self.value_by::<Halves<Block<S>>>(set, group, newcomers, never),
+            7 => self.value_by::<Halves<Halves<Block<S>>>>(set, group, newcomers, never),
+            _ => self.value_over_seven::<Halves<Halves<Block<S>>>>(set, group, newcomers, never),
+        }
+    }
+
+    /// The same by numbers of eight to ten places, out of those of seven.
+    fn value_over_seven<S: BySet>(&self, set: Mask, group: Mask, newcomers: Mask, never: u64) -> u64
+        requires places { S.places ≡ 7 }
+        requires company { IsCompany self.now set.0 group.0 newcomers.0 }
+        requires enough { most_paid self.now set.0 group.0 newcomers.0 < never }
+        requires low { sum_over self.now.holds group.0 + sum_over self.now.holds newcomers.0 < never }
+        requires room { 4 * never ≤ S.most }
+        requires wide { 2 ^ 32 - 1 ≤ S.most }
+        ensures same { result ≡ arrivals_value self.now set.0 group.0 newcomers.0 }
+        ensures small { result ≤ sum self.now.days * sum self.now.holds }
+    {
+        match group.size() {
+            0..=8 => self.value_by::<Halves<Block<S>>>(set, group, newcomers, never),
+            9 => self.value_by::<Halves<Halves<Block<S>>>>(set, group, newcomers, never),
+            _ => self.value_three_over::<S>(set, group, newcomers, never),
+        }
+    }
+
+    /// The same by numbers of seven places, or of ten, out of those of four.
+    fn value_over_four<S: BySet>(&self, set: Mask, group: Mask, newcomers: Mask, never: u64) -> u64
+        requires places { S.places ≡ 4 }
+        requires company { IsCompany self.now set.0 group.0 newcomers.0 }
+        requires enough { most_paid self.now set.0 group.0 newcomers.0 < never }
+        requires low { sum_over self.now.holds group.0 + sum_over self.now.holds newcomers.0 < never }
+        requires room { 4 * never ≤ S.most }
+        requires wide { 2 ^ 32 - 1 ≤ S.most }
+        ensures same { result ≡ arrivals_value self.now set.0 group.0 newcomers.0 }
+        ensures small { result ≤ sum self.now.days * sum self.now.holds }
+    {
+        match group.size() {
+            0..=7 => self.value_three_over::<S>(set, group, newcomers, never),
+            _ => self.value_three_over::<Halves<Halves<Halves<Block<S>>>>>(
+                set, group, newcomers, never,
+            ),
+        }
+    }
+
+    /// The same by numbers of three places more.
+    fn value_three_over<S: BySet>(&self, set: Mask, group: Mask, newcomers: Mask, never: u64) -> u64
+        requires few { S.places ≤ 7 }
+        requires fits { size group.0 ≤ S.places + 3 }
+        requires company { IsCompany self.now set.0 group.0 newcomers.0 }
+        requires enough { most_paid self.now set.0 group.0 newcomers.0 < never }
+        requires low { sum_over self.now.holds group.0 + sum_over self.now.holds newcomers.0 < never }
+        requires room { 4 * never ≤ S.most }
+        requires wide { 2 ^ 32 - 1 ≤ S.most }
+        ensures same { result ≡ arrivals_value self.now set.0 group.0 newcomers.0 }
+        ensures small { result ≤ sum self.now.days * sum self.now.holds }
+    {
+        self.value_by::<Halves<Halves<Halves<Block<S>>>>>(set, group, newcomers, never)
+    }
+}
