@@ -1,14 +1,14 @@
 -- What an instance text says: an instance, or its first fault.
-use Rattle.std.specs.Prelude.{◌≡◌, ℕ, ◌+◌, ◌*◌, Bool, true, List, [], ◌∷◌, length, map, All, slice_index, Option, None, Some, Result, Ok, Err, if◌then◌else◌}
+use Rattle.std.specs.Prelude.{◌≡◌, ℕ, ◌+◌, ◌*◌, Bool, true, List, [], ◌∷◌, length, map, drop, All, slice_index, Option, None, Some, Result, Ok, Err, if◌then◌else◌}
 use Rattle.std.specs.List.{range_with_len}
 use Rattle.strip_model.specs.Data.{SceneData, ActorData, InstanceData}
 use Rattle.strip_text.specs.Field.{Field, trimmed}
 use Rattle.strip_text.specs.Number.{number_of}
-use Rattle.strip_text.specs.Rows.{Row, field_of, rows_of}
+use Rattle.strip_text.specs.Rows.{Row, field_of, row_of, rows_of}
 use Rattle.strip_text.specs.Checks.{first_fault}
 use Rattle.strip_instance.specs.Fault.{FaultData}
 use Rattle.strip_instance.specs.Field.{is_name, is_scene_name, is_work_mark}
-use Rattle.strip_instance.specs.Parts.{Parts, parts_of, actor_fields}
+use Rattle.strip_instance.specs.Parts.{Parts, parts_of, actor_fields, hold_of}
 use Rattle.strip_instance.specs.Befores.{pairs_of}
 use Rattle.strip_instance.specs.Faults.{scene_rows, scene_names, all_checks}
 
@@ -27,6 +27,12 @@ actor_of names rates holds actor = record { name = field_of names actor; rate = 
 
 abbrev pub actors_of : List Field → List ℕ → List ℕ → List ActorData
 actors_of names rates holds = map (actor_of names rates holds) (range_with_len 0 (length names))
+
+-- the actors of a header, by the rows behind it
+abbrev pub paid_actors : Row → List Row → List ActorData
+paid_actors header rest =
+    let rates = rates_of (row_of rest 0) in
+    actors_of (actor_fields header) rates (holds_of rates (hold_of (drop 1 rest)))
 
 -- the set of the actors whose marks say that they work: bit 0 stands for the first
 abbrev pub cast_of_marks : List Field → ℕ

@@ -1,5 +1,5 @@
 // The rates and the hold rates: what the actors are paid for a day.
-ghost use Rattle.std.specs.Prelude.{◌≡◌, ◌+◌, ◌<◌, ◌≤◌, true, drop, length, map, IfOk, IfErr, OnOk};
+ghost use Rattle.std.specs.Prelude.{◌≡◌, ◌+◌, ◌++◌, ◌<◌, ◌≤◌, true, drop, length, map, IfOk, IfErr, OnOk};
 ghost use Rattle.strip_model.specs.Instance.{actor_data};
 ghost use Rattle.strip_text.specs.Number.{number_of};
 ghost use Rattle.strip_text.specs.Rows.{field_of, row_of};
@@ -8,7 +8,7 @@ ghost use Rattle.strip_instance.specs.Parts.{actor_fields, body_of, first_of, ho
 ghost use Rattle.strip_instance.specs.Checks.{Makes};
 ghost use Rattle.strip_instance.specs.Faults.{hold_row_checks, pay_row_checks, rate_check, rate_checks, rate_row_checks};
 ghost use Rattle.strip_instance.specs.Shown.{rate_fault, rows_from, strs};
-ghost use Rattle.strip_instance.specs.Text.{actors_of, holds_of, rates_of};
+ghost use Rattle.strip_instance.specs.Text.{actors_of, holds_of, paid_actors, rates_of};
 
 use crate::fault::InstanceFault;
 use crate::field::is_word;
@@ -18,8 +18,41 @@ use std::alloc::Global;
 use strip_model::{Actor, MAX_RATE};
 use strip_text::{Row, Rows, number_of};
 
+/// The actors, and whether there is a row of the body; it was read then.
+#[derive(Drop)]
+pub(crate) struct Paid {
+    pub actors: Vec<Actor>,
+    pub there: bool,
+}
+
+/// The actors of the header's names, with the rates and the hold rates of the next rows. `row` then has
+/// the first row of the body, where there is one.
+pub(crate) fn read_actors(
+    alloc: Global,
+    header: &Row,
+    names: &[&str],
+    rows: &mut Rows<'_>,
+    row: &mut Row,
+) -> Result<Paid, InstanceFault>
+    requires few { length (actor_fields header.now) ≤ 64 }
+    requires first { rows.old.number ≡ 1 }
+    requires names { strs names.now ≡ actor_fields header.now }
+    ensures makes { Makes (rate_row_checks header.now (row_of rows.old.left 0) ++ hold_row_checks header.now (hold_of (drop 1 rows.old.left))) result }
+    ensures actors { IfOk result (λ paid. map actor_data paid.actors.items ≡ paid_actors header.now rows.old.left) }
+    ensures body { IfOk result (λ paid. rows_from paid.there row.new rows.new.left ≡ body_of (drop 1 rows.old.left)) }
+    ensures counted { IfOk result (λ paid. (paid.there ≡ true) → rows.new.number ≡ first_of (drop 1 rows.old.left)) }
+{
+    let rates = read_rates(alloc, header, rows, row)?;
+    let holds = read_holds(alloc, header, &rates, rows, row)?;
+    let actors = actors_of(alloc, names, &rates, &holds.rates)?;
+    Ok(Paid {
+        actors,
+        there: holds.there,
+    })
+}
+
 /// The rates, which are the next row.
-pub(crate) fn read_rates(
+fn read_rates(
     alloc: Global,
     header: &Row,
     rows: &mut Rows<'_>,
@@ -40,16 +73,16 @@ pub(crate) fn read_rates(
 
 /// The hold rates, and what was found behind them.
 #[derive(Drop)]
-pub(crate) struct Holds {
+struct Holds {
     /// Each actor's rate for a day of waiting.
-    pub rates: Vec<u64>,
+    rates: Vec<u64>,
     /// Whether there is a row of the body; it was read then.
-    pub there: bool,
+    there: bool,
 }
 
 /// The hold rates, which are the next row where it begins with the word, and else the rates.
 /// `row` then has the first row of the body, where there is one.
-pub(crate) fn read_holds(
+fn read_holds(
     alloc: Global,
     header: &Row,
     rates: &[u64],
@@ -114,7 +147,7 @@ fn read_rate(kind: RateKind, row: &Row, actor: usize) -> Result<u64, InstanceFau
 }
 
 /// The actors of these names and rates, which are as many.
-pub(crate) fn actors_of(
+fn actors_of(
     alloc: Global,
     names: &[&str],
     rates: &[u64],

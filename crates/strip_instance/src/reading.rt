@@ -1,6 +1,7 @@
 // An instance text, read.
 ghost use Rattle.std.specs.Prelude.{◌≡◌, ◌≢◌, ◌≤◌, length, map, Ok, Err, IfOk, IfErr};
-ghost use Rattle.strip_model.specs.Instance.{scene_data};
+ghost use Rattle.strip_model.specs.Data.{IsInstance};
+ghost use Rattle.strip_model.specs.Instance.{instance_data, scene_data};
 ghost use Rattle.strip_instance.specs.declared.fault.InstanceFault.TheVariants.{Memory as OutOfMemory};
 ghost use Rattle.strip_instance.specs.Fault.{fault_data};
 ghost use Rattle.strip_instance.specs.Befores.{pairs_of};
@@ -13,11 +14,11 @@ ghost use Rattle.strip_instance.specs.Text.{instance_of, says, scene_of};
 use crate::befores::read_befores;
 use crate::fault::InstanceFault;
 use crate::header::read_names;
-use crate::rates::{actors_of, read_holds, read_rates};
+use crate::rates::{Paid, read_actors};
 use crate::row::next_row;
 use crate::scenes::{Scenes, read_scenes};
 use std::alloc::Global;
-use strip_model::{Instance, Scene};
+use strip_model::{Actor, Instance, Scene};
 use strip_pay::Pair;
 use strip_text::{Row, Rows};
 
@@ -44,12 +45,18 @@ fn read_rows(alloc: Global, rows: &mut Rows<'_>) -> Result<Instance, InstanceFau
     }
     let names = read_names(alloc, &header)?;
     let mut row = Row::new(alloc);
-    let rates = read_rates(alloc, &header, rows, &mut row)?;
-    let holds = read_holds(alloc, &header, &rates, rows, &mut row)?;
-    let actors = actors_of(alloc, &names, &rates, &holds.rates)?;
-    let Filmed { scenes, pairs } = read_filmed(alloc, &header, rows, &mut row, holds.there)?;
+    let Paid { actors, there } = read_actors(alloc, &header, &names, rows, &mut row)?;
+    let Filmed { scenes, pairs } = read_filmed(alloc, &header, rows, &mut row, there)?;
+    Ok(made(scenes, actors, pairs))
+}
+
+/// The instance of these scenes, actors and pairs, which keep the limits.
+fn made(scenes: Vec<Scene>, actors: Vec<Actor>, pairs: Vec<Pair>) -> Instance
+    requires { IsInstance (instance_data scenes.items actors.items pairs.items) }
+    ensures { result ≡ instance_data scenes.items actors.items pairs.items }
+{
     match Instance::of(scenes, actors) {
-        Some(inst) => Ok(inst.with_pairs(pairs)),
+        Some(inst) => inst.with_pairs(pairs),
         None => unreachable!("rows without a fault keep the limits"),
     }
 }

@@ -3,7 +3,6 @@ use Rattle.std.proofs.Common.{◌≡◌, ◌⊎◌, ℕ, Bool, true, false, List
 use Rattle.std.proofs.lemmas.Bool.{eqb-true}
 use Rattle.std.proofs.lemmas.List.{length-drop, length-map}
 use Rattle.strip_pay.specs.declared.pair.Pair.{Pair}
-use Rattle.strip_text.specs.Field.{Field}
 use Rattle.strip_text.specs.Number.{number_of}
 use Rattle.strip_text.specs.Rows.{Row, row_of}
 use Rattle.strip_text.specs.Checks.{first_fault}
@@ -17,7 +16,7 @@ use Rattle.strip_instance.specs.Checks.{Checks}
 use Rattle.strip_instance.specs.Parts.{parts_of, hold_of, body_of, first_of, scenes_part, befores_part, actor_fields}
 use Rattle.strip_instance.specs.Faults.{header_checks, pay_row_checks, rate_row_checks, hold_row_checks, scene_names, scene_rows, body_parts_checks, all_checks}
 use Rattle.strip_instance.specs.Shown.{rows_from}
-use Rattle.strip_instance.specs.Text.{actors_of, holds_of, instance_of, rates_of, scene_of}
+use Rattle.strip_instance.specs.Text.{holds_of, instance_of, paid_actors, rates_of, scene_of}
 
 -- the fault that some checks give, or want of memory
 abbrev pub Tells : FaultData → Checks → Type 0
@@ -54,55 +53,39 @@ module _ (rows rest behind : List Row) (header : Row) (some : rows ≡ header �
   tells-all : (fault : FaultData) → Tells fault (header_checks header ++ (rated ++ held) ++ filmed) → Tells fault (all_checks rows)
   tells-all fault tells = tells-same fault _ _ all-same tells
 
-  heads-hold : first_fault (header_checks header) ≡ None → first_fault rated ≡ None → first_fault held ≡ None
-      → first_fault (header_checks header ++ (rated ++ held)) ≡ None
-  heads-hold named rates holds =
-      first_fault-append (header_checks header) (rated ++ held) named ∙ first_fault-append rated held rates ∙ holds
+  heads-hold : first_fault (header_checks header) ≡ None → first_fault (rated ++ held) ≡ None → first_fault (header_checks header ++ (rated ++ held)) ≡ None
+  heads-hold named paid = first_fault-append (header_checks header) (rated ++ held) named ∙ paid
 
   -- a fault of the header
   pub header-fault : (fault : FaultData) → Tells fault (header_checks header) → Tells fault (all_checks rows)
   header-fault fault tells =
       tells-all fault (makes-front (header_checks header ++ (rated ++ held)) filmed fault (makes-front (header_checks header) (rated ++ held) fault tells))
 
-  -- a fault of the rates
-  pub rates-fault : (fault : FaultData) → first_fault (header_checks header) ≡ None → Tells fault rated → Tells fault (all_checks rows)
-  rates-fault fault named tells =
-      tells-all fault (makes-front (header_checks header ++ (rated ++ held)) filmed fault
-      (makes-past (header_checks header) (rated ++ held) fault named (makes-front rated held fault tells)))
-
-  -- a fault of the hold rates
-  pub holds-fault : (fault : FaultData) → first_fault (header_checks header) ≡ None → first_fault rated ≡ None → Tells fault held → Tells fault (all_checks rows)
-  holds-fault fault named rates tells =
-      tells-all fault (makes-front (header_checks header ++ (rated ++ held)) filmed fault
-      (makes-past (header_checks header) (rated ++ held) fault named (makes-past rated held fault rates tells)))
+  -- a fault of the rates or of the hold rates
+  pub paid-fault : (fault : FaultData) → first_fault (header_checks header) ≡ None → Tells fault (rated ++ held) → Tells fault (all_checks rows)
+  paid-fault fault named tells =
+      tells-all fault (makes-front (header_checks header ++ (rated ++ held)) filmed fault (makes-past (header_checks header) (rated ++ held) fault named tells))
 
   -- a fault of the scenes or of the rows behind them
-  pub filmed-fault : (fault : FaultData) → first_fault (header_checks header) ≡ None → first_fault rated ≡ None → first_fault held ≡ None
-      → Tells fault filmed → Tells fault (all_checks rows)
-  filmed-fault fault named rates holds tells =
-      tells-all fault (makes-past (header_checks header ++ (rated ++ held)) filmed fault (heads-hold named rates holds) tells)
+  pub filmed-fault : (fault : FaultData) → first_fault (header_checks header) ≡ None → first_fault (rated ++ held) ≡ None → Tells fault filmed → Tells fault (all_checks rows)
+  filmed-fault fault named paid tells =
+      tells-all fault (makes-past (header_checks header ++ (rated ++ held)) filmed fault (heads-hold named paid) tells)
 
   -- no fault
-  pub no-fault : first_fault (header_checks header) ≡ None → first_fault rated ≡ None → first_fault held ≡ None → first_fault filmed ≡ None
-      → first_fault (all_checks rows) ≡ None
-  no-fault named rates holds films =
+  pub no-fault : first_fault (header_checks header) ≡ None → first_fault (rated ++ held) ≡ None → first_fault filmed ≡ None → first_fault (all_checks rows) ≡ None
+  no-fault named paid films =
       ap first_fault all-same
-      ∙ first_fault-append (header_checks header ++ (rated ++ held)) filmed (heads-hold named rates holds) ∙ films
+      ∙ first_fault-append (header_checks header ++ (rated ++ held)) filmed (heads-hold named paid) ∙ films
 
   -- the instance of the rows
-  pub instance-is : (names : List Field) (rates holds : List ℕ) (made : List SceneData) (actors : List ActorData) (pairs : List Pair)
-      → names ≡ actor_fields header → rates ≡ rates_of (row_of rest 0) → holds ≡ holds_of rates (hold_of behind)
-      → made ≡ map scene_of (scene_rows scenes) → actors ≡ actors_of names rates holds → pairs ≡ pairs_of (scene_names scenes) befores
+  pub instance-is : (made : List SceneData) (actors : List ActorData) (pairs : List Pair)
+      → made ≡ map scene_of (scene_rows scenes) → actors ≡ paid_actors header rest → pairs ≡ pairs_of (scene_names scenes) befores
       → record { scenes = made; actors = actors; pairs = pairs } ≡ instance_of (parts_of rows)
-  instance-is names rates holds made actors pairs named rated_so held_so filmed_so acted paired_so =
-      let hold = hold_of behind in
-      let its : actors ≡ actors_of (actor_fields header) (rates_of (row_of rest 0)) (holds_of (rates_of (row_of rest 0)) hold)
-      = acted ∙ ap (λ (ns : List Field). actors_of ns rates holds) named ∙ ap (actors_of (actor_fields header) rates) held_so
-      ∙ ap (λ (list : List ℕ). actors_of (actor_fields header) list (holds_of list hold)) rated_so in
-      (λ i. record { scenes = filmed_so i; actors = its i; pairs = paired_so i })
+  instance-is made actors pairs filmed_so acted paired_so =
+      (λ i. record { scenes = filmed_so i; actors = acted i; pairs = paired_so i })
       ∙ ap (λ (list : List Row). record {
         scenes = map scene_of (scene_rows (scenes_part (body_of list)));
-        actors = actors_of (actor_fields header) (rates_of (row_of rest 0)) (holds_of (rates_of (row_of rest 0)) (hold_of list));
+        actors = paid_actors header rest;
         pairs = pairs_of (scene_names (scenes_part (body_of list))) (befores_part (body_of list));
       }) next
       ∙ ap (λ (all : List Row). instance_of (parts_of all)) (sym some)
