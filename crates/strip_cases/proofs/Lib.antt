@@ -1,2 +1,3 @@
+mod CaseLines
 mod Fronts
 mod Found

@@ -1,1 +1,2 @@
+pub mod CaseRows
 pub mod Met

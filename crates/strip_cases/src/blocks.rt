@@ -1,16 +1,20 @@
 // The parts of a case file: what stands before its cases, each case, and in a case each file and step.
-ghost use Rattle.std.specs.Prelude.{◌≤◌, length};
+ghost use Rattle.std.specs.Prelude.{◌≡◌, ◌≤◌, length, take};
+ghost use Rattle.strip_cases.specs.CaseRows.{case_lines};
 
 use crate::lines::{Head, Line};
 
 /// How many lines stand before the next case.
 pub(crate) fn before_case(lines: &[Line]) -> usize
-    ensures { result ≤ length lines.now }
+    ensures within { result ≤ length lines.now }
+    ensures none { case_lines (take result lines.now) ≡ 0 }
 {
-    lines
-        .iter()
-        .position(|line| line.head == Head::Case)
-        .unwrap_or(lines.len())
+    for (place, line) in lines.iter().enumerate() {
+        if line.head == Head::Case {
+            return place;
+        }
+    }
+    lines.len()
 }
 
 /// How many lines stand before the next file or step.

@@ -1,4 +1,7 @@
 // The rows of a case file, each with its head.
+ghost use Rattle.std.specs.Prelude.{◌≡◌, ◌+◌, ◌≤◌, true, cond, Some, IfOk, IsSomeAnd, OnOk, codes};
+ghost use Rattle.strip_cases.specs.CaseRows.{case_lines, case_rows, first_word, is_case_row};
+
 use crate::fault::{CaseFault, Wrong};
 use std::alloc::Global;
 
@@ -27,7 +30,9 @@ pub(crate) struct Line {
 }
 
 /// The rows that tell something. Empty rows and those that begin with `#` don't.
-pub(crate) fn lines_of(alloc: Global, text: &str) -> Result<Vec<Line>, CaseFault> {
+pub(crate) fn lines_of(alloc: Global, text: &str) -> Result<Vec<Line>, CaseFault>
+    ensures { IfOk result (λ lines. case_rows text.now ≤ case_lines lines.items) }
+{
     let mut lines = Vec::new(alloc);
     let mut row = 0u64;
     for text in text.lines() {
@@ -38,26 +43,45 @@ pub(crate) fn lines_of(alloc: Global, text: &str) -> Result<Vec<Line>, CaseFault
 }
 
 /// Appends the line of a row, where it tells something.
-fn push_line(alloc: Global, row: u64, text: &str, lines: &mut Vec<Line>) -> Result<(), Wrong> {
-    if text.trim().is_empty() || text.starts_with('#') {
-        return Ok(());
+fn push_line(alloc: Global, row: u64, text: &str, lines: &mut Vec<Line>) -> Result<(), Wrong>
+    ensures { OnOk result (case_lines lines.old.items + cond (is_case_row text.now) 1 0 ≤ case_lines lines.new.items) }
+{
+    match parts_of(text) {
+        Some((head, rest)) => {
+            let rest = String::from_str(alloc, rest)?;
+            lines.push(Line { row, head, rest })?;
+            Ok(())
+        }
+        None if text.trim().is_empty() || text.starts_with('#') => Ok(()),
+        None => Err(Wrong::Head),
     }
-    let (head, rest) = parts_of(text).ok_or(Wrong::Head)?;
-    let rest = String::from_str(alloc, rest)?;
-    lines.push(Line { row, head, rest })?;
-    Ok(())
 }
 
 /// The head of a row, and what stands behind it and one blank.
-fn parts_of(text: &str) -> Option<(Head, &str)> {
-    if let Some(rest) = text.strip_prefix('|') {
-        return Some((Head::Text, rest.strip_prefix(' ').unwrap_or(rest)));
+fn parts_of(text: &str) -> Option<(Head, &str)>
+    ensures { is_case_row text.now ≡ true → IsSomeAnd result (λ parts. parts.0 ≡ Head.Case) }
+{
+    let (word, rest) = split_word(text);
+    if let Some(head) = head_of(word) {
+        return Some((head, rest));
     }
-    let (word, rest) = text.split_once(' ').unwrap_or((text, ""));
-    Some((head_of(word)?, rest))
+    let rest = text.strip_prefix('|')?;
+    Some((Head::Text, rest.strip_prefix(' ').unwrap_or(rest)))
 }
 
-fn head_of(word: &str) -> Option<Head> {
+/// The first word of a row, and what stands behind it and one blank.
+fn split_word(text: &str) -> (&str, &str)
+    ensures { result.0.now ≡ first_word text.now }
+{
+    match text.split_once(' ') {
+        Some(parts) => parts,
+        None => (text, ""),
+    }
+}
+
+fn head_of(word: &str) -> Option<Head>
+    ensures { word.now ≡ codes "case" → result ≡ Some Head.Case }
+{
     match word {
         "case" => Some(Head::Case),
         "each" => Some(Head::Each),

@@ -1,4 +1,7 @@
 // Case files.
+ghost use Rattle.std.specs.Prelude.{◌+◌, ◌<◌, ◌≤◌, vec_len, IfOk, OnOk};
+ghost use Rattle.strip_cases.specs.CaseRows.{HasEachCase, case_lines};
+
 use crate::blocks::{before_case, of_each};
 use crate::case::{Action, Case, Cases, Given};
 use crate::escapes::Value;
@@ -20,19 +23,27 @@ struct Each {
 }
 
 /// The cases that the text of a case file tells, or its first fault.
-pub fn read_cases(alloc: Global, text: &[u8]) -> Result<Cases, CaseFault> {
+pub fn read_cases(alloc: Global, text: &[u8]) -> Result<Cases, CaseFault>
+    ensures each { IfOk result (HasEachCase text.now) }
+{
     let text = match str::from_utf8(text) {
         Ok(text) => text,
         Err(_) => return Err(Wrong::NotUtf8.at(row_of_bad_byte(text))),
     };
     let lines = lines_of(alloc, text)?;
     let (front, behind) = lines.split_at(before_case(&lines));
-    let mut shared = Vec::new(alloc);
-    for action in actions_of(alloc, front, &[])? {
-        push_shared(action, &mut shared)?;
-    }
+    let shared = shared_of(alloc, front)?;
     let cases = all_cases(alloc, behind)?;
     Ok(Cases { shared, cases })
+}
+
+/// The files that all cases have.
+fn shared_of(alloc: Global, lines: &[Line]) -> Result<Vec<Given>, CaseFault> {
+    let mut shared = Vec::new(alloc);
+    for action in actions_of(alloc, lines, &[])? {
+        push_shared(action, &mut shared)?;
+    }
+    Ok(shared)
 }
 
 /// Appends a file that all cases have. A step before the first case is in no case.
@@ -47,7 +58,9 @@ fn push_shared(action: Action, shared: &mut Vec<Given>) -> Result<(), CaseFault>
 }
 
 /// The cases of the lines, the first of which begins one.
-fn all_cases(alloc: Global, lines: &[Line]) -> Result<Vec<Case>, CaseFault> {
+fn all_cases(alloc: Global, lines: &[Line]) -> Result<Vec<Case>, CaseFault>
+    ensures { IfOk result (λ cases. case_lines lines.now ≤ vec_len cases) }
+{
     let mut cases = Vec::new(alloc);
     let mut rest = lines;
     while let [head, behind @ ..] = rest {
@@ -76,17 +89,11 @@ fn push_cases(
     head: &Line,
     body: &[Line],
     cases: &mut Vec<Case>,
-) -> Result<(), CaseFault> {
+) -> Result<(), CaseFault>
+    ensures { OnOk result (vec_len cases.old < vec_len cases.new) }
+{
     let (names, body) = body.split_at(of_each(body));
-    let mut all = Vec::new(alloc);
-    let mut count = 1usize;
-    for line in names {
-        let each = each_of(alloc, line.rest.as_str()).map_err(|wrong| wrong.at(line.row))?;
-        count = count.saturating_mul(each.values.len());
-        if all.push(each).is_err() {
-            return Err(Wrong::Memory.at(line.row));
-        }
-    }
+    let (all, count) = each_of_all(alloc, names)?;
     if count > MOST {
         return Err(Wrong::TooLong.at(head.row));
     }
@@ -100,7 +107,25 @@ fn push_cases(
     Ok(())
 }
 
-fn each_of(alloc: Global, text: &str) -> Result<Each, Wrong> {
+/// The names of a case with their values, and how many cases it stands for.
+fn each_of_all(alloc: Global, lines: &[Line]) -> Result<(Vec<Each>, usize), CaseFault>
+    ensures { IfOk result (λ all. 0 < all.1) }
+{
+    let mut all = Vec::new(alloc);
+    let mut count = 1usize;
+    for line in lines {
+        let each = each_of(alloc, line.rest.as_str()).map_err(|wrong| wrong.at(line.row))?;
+        count = count.saturating_mul(each.values.len());
+        if all.push(each).is_err() {
+            return Err(Wrong::Memory.at(line.row));
+        }
+    }
+    Ok((all, count))
+}
+
+fn each_of(alloc: Global, text: &str) -> Result<Each, Wrong>
+    ensures { IfOk result (λ each. 0 < vec_len each.values) }
+{
     let mut words = words_of(alloc, text, &[])?.into_iter();
     let Some(name) = words.next() else {
         return Err(Wrong::Words);
