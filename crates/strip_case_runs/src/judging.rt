@@ -1,9 +1,14 @@
 // Case files that are judged: each of their cases is run.
-ghost use Rattle.std.specs.Prelude.{◌≡◌, ◌↔◌, false};
+ghost use Rattle.std.specs.Prelude.{◌≡◌, ◌↔◌, ◌+◌, ◌-◌, ◌^◌, ◌≤◌, min, false, List, [], ◌∷◌, ◌++◌, length, Option, Some, IfOk, IfSome, OnOk, string_bytes};
+ghost use Rattle.strip_words.specs.Shown.{texts};
+ghost use Rattle.strip_answer.specs.Run.{files_data, sink_data};
+ghost use Rattle.strip_cases.specs.declared.case.Cases.{Cases};
+ghost use Rattle.strip_case_runs.specs.Runs.{IsCaseMet};
+ghost use Rattle.strip_case_runs.specs.Judged.{IsCounted, IsJudgement, IsReadFrom, end_status, last_row};
 
 use crate::running::run_case;
-use std::alloc::Global;
-use strip_cases::{CaseFault, Cases, Wrong, read_cases};
+use std::alloc::{AllocError, Global};
+use strip_cases::{Case, CaseFault, Cases, Given, Wrong, read_cases};
 use strip_io::{Failed, Files, LoadFault, Memory, Sink, load, send};
 
 /// How long a case file may be, in bytes.
@@ -25,7 +30,15 @@ pub fn judge<F: Files, S: Sink>(
     names: &[String],
     files: &mut F,
     out: &mut S,
-) -> Result<u8, Memory> {
+) -> Result<u8, Memory>
+    ensures judged { IfOk result (IsJudgement (record {
+      words = texts names.now;
+      files_before = files_data (F.holds files.old) (F.bytes files.old) (F.faults files.old) (F.came files.old);
+      files_after = files_data (F.holds files.new) (F.bytes files.new) (F.faults files.new) (F.came files.new);
+      sink_before = sink_data (S.taken out.old) (S.faults out.old);
+      sink_after = sink_data (S.taken out.new) (S.faults out.new);
+    })) }
+{
     let mut tally = Tally {
         cases: 0,
         differing: 0,
@@ -33,25 +46,28 @@ pub fn judge<F: Files, S: Sink>(
     };
     for name in names {
         let rows = judge_file(alloc, files, name.as_str(), &mut tally)?;
-        if send(out, rows.as_bytes()).is_err() {
+        let Ok(()) = send(out, rows.as_bytes()) else {
             return Ok(8);
-        }
+        };
     }
-    let Tally {
-        cases,
-        differing,
-        ..
-    } = tally;
-    let last = format!(in alloc; "{cases} cases, {differing} differ\n")?;
-    match send(out, last.as_bytes()) {
+    let row = last_row(alloc, tally.cases, tally.differing)?;
+    match send(out, row.as_bytes()) {
         Ok(()) => Ok(status_of(tally)),
         Err(Failed) => Ok(8),
     }
 }
 
+/// The row that says how many cases were run, and how many of them differ.
+fn last_row(alloc: Global, cases: u64, differing: u64) -> Result<String, AllocError>
+    ensures { IfOk result (λ row. string_bytes row ≡ last_row cases differing) }
+{
+    format!(in alloc; "{cases} cases, {differing} differ\n")
+}
+
 /// The status is 0 exactly where each file was read and no case differs.
 fn status_of(tally: Tally) -> u8
-    ensures { (result ≡ 0) ↔ ((tally.differing ≡ 0) × (tally.is_unread ≡ false)) }
+    ensures zero { (result ≡ 0) ↔ ((tally.differing ≡ 0) × (tally.is_unread ≡ false)) }
+    ensures status { result ≡ end_status tally.differing tally.is_unread }
 {
     if tally.is_unread {
         2
@@ -68,21 +84,27 @@ fn judge_file<F: Files>(
     files: &mut F,
     name: &str,
     tally: &mut Tally,
-) -> Result<String, Memory> {
-    let mut rows = String::new(alloc);
+) -> Result<String, Memory>
+    ensures told { F.bytes files.new ≡ F.bytes files.old }
+    ensures counted { OnOk result ((file : Option Cases) × IfSome file (IsReadFrom (F.bytes files.old name.now)) × ((files : List (Option Cases))
+        → IsCounted files tally.old.cases tally.old.differing tally.old.is_unread
+        → IsCounted (files ++ file ∷ []) tally.new.cases tally.new.differing tally.new.is_unread)) }
+{
     match cases_of(alloc, files, name) {
-        Ok(cases) => judge_cases(alloc, name, &cases, tally, &mut rows)?,
-        Err(fault) if fault.wrong == Wrong::Memory => return Err(Memory),
+        Ok(cases) => judge_cases(alloc, name, &cases, tally),
+        Err(fault) if fault.wrong == Wrong::Memory => Err(Memory),
         Err(fault) => {
             tally.is_unread = true;
-            rows.push_str(format!(in alloc; "{name}: {fault}\n")?.as_str())?;
+            Ok(format!(in alloc; "{name}: {fault}\n")?)
         }
     }
-    Ok(rows)
 }
 
 /// The cases of a file of this name.
-fn cases_of<F: Files>(alloc: Global, files: &mut F, name: &str) -> Result<Cases, CaseFault> {
+fn cases_of<F: Files>(alloc: Global, files: &mut F, name: &str) -> Result<Cases, CaseFault>
+    ensures told { F.bytes files.new ≡ F.bytes files.old }
+    ensures read { IfOk result (IsReadFrom (F.bytes files.old name.now)) }
+{
     match load(alloc, files, name, LONGEST) {
         Ok(text) => read_cases(alloc, &text),
         Err(LoadFault::Memory) => Err(CaseFault {
@@ -96,20 +118,47 @@ fn cases_of<F: Files>(alloc: Global, files: &mut F, name: &str) -> Result<Cases,
     }
 }
 
+/// Runs the cases, and answers a row for each that differs.
 fn judge_cases(
     alloc: Global,
     name: &str,
     cases: &Cases,
     tally: &mut Tally,
-    rows: &mut String,
-) -> Result<(), Memory> {
+) -> Result<String, Memory>
+    ensures { OnOk result ((files : List (Option Cases))
+        → IsCounted files tally.old.cases tally.old.differing tally.old.is_unread
+        → IsCounted (files ++ Some cases.now ∷ []) tally.new.cases tally.new.differing tally.new.is_unread) }
+{
+    let mut rows = String::new(alloc);
     for case in &cases.cases {
-        tally.cases = tally.cases.saturating_add(1);
-        if let Some(difference) = run_case(alloc, &cases.shared, case)? {
+        judge_case(alloc, name, &cases.shared, case, tally, &mut rows)?;
+    }
+    Ok(rows)
+}
+
+/// Runs a case, and appends a row where it differs.
+fn judge_case(
+    alloc: Global,
+    name: &str,
+    shared: &[Given],
+    case: &Case,
+    tally: &mut Tally,
+    rows: &mut String,
+) -> Result<(), Memory>
+    ensures one { OnOk result (tally.new.cases ≡ min (tally.old.cases + 1) (2 ^ 64 - 1)) }
+    ensures few { OnOk result (tally.old.differing ≤ tally.old.cases → tally.new.differing ≤ tally.new.cases) }
+    ensures earlier { OnOk result (tally.new.differing ≡ 0 → tally.old.differing ≡ 0) }
+    ensures met { OnOk result (tally.new.differing ≡ 0 → IsCaseMet shared.now case.now) }
+    ensures unread { tally.new.is_unread ≡ tally.old.is_unread }
+{
+    tally.cases = tally.cases.saturating_add(1);
+    match run_case(alloc, shared, case)? {
+        None => Ok(()),
+        Some(difference) => {
             tally.differing = tally.differing.saturating_add(1);
             let case = case.name.as_str();
             rows.push_str(format!(in alloc; "{name}: {case}: {difference}\n")?.as_str())?;
+            Ok(())
         }
     }
-    Ok(())
 }

@@ -1,4 +1,8 @@
 // A run of the program, and how it ends.
+ghost use Rattle.std.specs.Process.{exit_status};
+ghost use Rattle.strip_host.specs.Run.{IsRunBy};
+ghost use Rattle.strip_case_runs.specs.Judged.{IsRunOfCases};
+
 use crate::judging::judge;
 use std::alloc::Global;
 use std::process::ExitCode;
@@ -10,10 +14,9 @@ use strip_io::{Files, Memory, Sink};
 struct CaseRunner;
 
 impl Program for CaseRunner {
-    ghost use Rattle.std.specs.Prelude.{⊤};
+    ghost use Rattle.strip_case_runs.specs.Judged.{IsRunOfCases};
 
-    // What cases say is for whoever reads them: nothing is claimed of a run.
-    ghost Holds = { λ _ _. ⊤ };
+    ghost Holds = { IsRunOfCases };
 
     fn report<F: Files, S: Sink>(
         alloc: Global,
@@ -30,6 +33,8 @@ impl Program for CaseRunner {
 
 /// Runs the cases of the files that the runtime's words name, and prints the rows of `judge`. The exit code is
 /// its status, or 9 where memory ran out.
-pub fn run<R: Env + rt::Files + Print + AllocGlobal>(rt: &R) -> ExitCode {
+pub fn run<R: Env + rt::Files + Print + AllocGlobal>(rt: &R) -> ExitCode
+    ensures { IsRunBy IsRunOfCases (exit_status result) }
+{
     strip_host::run::<CaseRunner, R>(rt)
 }

@@ -1,38 +1,84 @@
 // Cases that are run.
+ghost use Rattle.std.specs.Prelude.{◌≡◌, [], Ok, None, Some, IfOk, OnOk};
+ghost use Rattle.strip_io.specs.Held.{bytes_of, came_of, faults_of, is_held};
+ghost use Rattle.strip_words.specs.Shown.{texts};
+ghost use Rattle.strip_answer.specs.Run.{files_data, sink_data};
+ghost use Rattle.strip_case_runs.specs.AtHand.{AreApart, IsGiven};
+ghost use Rattle.strip_case_runs.specs.Runs.{InTurn, IsCaseMet, IsDone, IsKept, IsClaimedBy, IsStepMet};
+
 use crate::files::{give, hold, source};
 use std::alloc::Global;
 use strip_cases::{Action, Case, Given, Held, Program, Step, difference};
-use strip_io::{MemSink, Memory};
+use strip_io::{MemFiles, MemSink, Memory};
 
 /// Runs a case, and answers how its first step that differs does. The shared files are at hand in it.
 pub(crate) fn run_case(
     alloc: Global,
     shared: &[Given],
     case: &Case,
-) -> Result<Option<String>, Memory> {
+) -> Result<Option<String>, Memory>
+    ensures { result ≡ Ok None → IsCaseMet shared.now case.now }
+{
     let mut files = Vec::new(alloc);
-    for given in shared {
-        if let Some(name) = give(alloc, &mut files, given)? {
+    match give_all(alloc, &mut files, shared)? {
+        Some(difference) => Ok(Some(difference)),
+        None => do_all(alloc, &mut files, &case.actions),
+    }
+}
+
+/// Holds the given files, and answers which couldn't be made.
+fn give_all(alloc: Global, files: &mut Vec<Held>, all: &[Given]) -> Result<Option<String>, Memory>
+    ensures { result ≡ Ok None → InTurn IsGiven all.now files.old.items files.new.items }
+{
+    for given in all {
+        if let Some(name) = give(alloc, files, given)? {
             return Ok(Some(no_file(alloc, &name)?));
         }
     }
-    let mut number = 0u64;
-    for action in &case.actions {
-        match action {
-            Action::Give(given) => {
-                if let Some(name) = give(alloc, &mut files, given)? {
-                    return Ok(Some(no_file(alloc, &name)?));
-                }
-            }
-            Action::Run(step) => {
-                number = number.saturating_add(1);
-                if let Some(difference) = run_step(alloc, &mut files, step)? {
-                    return Ok(Some(format!(in alloc; "step {number}: {difference}")?));
-                }
-            }
+    Ok(None)
+}
+
+/// Gives the files and runs the steps, and answers how the first that differs does.
+fn do_all(
+    alloc: Global,
+    files: &mut Vec<Held>,
+    actions: &[Action],
+) -> Result<Option<String>, Memory>
+    requires { AreApart files.old.items }
+    ensures { result ≡ Ok None → InTurn IsDone actions.now files.old.items files.new.items }
+{
+    let mut steps = 0u64;
+    for action in actions {
+        if let Some(difference) = do_action(alloc, files, action, &mut steps)? {
+            return Ok(Some(difference));
         }
     }
     Ok(None)
+}
+
+/// Gives the file or runs the step, which is one more.
+fn do_action(
+    alloc: Global,
+    files: &mut Vec<Held>,
+    action: &Action,
+    steps: &mut u64,
+) -> Result<Option<String>, Memory>
+    requires { AreApart files.old.items }
+    ensures { result ≡ Ok None → IsDone action.now files.old.items files.new.items }
+{
+    match action {
+        Action::Give(given) => match give(alloc, files, given)? {
+            Some(name) => Ok(Some(no_file(alloc, &name)?)),
+            None => Ok(None),
+        },
+        Action::Run(step) => {
+            *steps = steps.saturating_add(1);
+            match run_step(alloc, files, step)? {
+                Some(difference) => Ok(Some(format!(in alloc; "step {steps}: {difference}")?)),
+                None => Ok(None),
+            }
+        }
+    }
 }
 
 fn no_file(alloc: Global, name: &String) -> Result<String, Memory> {
@@ -40,17 +86,52 @@ fn no_file(alloc: Global, name: &String) -> Result<String, Memory> {
 }
 
 /// Runs a step, and answers how it differs from what is wanted of it.
-fn run_step(alloc: Global, files: &mut Vec<Held>, step: &Step) -> Result<Option<String>, Memory> {
+fn run_step(alloc: Global, files: &mut Vec<Held>, step: &Step) -> Result<Option<String>, Memory>
+    requires { AreApart files.old.items }
+    ensures { result ≡ Ok None → IsStepMet step.now files.old.items files.new.items }
+{
     let mut source = source(alloc, files, &step.failing_reads)?;
     let room = step.room as usize;
     let piece = (step.piece as usize).max(1);
     let mut out = MemSink::new(alloc, room, piece, &step.failing_writes)?;
-    let status = match step.program {
-        Program::Stripboard => strip_top::report(alloc, &step.words, &mut source, &mut out),
-        Program::Stripcheck => strip_audit::report(alloc, &step.words, &mut source, &mut out),
-    };
-    if let Some(name) = &step.keep {
-        hold(files, name.clone()?, out.taken().to_vec(alloc)?)?;
-    }
+    let status = run_program(alloc, step.program, &step.words, &mut source, &mut out);
+    keep(alloc, files, &step.keep, out.taken())?;
     difference(alloc, &step.wanted, status, out.taken(), files)
+}
+
+/// Runs the program, and answers its status.
+fn run_program(
+    alloc: Global,
+    program: Program,
+    words: &[String],
+    files: &mut MemFiles,
+    out: &mut MemSink,
+) -> u8
+    ensures { IsClaimedBy program (record {
+      words = texts words.now;
+      files_before = files_data (is_held files.old.files) (bytes_of files.old.files) (faults_of files.old.files) (came_of files.old.files);
+      files_after = files_data (is_held files.new.files) (bytes_of files.new.files) (faults_of files.new.files) (came_of files.new.files);
+      sink_before = sink_data (Some out.old.taken) out.old.faults;
+      sink_after = sink_data (Some out.new.taken) out.new.faults;
+    }) result }
+{
+    match program {
+        Program::Stripboard => strip_top::report(alloc, words, files, out),
+        Program::Stripcheck => strip_audit::report(alloc, words, files, out),
+    }
+}
+
+/// Holds what was printed under the name, where there is one.
+fn keep(
+    alloc: Global,
+    files: &mut Vec<Held>,
+    name: &Option<String>,
+    printed: &[u8],
+) -> Result<(), Memory>
+    ensures { OnOk result (IsKept name.now printed.now files.old.items files.new.items) }
+{
+    if let Some(name) = name {
+        hold(files, name.clone()?, Vec::from_slice(alloc, printed)?)?;
+    }
+    Ok(())
 }

@@ -1,0 +1,14 @@
+use Rattle.std.proofs.Common.{◌≡◌, ℕ, List, Option, take}
+use Rattle.strip_io.specs.Sink.{Took}
+use Rattle.strip_words.specs.Shown.{texts}
+use Rattle.strip_cases.specs.declared.case.Cases.{Cases}
+use Rattle.strip_case_runs.specs.Judged.{AreRead, IsCounted}
+use Rattle.strip_case_runs.proofs.judging.judge.Given as goal
+
+abbrev pub invariant-loop-name : goal.invariant-loop-name
+invariant-loop-name g l = record {
+  files : (files : List (Option Cases)) × AreRead (g.F.Files.bytes l.fn.files) (texts (take l.name-index l.names)) files × IsCounted files l.tally.cases l.tally.differing l.tally.is_unread;
+  told : g.F.Files.bytes l.files ≡ g.F.Files.bytes l.fn.files;
+  took : (rows : List ℕ) × Took (g.S.Sink.taken l.fn.out) (g.S.Sink.taken l.out) rows;
+  unfailed : g.S.Sink.faults l.out ≡ g.S.Sink.faults l.fn.out;
+}

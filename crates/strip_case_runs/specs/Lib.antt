@@ -1,0 +1,3 @@
+pub mod AtHand
+pub mod Judged
+pub mod Runs
