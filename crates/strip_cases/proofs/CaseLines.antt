@@ -1,6 +1,5 @@
 -- The lines that begin a case, part by part.
 use Rattle.std.proofs.Common.{◌≡◌, ℕ, ◌+◌, ◌-◌, ◌*◌, ◌^◌, ◌<◌, ◌≤◌, min, [], ◌∷◌, ◌++◌, Bool, true, false, cond, List, length, take, drop, get_or, drop-cons, length-drop, arith, sym, ap, ◌∙◌}
-use Rattle.std.specs.List.{count_by}
 use Rattle.std.proofs.Math.Nat.{mul-pos}
 use Rattle.std.proofs.lemmas.List.{take-append-drop, take_all}
 use Rattle.std.proofs.lemmas.List.Sums.{sum_by-append}

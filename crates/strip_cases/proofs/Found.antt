@@ -1,5 +1,5 @@
 -- Numbers of files at hand.
-use Rattle.std.proofs.Common.{◌≡◌, ℕ, List, Option, Some, None, IfSome, Contains, String, string_bytes, refl, sym, subst}
+use Rattle.std.proofs.Common.{◌≡◌, ℕ, List, Option, Some, None, IfSome, Contains, String, string_bytes, sym, subst}
 use Rattle.std.specs.declared.alloc.Global.{Global}
 use Rattle.strip_cases.specs.declared.case.Bound.{Bound}
 use Rattle.strip_cases.specs.declared.case.Bound.TheVariants.{In}

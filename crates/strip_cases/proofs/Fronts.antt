@@ -1,5 +1,5 @@
 -- The rows of a text, gone through from the front.
-use Rattle.std.proofs.Common.{◌≡◌, ◌++◌, ◌∷◌, [], List, ℕ, ◌<◌, ◌+◌, length, refl, sym, subst, ◌∙◌, ap, inl, inr, append_assoc, arith}
+use Rattle.std.proofs.Common.{◌≡◌, ◌++◌, ◌∷◌, [], List, ℕ, ◌<◌, ◌+◌, length, refl, sym, ◌∙◌, ap, inl, inr, append_assoc, arith}
 use Rattle.std.proofs.lemmas.List.{length-append}
 use Rattle.strip_cases.specs.Met.{HasRow, IsBeforeRow}
 

@@ -5,7 +5,7 @@ use Rattle.std.specs.Str.{bytes_eq}
 use Rattle.std.specs.Str.Lines.{lines}
 use Rattle.strip_cases.specs.declared.case.Cases.{Cases}
 use Rattle.strip_cases.specs.declared.lines.Head.{Head}
-use Rattle.strip_cases.specs.declared.lines.Head.TheVariants.{Case, Each, File, Run, Text, Status, Row, Number, Keep, Reads, Writes}
+use Rattle.strip_cases.specs.declared.lines.Head.TheVariants.{Case}
 use Rattle.strip_cases.specs.declared.lines.Line.{Line}
 
 -- what stands before the first blank

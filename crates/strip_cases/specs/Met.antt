@@ -1,5 +1,5 @@
 -- When a step did what is wanted of it.
-use Rattle.std.specs.Prelude.{◌≡◌, ◌⊎◌, ℕ, ◌≤◌, ◌^◌, ◌-◌, true, List, [], ◌++◌, ◌∷◌, Option, IfSome, All, Contains, String, string_bytes}
+use Rattle.std.specs.Prelude.{◌≡◌, ◌⊎◌, ℕ, ◌≤◌, ◌^◌, ◌-◌, true, List, [], ◌++◌, ◌∷◌, IfSome, All, Contains, string_bytes}
 use Rattle.strip_text.specs.Number.{is_number, number_of}
 use Rattle.strip_cases.specs.declared.case.Bound.{Bound}
 use Rattle.strip_cases.specs.declared.case.Bound.TheVariants.{Number, In}

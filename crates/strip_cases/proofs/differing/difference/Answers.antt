@@ -1,6 +1,5 @@
-use Rattle.std.proofs.Common.{rules, List, All, subst}
+use Rattle.std.proofs.Common.{rules}
 use Rattle.strip_cases.proofs.differing.difference.Goals as goal
-use Rattle.strip_cases.specs.Met.{HasRow, IsNumberMet}
 
 pub returns : goal.returns
 returns c = record {
