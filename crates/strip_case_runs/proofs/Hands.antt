@@ -1,5 +1,5 @@
 -- Files at hand: one that is held anew, and a source that is filled with them.
-use Rattle.std.proofs.Common.{◌≡◌, ◌≢◌, ◌↔◌, ℕ, zero, suc, ◌+◌, ◌<◌, ◌++◌, ◌∷◌, [], true, false, Bool, not, cond, List, Option, Some, None, length, take, get_or, String, Global, string_bytes, Contains, All, arith, refl, sym, subst, ap, ◌∙◌, inl, inr}
+use Rattle.std.proofs.Common.{◌≡◌, ◌≢◌, ◌↔◌, ℕ, zero, suc, ◌+◌, ◌<◌, ◌++◌, ◌∷◌, [], true, false, Bool, not, List, Option, Some, None, length, take, get_or, String, Global, string_bytes, Contains, arith, refl, sym, subst, ap, ◌∙◌, inl, inr}
 use Rattle.std.specs.List.{filter}
 use Rattle.std.specs.Option.{is_some, option_map}
 use Rattle.std.specs.Str.{bytes_eq}

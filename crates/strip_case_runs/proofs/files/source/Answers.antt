@@ -1,5 +1,5 @@
-use Rattle.std.proofs.Common.{◌≡◌, ◌≢◌, ℕ, List, Some, string_bytes, sym, ap, ◌∙◌, subst}
-use Rattle.strip_io.specs.Held.{bytes_of, faults_of}
+use Rattle.std.proofs.Common.{Some, sym, ap, ◌∙◌}
+use Rattle.strip_io.specs.Held.{bytes_of}
 use Rattle.strip_case_runs.proofs.Hands.{source_more}
 use Rattle.strip_case_runs.proofs.files.source.Goals as goal
 

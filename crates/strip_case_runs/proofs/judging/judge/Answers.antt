@@ -1,4 +1,4 @@
-use Rattle.std.proofs.Common.{◌≡◌, ℕ, List, Option, ◌++◌, ◌∷◌, [], IfSome, string_bytes, ◌∙◌, sym, ap, subst}
+use Rattle.std.proofs.Common.{◌≡◌, ℕ, List, Option, ◌++◌, ◌∷◌, [], IfSome, string_bytes, ◌∙◌, ap, subst}
 use Rattle.strip_case_runs.specs.Judged.{IsReadFrom}
 use Rattle.strip_case_runs.proofs.Counts.{read_more, took_more}
 use Rattle.strip_case_runs.proofs.judging.judge.Goals as goal

@@ -1,4 +1,4 @@
-use Rattle.std.proofs.Common.{◌≡◌, ℕ, ◌+◌, ◌-◌, ◌^◌, ◌≤◌, min, All, take}
+use Rattle.std.proofs.Common.{◌≡◌, ◌+◌, ◌-◌, ◌^◌, ◌≤◌, min, All, take}
 use Rattle.strip_case_runs.specs.Runs.{IsCaseMet}
 use Rattle.strip_case_runs.proofs.judging.judge_cases.Given as goal
 

@@ -1,4 +1,4 @@
-use Rattle.std.proofs.Common.{[], sym, subst}
+use Rattle.std.proofs.Common.{sym, subst}
 use Rattle.strip_case_runs.specs.AtHand.{AreApart}
 use Rattle.strip_case_runs.proofs.Hands.{apart_none}
 use Rattle.strip_case_runs.proofs.Turns.{apart_all_given}
