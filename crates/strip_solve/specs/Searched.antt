@@ -5,6 +5,7 @@ use Rattle.strip_kind.specs.declared.kind.Kind.{Kind}
 use Rattle.strip_pay.specs.Film.{FilmData}
 use Rattle.strip_film.specs.declared.shared.Line.{Line}
 use Rattle.strip_film.specs.Path.{PathData}
+use Rattle.strip_film.specs.Shown.{path_data}
 use Rattle.strip_lines.specs.Lines.{rules_of}
 use Rattle.strip_trim.specs.Trimmed.{AreTrimmed}
 use Rattle.strip_team.specs.Ended.{EndedData, IsEnded}
@@ -19,15 +20,11 @@ abbrev pub IsTrimmed : Kind → FilmData → EndedData → Option (Vec Line Glob
 IsTrimmed kind film ended (Some lines) = (ended.bound ≡ ended.cost) × AreTrimmed (rules_of kind film) ended.lines lines.items
 IsTrimmed kind film ended None = ended.bound ≢ ended.cost
 
-pub record IsSearched (kind : Kind) (film : FilmData) (start : PathData) (most : ℕ) (searched : Searched) : Type 0 where
-  pub ended : IsEnded kind film start most (ended_data searched.ended)
-  pub trimmed : IsTrimmed kind film (ended_data searched.ended) searched.trimmed
-
--- the search of a film was begun with a path that varying the start gave
+-- the search of a film began with a path that varying the start gave, and ended as a search that begins with it
 pub record IsSearchedFrom (kind : Kind) (film : FilmData) (start : PathData) (most : ℕ) (searched : Searched) : Type 0 where
-  pub varied : PathData
-  pub is_varied : IsVaried film start varied
-  pub ends : IsSearched kind film varied most searched
+  pub is_varied : IsVaried film start (path_data searched.begun)
+  pub ended : IsEnded kind film (path_data searched.begun) most (ended_data searched.ended)
+  pub trimmed : IsTrimmed kind film (ended_data searched.ended) searched.trimmed
 
 -- the status and the lines of a plan, by whether lines were trimmed
 abbrev pub IsProofOf : Option (Vec Line Global) → List Line → Status → List Line → Type 0

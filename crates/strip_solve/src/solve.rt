@@ -89,9 +89,11 @@ fn solve_classes(
     plan_of(alloc, reduced, kind, &start, nodes, searched)
 }
 
-/// The end of a search, and where its bound is its cost, those of its lines that the bound needs.
+/// A search: the path that it began with, its end, and where its bound is its cost, those of its lines that the
+/// bound needs.
 #[derive(Debug, Drop)]
 struct Searched {
+    begun: Path,
     ended: Ended,
     trimmed: Option<Vec<Line>>,
 }
@@ -123,7 +125,11 @@ fn search(
     } else {
         None
     };
-    Ok(Searched { ended, trimmed })
+    Ok(Searched {
+        begun,
+        ended,
+        trimmed,
+    })
 }
 
 /// What varying the path gives; nothing is tried where the static bound of all scenes says that none is cheaper.
@@ -159,7 +165,7 @@ fn plan_of(
     paths_are_few();
     a_least_tail_exists();
     finishing_everything_is_the_optimum();
-    let Searched { ended, trimmed } = searched;
+    let Searched { ended, trimmed, .. } = searched;
     let Ended {
         order,
         cost,
