@@ -17,7 +17,7 @@ known_best rules (line ∷ lines) set = max_of (eqb line.set set) line.bound (be
 
 -- rules without static bounds
 abbrev unbounded : Rules
-unbounded = record { film = record { casts = []; days = []; rates = []; holds = []; pairs = [] }; bound = λ _. 0; firsts = λ _. 0 }
+unbounded = record { film = record { casts = []; days = []; rates = []; holds = []; pairs = [] }; bound = λ _. 0; firsts = λ _. 0; promise = λ _ _. 0 }
 
 known_alone : (lines : List Line) (set : ℕ) → known unbounded lines set ≡ best_bound lines set
 known_alone lines set = let e = known_best unbounded lines set in omega (arith, e)

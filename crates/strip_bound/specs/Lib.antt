@@ -1,5 +1,6 @@
 pub mod Falling
 pub mod Bounds
+pub mod Promise
 pub mod Waiting
 pub mod Tables
 pub mod Parties

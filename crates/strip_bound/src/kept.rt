@@ -1,10 +1,13 @@
 // A stored bound.
-ghost use Rattle.std.specs.Prelude.{◌≡◌, ◌≤◌, ◌⊎◌};
+ghost use Rattle.std.specs.Prelude.{◌≡◌, ◌+◌, ◌≤◌, ◌⊎◌, true};
+ghost use Rattle.strip_mask.specs.Set.{has, without};
 ghost use Rattle.strip_film.specs.Film.{LiesIn};
+ghost use Rattle.strip_film.specs.Shoot.{step_cost};
 ghost use Rattle.strip_bound.specs.Bounds.{bound};
 ghost use Rattle.strip_bound.specs.Kept.{Keeps};
+ghost use Rattle.strip_bound.specs.Promise.{promised};
 
-use strip_film::Film;
+use strip_film::{Film, step};
 use strip_kind::Kind;
 use strip_mask::Mask;
 
@@ -47,6 +50,35 @@ impl<'f, F: Fn(u64, u64) -> u64> Kept<'f, F> {
     {
         self.film.keeps_limits();
         self.reach(q, u64::MAX)
+    }
+
+    /// What a path promises whose paid with the bound of what remains is `reach`, in units of money: the
+    /// lesser goes first. With the cheap kinds all promise the same.
+    pub fn promised(&self, reach: u64) -> u64
+        ensures { result ≡ promised self.now.kind reach }
+    {
+        match self.kind {
+            Kind::Plain | Kind::Pairs => 0,
+            Kind::Groups | Kind::Arrivals => reach,
+        }
+    }
+
+    /// The rank of scene `s` among those of `q` that may be shot first: what a step to it with the bound
+    /// of what then remains promises. At most the time of a step and one call of the closure.
+    pub fn rank(&self, q: Mask, s: u32) -> u64
+        requires keeps { Keeps (F.pre self.now.f) (F.post self.now.f) self.now.kind self.now.film.now }
+        requires lies { LiesIn self.now.film.now q.0 }
+        requires member { has q.0 s ≡ true }
+        ensures { result ≡ promised self.now.kind
+            (step_cost self.now.film.now q.0 s + bound self.now.kind self.now.film.now (without q.0 s)) }
+    {
+        match self.kind {
+            Kind::Plain | Kind::Pairs => 0,
+            Kind::Groups | Kind::Arrivals => {
+                self.film.keeps_limits();
+                step(self.film, q, s) + self.at(q.without(s))
+            }
+        }
     }
 
     /// The kind of the bound.

@@ -16,3 +16,5 @@ pub mod Paths
 pub mod Moves
 pub mod Started
 pub mod Rows
+pub mod Ranks
+pub mod Soonest

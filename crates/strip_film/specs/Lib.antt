@@ -5,5 +5,7 @@ pub mod Path
 pub mod Running
 pub mod Bounds
 pub mod Rules
+pub mod Ranks
+pub mod Turns
 pub mod Shown
 pub mod Located

@@ -1,17 +1,23 @@
 -- What a search goes by.
 use Rattle.std.specs.Prelude.{◌≡◌, ◌≢◌, ℕ, true}
-use Rattle.strip_mask.specs.Set.{has}
+use Rattle.strip_mask.specs.Set.{has, without}
 use Rattle.strip_pay.specs.Film.{FilmData}
 use Rattle.strip_film.specs.Film.{LiesIn, all_scenes}
-use Rattle.strip_film.specs.Shoot.{ready}
+use Rattle.strip_film.specs.Shoot.{ready, step_cost}
 use Rattle.strip_film.specs.Finish.{AreFirsts, IsAtMostFinish, BeginsLeast}
 use Rattle.strip_film.specs.Path.{PathData, IsPath}
 
--- the film, the static bound of each set, and which scenes of a set may be shot first
+-- the film, the static bound of each set, which scenes of a set may be shot first, and what a path promises that has paid so much and
+-- leaves a set: the lesser goes first
 pub record Rules : Type 0 where
   pub film : FilmData
   pub bound : ℕ → ℕ
   pub firsts : ℕ → ℕ
+  pub promise : ℕ → ℕ → ℕ
+
+-- the rank of a scene of a set: what shooting it first promises
+abbrev pub rank : Rules → ℕ → ℕ → ℕ
+rank rules set scene = rules.promise (step_cost rules.film set scene) (without set scene)
 
 -- an open path: each of its scenes was one that may be first
 abbrev pub IsOpen : Rules → PathData → Type 0

@@ -1,11 +1,13 @@
--- What contracts see of paths, cursors and running states.
-use Rattle.std.specs.Prelude.{ℕ, take, Option}
+-- What contracts see of paths, cursors, running states and turns.
+use Rattle.std.specs.Prelude.{ℕ, take, Option, slice_index}
 use Rattle.std.specs.Option.{option_map}
 use Rattle.strip_film.specs.declared.path.Path.{Path}
 use Rattle.strip_film.specs.declared.cursor.Cursor.{Cursor}
 use Rattle.strip_film.specs.declared.running.Running.{Running}
+use Rattle.strip_film.specs.declared.turns.Turns.{Turns}
 use Rattle.strip_film.specs.Path.{PathData}
 use Rattle.strip_film.specs.Running.{RunningData}
+use Rattle.strip_film.specs.Turns.{TurnsData}
 
 -- a path: its scenes in shooting order, what remains, and what was paid
 abbrev pub path_data : Path → PathData
@@ -28,3 +30,7 @@ running_data running = record {
   on = running.on.0;
   before = running.before;
 }
+
+-- turns: the scenes that wait, and their ranks
+abbrev pub turns_data : Turns → TurnsData
+turns_data turns = record { left = turns.left.0; ranks = slice_index turns.ranks }

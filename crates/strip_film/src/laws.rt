@@ -61,8 +61,8 @@ pub fn a_least_tail_exists()
 
 /// Where each ready scene of a set may be shot first, some first begins a least tail.
 pub fn ready_firsts_begin_least_tails()
-    ensures { (film : FilmData) (bound : ℕ → ℕ) → IsFilm film
-        → BeginLeast (record { film = film; bound = bound; firsts = ready film }) }
+    ensures { (film : FilmData) (bound : ℕ → ℕ) (promise : ℕ → ℕ → ℕ) → IsFilm film
+        → BeginLeast (record { film = film; bound = bound; firsts = ready film; promise = promise }) }
 {}
 
 /// What remains after a path lies in the film.

@@ -10,6 +10,7 @@ mod path;
 mod running;
 mod shared;
 mod shoot;
+mod turns;
 
 pub use cursor::Cursor;
 pub use film::Film;
@@ -18,3 +19,4 @@ pub use path::Path;
 pub use running::Running;
 pub use shared::{Known, Line, Listed, Noted, Probe};
 pub use shoot::{cast_of, on, ready, step, step_with};
+pub use turns::Turns;

@@ -1,10 +1,9 @@
 // The scenes shot so far.
-ghost use Rattle.std.specs.Prelude.{◌≡◌, ◌↔◌, ◌+◌, ◌<◌, ◌≤◌, ◌^◌, true, [], ◌∷◌, ◌++◌, length, All, IsTrue};
+ghost use Rattle.std.specs.Prelude.{◌≡◌, ◌+◌, ◌<◌, ◌≤◌, ◌^◌, true, [], ◌∷◌, ◌++◌, length, All};
 ghost use Rattle.strip_mask.specs.Set.{has, with, without};
 ghost use Rattle.strip_film.specs.declared.limits.TheConstants.{MAX_COUNT};
 ghost use Rattle.strip_film.specs.Film.{all_scenes};
 ghost use Rattle.strip_film.specs.Shoot.{ready, step_cost};
-ghost use Rattle.strip_pay.specs.Order.{IsBefore};
 ghost use Rattle.strip_film.specs.Path.{PathData, IsPath};
 
 use crate::film::Film;
@@ -108,13 +107,5 @@ impl Path {
         self.rest = self.rest.with(s);
         self.paid = paid;
         s
-    }
-
-    /// Whether this path comes before the other, by the order of their scenes in which a proper
-    /// prefix comes first.
-    pub fn before(&self, other: &Path) -> bool
-        ensures { IsTrue result ↔ IsBefore (path_data self.now).scenes (path_data other.now).scenes }
-    {
-        self.scenes() < other.scenes()
     }
 }

@@ -8,12 +8,18 @@ use Rattle.strip_film.specs.Film.{LiesIn}
 use Rattle.strip_film.specs.Shoot.{step_cost}
 use Rattle.strip_film.specs.Rules.{Rules}
 use Rattle.strip_bound.specs.Bounds.{bound}
+use Rattle.strip_bound.specs.Promise.{promised}
 use Rattle.strip_rule.specs.Rule.{open_firsts}
 pub use Rattle.strip_mask.specs.Least.{least_at as least_of}
 
--- the rules of a search by a film's static bounds of a kind and its open firsts
+-- the rules of a search by a film's static bounds of a kind and its open firsts; a path promises what it paid with the bound of what remains
 abbrev pub rules_of : Kind → FilmData → Rules
-rules_of kind film = record { film = film; bound = bound kind film; firsts = open_firsts film }
+rules_of kind film = record {
+  film = film;
+  bound = bound kind film;
+  firsts = open_firsts film;
+  promise = λ paid set. promised kind (paid + bound kind film set);
+}
 
 -- the greatest of the static bound of a set and the bounds of the lines with this set
 abbrev pub known : Rules → List Line → ℕ → ℕ

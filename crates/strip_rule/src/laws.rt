@@ -35,8 +35,8 @@ pub fn open_firsts_are_by_scenes()
 /// Where the open firsts of a set may be shot first, some first begins a least tail; and they are
 /// ready.
 pub fn an_open_first_begins_a_least_tail()
-    ensures best { (film : FilmData) (bound : ℕ → ℕ) → IsFilm film
-        → BeginLeast (record { film = film; bound = bound; firsts = open_firsts film }) }
-    ensures ready { (film : FilmData) (bound : ℕ → ℕ) → IsFilm film
-        → FirstsAreReady (record { film = film; bound = bound; firsts = open_firsts film }) }
+    ensures best { (film : FilmData) (bound : ℕ → ℕ) (promise : ℕ → ℕ → ℕ) → IsFilm film
+        → BeginLeast (record { film = film; bound = bound; firsts = open_firsts film; promise = promise }) }
+    ensures ready { (film : FilmData) (bound : ℕ → ℕ) (promise : ℕ → ℕ → ℕ) → IsFilm film
+        → FirstsAreReady (record { film = film; bound = bound; firsts = open_firsts film; promise = promise }) }
 {}
