@@ -1,6 +1,7 @@
 pub mod Sums
 pub mod Enumerated
 pub mod Length
+pub mod Ordered
 pub mod Later
 pub mod Shares
 pub mod Rows

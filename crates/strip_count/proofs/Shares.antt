@@ -9,7 +9,6 @@ use Rattle.std.proofs.lemmas.List.Sums.{sum_by-append}
 use Rattle.strip_mask.specs.Sums.{sum_below}
 use Rattle.strip_mask.proofs.Sizes.{mark}
 use Rattle.strip_mask.proofs.Sums.{sum_below-none, sum_below_mono, sum_below-point}
-use Rattle.strip_pay.specs.Film.{FilmData}
 use Rattle.strip_film.specs.declared.shared.Line.{Line}
 use Rattle.strip_film.specs.Film.{IsFilm, all_scenes}
 use Rattle.strip_film.specs.Path.{PathData, IsPath}
@@ -64,57 +63,57 @@ module _ (depth : ℕ) (tasks : List PathData) (are : AreTasks depth tasks) wher
       apart_at : (a b : ℕ) → a < b → b < length tasks → (get_or tasks a no_task).scenes ≢ (get_or tasks b no_task).scenes
       apart_at a b rising within = are.apart a b no_task rising within
 
-  module _ (film : FilmData) (is : IsFilm film) (last : ℕ → Option PathData) (test : PathData → Bool) where
+  module _ (rules : Rules) (is : IsFilm rules.film) (last : ℕ → Option PathData) (test : PathData → Bool) where
     abbrev in_part : ℕ → List ℕ → Bool
-    in_part part scenes = up_to (last part) (inside depth tasks part test) (at film is scenes)
+    in_part part scenes = up_to rules (last part) (inside depth tasks part test) (at rules is scenes)
 
-    parts_of : (scenes : List ℕ) (part : ℕ) → in_part part scenes ≡ true → (lies_in depth tasks part (at film is scenes) ≡ true) × (test (at film is scenes) ≡ true)
+    parts_of : (scenes : List ℕ) (part : ℕ) → in_part part scenes ≡ true → (lies_in depth tasks part (at rules is scenes) ≡ true) × (test (at rules is scenes) ≡ true)
     parts_of scenes part there =
-        and_parts (lies_in depth tasks part (at film is scenes)) (test (at film is scenes)) (up_to_passes film is (last part) (inside depth tasks part test) (at film is scenes) there)
+        and_parts (lies_in depth tasks part (at rules is scenes)) (test (at rules is scenes)) (up_to_passes rules is (last part) (inside depth tasks part test) (at rules is scenes) there)
 
-    at_most : (scenes : List ℕ) → sum_below (suc (length tasks)) (λ part. mark (in_part part scenes)) ≤ mark (test (at film is scenes))
+    at_most : (scenes : List ℕ) → sum_below (suc (length tasks)) (λ part. mark (in_part part scenes)) ≤ mark (test (at rules is scenes))
     at_most scenes =
-        one_of (suc (length tasks)) (λ part. in_part part scenes) (test (at film is scenes))
+        one_of (suc (length tasks)) (λ part. in_part part scenes) (test (at rules is scenes))
         (λ part lt there. (parts_of scenes part there).1)
-        (λ i j lt less first second. one_part (at film is scenes) i j lt less (parts_of scenes i first).0 (parts_of scenes j second).0)
+        (λ i j lt less first second. one_part (at rules is scenes) i j lt less (parts_of scenes i first).0 (parts_of scenes j second).0)
 
-    pub parts_most : sum_below (suc (length tasks)) (λ part. number_up_to film (last part) (inside depth tasks part test)) ≤ number_of film test
+    pub parts_most : sum_below (suc (length tasks)) (λ part. number_up_to rules (last part) (inside depth tasks part test)) ≤ number_of rules.film test
     parts_most =
-        let all : sum_below (suc (length tasks)) (λ part. count_by (in_part part) (lists film is)) + count_by (λ scenes. false) (lists film is) ≤ count_by (λ scenes. test (at film is scenes)) (lists film is)
-        = count_parts (suc (length tasks)) in_part (λ scenes. false) (λ scenes. test (at film is scenes)) (lists film is)
-        (λ k d lt. (let here = at_most (get_or (lists film is) k d) in omega (arith, here))) in
+        let all : sum_below (suc (length tasks)) (λ part. count_by (in_part part) (lists rules.film is)) + count_by (λ scenes. false) (lists rules.film is) ≤ count_by (λ scenes. test (at rules is scenes)) (lists rules.film is)
+        = count_parts (suc (length tasks)) in_part (λ scenes. false) (λ scenes. test (at rules is scenes)) (lists rules.film is)
+        (λ k d lt. (let here = at_most (get_or (lists rules.film is) k d) in omega (arith, here))) in
         omega (arith, all)
 
-    module _ (part : ℕ) (next : PathData) (lt : part < suc (length tasks)) (unfinished : IsUnfinished film next) (after : ComesAfter (last part) next)
+    module _ (part : ℕ) (next : PathData) (lt : part < suc (length tasks)) (unfinished : IsUnfinished rules.film next) (after : ComesAfter rules (last part) next)
         (lies : lies_in depth tasks part next ≡ true) (passes : test next ≡ true) where
       -- the next path is in no part yet
-      not_yet : (other : ℕ) → other < suc (length tasks) → up_to (last other) (inside depth tasks other test) next ≡ true → ⊥
+      not_yet : (other : ℕ) → other < suc (length tasks) → up_to rules (last other) (inside depth tasks other test) next ≡ true → ⊥
       not_yet other less there =
-          let both = and_parts (lies_in depth tasks other next) (test next) (up_to_passes film is (last other) (inside depth tasks other test) next there) in
+          let both = and_parts (lies_in depth tasks other next) (test next) (up_to_passes rules is (last other) (inside depth tasks other test) next there) in
           let same : other ≡ part = one_part next other part less lt both.0 lies in
-          not_up_to (last part) (inside depth tasks part test) next after
-          (subst (λ (i : ℕ). up_to (last i) (inside depth tasks i test) next ≡ true) same there)
+          not_up_to rules (last part) (inside depth tasks part test) next after
+          (subst (λ (i : ℕ). up_to rules (last i) (inside depth tasks i test) next ≡ true) same there)
 
-      room_at : (scenes : List ℕ) → IsUnfinished film (at film is scenes)
-          → sum_below (suc (length tasks)) (λ other. mark (in_part other scenes)) + mark (same_as film is next scenes) ≤ mark (test (at film is scenes))
-      room_at scenes here = elim (cases_Bool (same_as film is next scenes)) [
-        | inl same ↦ (let tie = same_there film is next scenes unfinished here same in
-            let whole : mark (test (at film is scenes)) ≡ 1 = ap mark (ap test tie ∙ passes) in
+      room_at : (scenes : List ℕ) → IsUnfinished rules.film (at rules is scenes)
+          → sum_below (suc (length tasks)) (λ other. mark (in_part other scenes)) + mark (same_as rules is next scenes) ≤ mark (test (at rules is scenes))
+      room_at scenes here = elim (cases_Bool (same_as rules is next scenes)) [
+        | inl same ↦ (let tie = same_there rules is next scenes unfinished here same in
+            let whole : mark (test (at rules is scenes)) ≡ 1 = ap mark (ap test tie ∙ passes) in
             let none : sum_below (suc (length tasks)) (λ other. mark (in_part other scenes)) ≡ 0
             = sum_below-none (suc (length tasks)) (λ other. mark (in_part other scenes)) (λ other less. elim (cases_Bool (in_part other scenes)) [
-              | inl there ↦ absurd (not_yet other less (subst (λ (p : PathData). up_to (last other) (inside depth tasks other test) p ≡ true) tie there))
+              | inl there ↦ absurd (not_yet other less (subst (λ (p : PathData). up_to rules (last other) (inside depth tasks other test) p ≡ true) tie there))
               | inr fails ↦ ap mark fails
             ]) in
             omega (arith, none, whole, ap mark same))
         | inr apart ↦ omega (arith, at_most scenes, ap mark apart)
       ]
 
-      pub parts_room : sum_below (suc (length tasks)) (λ other. number_up_to film (last other) (inside depth tasks other test)) + 1 ≤ number_of film test
+      pub parts_room : sum_below (suc (length tasks)) (λ other. number_up_to rules (last other) (inside depth tasks other test)) + 1 ≤ number_of rules.film test
       parts_room =
-          let all : sum_below (suc (length tasks)) (λ other. count_by (in_part other) (lists film is)) + count_by (same_as film is next) (lists film is) ≤ count_by (λ scenes. test (at film is scenes)) (lists film is)
-          = count_parts (suc (length tasks)) in_part (same_as film is next) (λ scenes. test (at film is scenes)) (lists film is)
-          (λ k d less. room_at (get_or (lists film is) k d) (all_unfinished film is k d less)) in
-          omega (arith, all, counted_once film is next unfinished)
+          let all : sum_below (suc (length tasks)) (λ other. count_by (in_part other) (lists rules.film is)) + count_by (same_as rules is next) (lists rules.film is) ≤ count_by (λ scenes. test (at rules is scenes)) (lists rules.film is)
+          = count_parts (suc (length tasks)) in_part (same_as rules is next) (λ scenes. test (at rules is scenes)) (lists rules.film is)
+          (λ k d less. room_at (get_or (lists rules.film is) k d) (all_unfinished rules.film is k d less)) in
+          omega (arith, all, counted_once rules.film is next unfinished)
 
 -- ---- lines that are counted
 
@@ -133,33 +132,33 @@ module _ (rules : Rules) (cost depth : ℕ) (tasks : List PathData) where
   }
 
   module _ (is : IsFilm rules.film) (part : ℕ) (lt : part < suc (length tasks)) (last last_then : ℕ → Option PathData) (number number_then : ℕ → ℕ) (next : PathData)
-      (unfinished : IsUnfinished rules.film next) (after : ComesAfter (last part) next) (lies : lies_in depth tasks part next ≡ true)
+      (unfinished : IsUnfinished rules.film next) (after : ComesAfter rules (last part) next) (lies : lies_in depth tasks part next ≡ true)
       (candidate : is_candidate rules cost next ≡ true) (enlists : Enlists part next last last_then number number_then) where
     -- what is counted of another part stays
-    other_stays : (other : ℕ) (test : PathData → Bool) → other ≢ part → number_up_to rules.film (last_then other) test ≡ number_up_to rules.film (last other) test
-    other_stays other test apart = ap (λ (l : Option PathData). number_up_to rules.film l test) (enlists.last_stay other apart)
+    other_stays : (other : ℕ) (test : PathData → Bool) → other ≢ part → number_up_to rules (last_then other) test ≡ number_up_to rules (last other) test
+    other_stays other test apart = ap (λ (l : Option PathData). number_up_to rules l test) (enlists.last_stay other apart)
 
-    part_grows : (test : PathData → Bool) → test next ≡ true → number_up_to rules.film (last part) test + 1 ≤ number_up_to rules.film (last_then part) test
+    part_grows : (test : PathData → Bool) → test next ≡ true → number_up_to rules (last part) test + 1 ≤ number_up_to rules (last_then part) test
     part_grows test passes =
-        subst (λ (l : Option PathData). number_up_to rules.film (last part) test + 1 ≤ number_up_to rules.film l test) (sym enlists.last_path)
-        (counts_more rules.film is (last part) next test after unfinished passes)
+        subst (λ (l : Option PathData). number_up_to rules (last part) test + 1 ≤ number_up_to rules l test) (sym enlists.last_path)
+        (counts_more rules is (last part) next test after unfinished passes)
 
-    part_stays : (test : PathData → Bool) → number_up_to rules.film (last part) test ≤ number_up_to rules.film (last_then part) test
+    part_stays : (test : PathData → Bool) → number_up_to rules (last part) test ≤ number_up_to rules (last_then part) test
     part_stays test =
-        subst (λ (l : Option PathData). number_up_to rules.film (last part) test ≤ number_up_to rules.film l test) (sym enlists.last_path)
-        (counts_stay rules.film is (last part) next test after)
+        subst (λ (l : Option PathData). number_up_to rules (last part) test ≤ number_up_to rules l test) (sym enlists.last_path)
+        (counts_stay rules is (last part) next test after)
 
     shares_then : (lines : List Line) → AreCounted rules cost depth tasks lines last number → (other : ℕ) → other < suc (length tasks)
-        → number_then other ≤ number_up_to rules.film (last_then other) (of_part other)
+        → number_then other ≤ number_up_to rules (last_then other) (of_part other)
     shares_then lines counted other less = elim (cases_eq other part) [
-      | inl same ↦ subst (λ (i : ℕ). number_then i ≤ number_up_to rules.film (last_then i) (of_part i)) (sym same)
+      | inl same ↦ subst (λ (i : ℕ). number_then i ≤ number_up_to rules (last_then i) (of_part i)) (sym same)
           (omega (arith, enlists.one_more, counted.shares part lt, part_grows (of_part part) (and_from (lies_in depth tasks part next) (is_candidate rules cost next) lies candidate)))
       | inr apart ↦ omega (arith, enlists.number_stay other apart, counted.shares other less, other_stays other (of_part other) apart)
     ]
 
     -- the candidates of a set up to the last paths
     abbrev up_to_lasts : (ℕ → Option PathData) → ℕ → ℕ → ℕ
-    up_to_lasts lasts set other = number_up_to rules.film (lasts other) (of_set set other)
+    up_to_lasts lasts set other = number_up_to rules (lasts other) (of_set set other)
 
     sets_grow : (set : ℕ) → up_to_lasts last set part + mark (eqb next.rest set) ≤ up_to_lasts last_then set part
     sets_grow set = elim (cases_Bool (eqb next.rest set)) [
@@ -189,19 +188,19 @@ module _ (rules : Rules) (cost depth : ℕ) (tasks : List PathData) where
 
   module _ (is : IsFilm rules.film) (are : AreTasks depth tasks) (lines : List Line) (last : ℕ → Option PathData) (number : ℕ → ℕ)
       (counted : AreCounted rules cost depth tasks lines last number) where
-    shares_sum : length lines ≤ sum_below (suc (length tasks)) (λ part. number_up_to rules.film (last part) (of_part part))
-    shares_sum = omega (arith, counted.total, sum_below_mono (suc (length tasks)) number (λ part. number_up_to rules.film (last part) (of_part part)) counted.shares)
+    shares_sum : length lines ≤ sum_below (suc (length tasks)) (λ part. number_up_to rules (last part) (of_part part))
+    shares_sum = omega (arith, counted.total, sum_below_mono (suc (length tasks)) number (λ part. number_up_to rules (last part) (of_part part)) counted.shares)
 
     pub lines_few : length lines ≤ few rules cost
-    lines_few = omega (arith, shares_sum, parts_most depth tasks are rules.film is last (is_candidate rules cost))
+    lines_few = omega (arith, shares_sum, parts_most depth tasks are rules is last (is_candidate rules cost))
 
     pub lines_ways : (set : ℕ) → count_by (λ line. eqb line.set set) lines ≤ ways rules cost set
-    lines_ways set = omega (arith, counted.sets set, parts_most depth tasks are rules.film is last (leaving set (is_candidate rules cost)))
+    lines_ways set = omega (arith, counted.sets set, parts_most depth tasks are rules is last (leaving set (is_candidate rules cost)))
 
-    pub lines_room : (part : ℕ) (next : PathData) → part < suc (length tasks) → IsUnfinished rules.film next → ComesAfter (last part) next
+    pub lines_room : (part : ℕ) (next : PathData) → part < suc (length tasks) → IsUnfinished rules.film next → ComesAfter rules (last part) next
         → lies_in depth tasks part next ≡ true → is_candidate rules cost next ≡ true → length lines + 1 ≤ few rules cost
     lines_room part next lt unfinished after lies candidate =
-        omega (arith, shares_sum, parts_room depth tasks are rules.film is last (is_candidate rules cost) part next lt unfinished after lies candidate)
+        omega (arith, shares_sum, parts_room depth tasks are rules is last (is_candidate rules cost) part next lt unfinished after lies candidate)
 
 -- ---- candidates
 

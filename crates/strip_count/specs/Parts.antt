@@ -28,7 +28,7 @@ inside depth tasks part test path = lies_in depth tasks part path && test path
 -- a number that is at most that of the candidates of the part up to its last path
 abbrev pub IsShare : Rules → ℕ → ℕ → List PathData → ℕ → Option PathData → ℕ → Type 0
 IsShare rules cost depth tasks part last number =
-    number ≤ number_up_to rules.film last (inside depth tasks part (is_candidate rules cost))
+    number ≤ number_up_to rules last (inside depth tasks part (is_candidate rules cost))
 
 -- each part has a share, the shares add up to the number of lines, and the lines of each set are at most as many as the candidates
 -- with this set remaining up to the parts' last paths
@@ -37,7 +37,7 @@ pub record AreCounted (rules : Rules) (cost depth : ℕ) (tasks : List PathData)
   pub shares : (part : ℕ) → part < suc (length tasks) → IsShare rules cost depth tasks part (last part) (number part)
   pub total : sum_below (suc (length tasks)) number ≡ length lines
   pub sets : (set : ℕ) → count_by (λ line. line.set == set) lines
-      ≤ sum_below (suc (length tasks)) (λ part. number_up_to rules.film (last part) (inside depth tasks part (leaving set (is_candidate rules cost))))
+      ≤ sum_below (suc (length tasks)) (λ part. number_up_to rules (last part) (inside depth tasks part (leaving set (is_candidate rules cost))))
 
 -- a part gets another last path and one line more, and the other parts stay
 pub record Enlists (part : ℕ) (path : PathData) (last last_then : ℕ → Option PathData) (number number_then : ℕ → ℕ) : Type 0 where

@@ -3,12 +3,12 @@ use Rattle.std.specs.Prelude.{◌≢◌, ℕ, zero, suc, ◌+◌, ◌*◌, ◌==
 use Rattle.std.specs.List.{flat_map}
 use Rattle.strip_mask.specs.Set.{has, without, members}
 use Rattle.strip_pay.specs.Film.{FilmData}
-use Rattle.strip_pay.specs.Order.{IsBefore}
 use Rattle.strip_film.specs.Film.{all_scenes}
 use Rattle.strip_film.specs.Shoot.{ready}
 use Rattle.strip_film.specs.Finish.{rest_after, steps_cost}
 use Rattle.strip_film.specs.Path.{PathData, IsPath}
-use Rattle.strip_film.specs.Rules.{Rules}
+use Rattle.strip_film.specs.Rules.{Rules, rank}
+use Rattle.strip_film.specs.Ranks.{IsEarlier}
 
 -- the path is one of the film, and something remains
 abbrev pub IsUnfinished : FilmData → PathData → Type 0
@@ -63,21 +63,26 @@ few rules cost = number_of rules.film (is_candidate rules cost)
 abbrev pub ways : Rules → ℕ → ℕ → ℕ
 ways rules cost set = number_of rules.film (leaving set (is_candidate rules cost))
 
--- the first list comes before the second: at the first place where they differ it has the lesser number, or it ends there
-abbrev pub is_before : List ℕ → List ℕ → Bool
-is_before xs [] = false
-is_before [] (y ∷ ys) = true
-is_before (x ∷ xs) (y ∷ ys) = nat_lt x y || (x == y && is_before xs ys)
+-- the first scene goes before the second: its rank is less, or the ranks are equal and its number is less
+abbrev pub is_sooner : (ℕ → ℕ) → ℕ → ℕ → Bool
+is_sooner ranks scene other = nat_lt (ranks scene) (ranks other) || (ranks scene == ranks other && nat_lt scene other)
+
+-- the first list comes before the second, both shot from a set: it ends where the other goes on, or where the two part its scene goes
+-- first among what then remains
+abbrev pub is_earlier : Rules → ℕ → List ℕ → List ℕ → Bool
+is_earlier rules set xs [] = false
+is_earlier rules set [] (y ∷ ys) = true
+is_earlier rules set (x ∷ xs) (y ∷ ys) = is_sooner (rank rules set) x y || (x == y && is_earlier rules (without set x) xs ys)
 
 -- the path doesn't come after the last one, and passes the test; without a last one none does
-abbrev pub up_to : Option PathData → (PathData → Bool) → PathData → Bool
-up_to None test path = false
-up_to (Some last) test path = not (is_before last.scenes path.scenes) && test path
+abbrev pub up_to : Rules → Option PathData → (PathData → Bool) → PathData → Bool
+up_to rules None test path = false
+up_to rules (Some last) test path = not (is_earlier rules (all_scenes rules.film) last.scenes path.scenes) && test path
 
-abbrev pub number_up_to : FilmData → Option PathData → (PathData → Bool) → ℕ
-number_up_to film last test = number_of film (up_to last test)
+abbrev pub number_up_to : Rules → Option PathData → (PathData → Bool) → ℕ
+number_up_to rules last test = number_of rules.film (up_to rules last test)
 
 -- the path comes after the last one, if there is one
-abbrev pub ComesAfter : Option PathData → PathData → Type 0
-ComesAfter None path = ⊤
-ComesAfter (Some last) path = IsBefore last.scenes path.scenes
+abbrev pub ComesAfter : Rules → Option PathData → PathData → Type 0
+ComesAfter rules None path = ⊤
+ComesAfter rules (Some last) path = IsEarlier rules (all_scenes rules.film) last.scenes path.scenes

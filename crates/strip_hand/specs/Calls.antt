@@ -49,7 +49,7 @@ pub record MayEnlist (hand : HandData) (cursor : CursorData) (path : PathData) (
   pub stands : StandsAt hand cursor
   pub is_open : IsOpen (search_rules hand.search) path
   pub lies : lies_in (depth_of hand.search) hand.search.tasks cursor.task path ≡ true
-  pub later : ComesAfter cursor.last path
+  pub later : ComesAfter (search_rules hand.search) cursor.last path
   pub some : path.rest ≢ 0
   pub static_bound : bound ≡ (search_rules hand.search).bound path.rest
   pub below : path.paid + bound < hand.told

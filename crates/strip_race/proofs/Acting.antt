@@ -20,6 +20,7 @@ use Rattle.strip_lines.proofs.Grown.{added-grows, grow_self, raised-grows}
 use Rattle.strip_count.specs.Paths.{ComesAfter}
 use Rattle.strip_hand.specs.Hand.{HandData, IsHand, IsRecord, Knows, RecordData}
 use Rattle.strip_hand.specs.Calls.{Claims, Enlists, IsFound, MakesLine, MayEnlist as HandMayEnlist, MayRaise as HandMayRaise, Notes, Probes, Raises, Tells}
+use Rattle.strip_hand.specs.Search.{search_rules}
 use Rattle.strip_race.specs.World.{PartData, WorkerData, WorldData, no_part, no_worker, home_stripe, part_at, worker_at}
 use Rattle.strip_race.specs.Allowed.{MayEnlist}
 use Rattle.strip_race.specs.Hand.{IsOwned, hand_data, own_record, record_by}
@@ -213,7 +214,7 @@ module _ (world : WorldData) (owned : IsOwned world) where
       claimed = tells.0;
       is_open = may.is_open;
       lies = may.lies;
-      later = subst (λ (last : Option PathData). ComesAfter last path) same_last may.later;
+      later = subst (λ (last : Option PathData). ComesAfter (search_rules world.search) last path) same_last may.later;
       some = may.some;
       below = omega (arith, may.below, may.static_bound);
       through = may.through;

@@ -31,6 +31,7 @@ module _ (world : WorldData) (who : ℕ) (lt : who < length world.workers) (soun
       claimer = λ below. (who, lt, ap (λ (p : PartData). p.claimer) part_here);
       free = λ above. absurd (omega (arith, above));
       last = λ path at. (sound.parts world.next left).last path (ap (λ (p : PartData). p.last) (sym part_here) ∙ at);
+      own = λ path at. (sound.parts world.next left).own path (ap (λ (p : PartData). p.last) (sym part_here) ∙ at);
     }
 
     claims : (part : ℕ) → part < length world.parts → IsClaimed taken part

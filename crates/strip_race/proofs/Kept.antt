@@ -3,6 +3,7 @@ use Rattle.std.proofs.Common.{◌≡◌, ℕ, ◌<◌, ◌≤◌, true, List, le
 use Rattle.std.proofs.lemmas.List.Elements.{All-weaker}
 use Rattle.strip_film.specs.declared.shared.Known.{Known}
 use Rattle.strip_film.specs.declared.shared.Line.{Line}
+use Rattle.strip_film.specs.Path.{IsPath}
 use Rattle.strip_lines.specs.Lines.{GrowTo}
 use Rattle.strip_count.specs.Parts.{lies_in}
 use Rattle.strip_table.specs.Stripe.{bucket_at}
@@ -41,4 +42,5 @@ claim_stays world after part search workers below above same is = record {
   ));
   last = λ path at. subst (λ (s : SearchData). lies_in (depth_of s) s.tasks part path ≡ true) (sym search)
       (is.last path (ap (λ (p : PartData). p.last) (sym same) ∙ at));
+  own = λ path at. subst (λ (s : SearchData). IsPath s.film path) (sym search) (is.own path (ap (λ (p : PartData). p.last) (sym same) ∙ at));
 }

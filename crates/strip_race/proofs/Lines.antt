@@ -6,7 +6,7 @@ use Rattle.std.proofs.lemmas.Bool.Decides.{eqb_tells}
 use Rattle.std.proofs.lemmas.List.{length-append, length-set, get_or-set_same, get_or-set_other}
 use Rattle.std.proofs.lemmas.List.Sums.{sum_by-set}
 use Rattle.strip_film.specs.declared.shared.Line.{Line}
-use Rattle.strip_film.specs.Path.{PathData}
+use Rattle.strip_film.specs.Path.{IsPath, PathData}
 use Rattle.strip_film.proofs.Paths.{rest_lies}
 use Rattle.strip_lines.specs.Lines.{line_at, no_line, raised, with_raised}
 use Rattle.strip_lines.proofs.Grown.{added-grows, justified-added, raised-grows, justified-raised}
@@ -45,14 +45,17 @@ module _ (world : WorldData) (who part : ℕ) (path : PathData) (lt : who < leng
   part_there : (other : ℕ) → other ≢ part → part_at listed other ≡ part_at world other
   part_there other apart = get_or-set_other world.parts part other mine no_part apart
 
+  last_is : (other : PathData) → (part_at listed part).last ≡ Some other → path ≡ other
+  last_is other at = (let same : Some path ≡ Some other = ap (λ (p : PartData). p.last) (sym part_here) ∙ at in cc)
+
   claim_here : IsClaimed listed part
   claim_here = record {
     claimer = λ below. (let was = (sound.parts part may.known).claimer below in (was.0, was.1, ap (λ (p : PartData). p.claimer) part_here ∙ was.2));
     free = λ above. absurd (let none : (part_at world part).claimer ≡ None = ((sound.parts part may.known).free above).0 in
         let some : (part_at world part).claimer ≡ Some who = may.claimed in cc);
-    last = λ other at. (let same : Some path ≡ Some other = ap (λ (p : PartData). p.last) (sym part_here) ∙ at in
-        let tie : path ≡ other = cc in
-        subst (λ (p : PathData). lies_in (depth_of world.search) world.search.tasks part p ≡ true) tie may.lies);
+    last = λ other at.
+        subst (λ (p : PathData). lies_in (depth_of world.search) world.search.tasks part p ≡ true) (last_is other at) may.lies;
+    own = λ other at. subst (IsPath world.search.film) (last_is other at) may.is_open.0;
   }
 
   claims : (other : ℕ) → other < length world.parts → IsClaimed listed other

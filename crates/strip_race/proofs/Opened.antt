@@ -1,5 +1,5 @@
 -- A search opens with a sound world.
-use Rattle.std.proofs.Common.{◌≡◌, ℕ, suc, ◌/◌, ◌<◌, ◌^◌, None, List, [], length, replicate, All, inl, inr, sym, ap, subst, arith}
+use Rattle.std.proofs.Common.{◌≡◌, Some, ℕ, suc, ◌/◌, ◌<◌, ◌^◌, None, List, [], length, replicate, All, inl, inr, sym, ap, subst, arith}
 use Rattle.std.proofs.lemmas.Bool.{cases_lt}
 use Rattle.std.proofs.lemmas.List.{get_or-replicate, get_or_past, length-replicate}
 use Rattle.std.proofs.lemmas.List.Elements.{All-nil, All-replicate}
@@ -80,6 +80,9 @@ module _ (film : FilmData) (kind : Kind) (start : PathData) (tasks : List PathDa
     | inr past ↦ get_or_past (replicate (suc (length tasks)) no_part) part no_part (omega (arith, past, length-replicate {A = PartData} (suc (length tasks)) no_part))
   ]
 
+  no_last : (part : ℕ) (path : PathData) → (part_at world part).last ≡ Some path → ⊥
+  no_last part path at = (let none : (part_at world part).last ≡ None = ap (λ (p : PartData). p.last) (read_part part) in cc)
+
   claims : (part : ℕ) → IsClaimed world part
   claims part = record {
     claimer = λ below. absurd (omega (arith, below));
@@ -88,7 +91,8 @@ module _ (film : FilmData) (kind : Kind) (start : PathData) (tasks : List PathDa
       ap (λ (p : PartData). p.last) (read_part part),
       ap (λ (p : PartData). p.number) (read_part part),
     );
-    last = λ path at. absurd (let none : (part_at world part).last ≡ None = ap (λ (p : PartData). p.last) (read_part part) in cc);
+    last = λ path at. absurd (no_last part path at);
+    own = λ path at. absurd (no_last part path at);
   }
 
   counts : AreCounted (search_rules world.search) world.search.start (depth_of world.search) world.search.tasks world.lines

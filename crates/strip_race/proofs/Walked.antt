@@ -7,10 +7,10 @@ use Rattle.strip_mask.proofs.Below.{LiesBelow-full}
 use Rattle.strip_pay.specs.Film.{FilmData}
 use Rattle.strip_film.specs.declared.path.Path.{Path}
 use Rattle.strip_film.specs.Film.{LiesIn, all_scenes}
-use Rattle.strip_film.specs.Finish.{AreFirsts, rest_after}
+use Rattle.strip_film.specs.Finish.{AreFirsts, Remained, rest_after}
 use Rattle.strip_film.specs.Path.{PathData}
 use Rattle.strip_film.specs.Shown.{path_data}
-use Rattle.strip_film.proofs.Lists.{AreFirsts-append, LiesBelow-rest_after, rest_after-append}
+use Rattle.strip_film.proofs.Lists.{AreFirsts-append, LiesBelow-rest_after, ready_there, rest_after-append}
 use Rattle.strip_count.specs.Parts.{lies_in}
 
 -- what remains after scenes lies in the film
@@ -46,3 +46,9 @@ lies_in_task depth tasks (suc part) path task some within read =
     let here : task ≡ get_or tasks part task = read ∙ ap (λ (i : ℕ). get_or tasks i task) place in
     ap (λ (p : PathData). starts_with nat_eq path.scenes p.scenes)
     (get_or-map path_data tasks part task _ (omega (arith, within)) ∙ ap path_data (sym here))
+
+-- a list that remained, with its first scene: it was in the set, and the others remained without it
+pub remained_first : (film : FilmData) (set : ℕ) (xs : List ℕ) (x : ℕ) (later : List ℕ) → xs ≡ x ∷ later → Remained film set xs
+    → (has set x ≡ true) × Remained film (without set x) later
+remained_first film set xs x later is remained =
+    let both = subst (Remained film set) is remained in (ready_there film set x both.0, both.1)

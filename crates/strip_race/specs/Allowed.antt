@@ -21,7 +21,7 @@ pub record MayEnlist (world : WorldData) (who part : ℕ) (path : PathData) : Ty
   pub claimed : (part_at world part).claimer ≡ Some who
   pub is_open : IsOpen (search_rules world.search) path
   pub lies : lies_in (depth_of world.search) world.search.tasks part path ≡ true
-  pub later : ComesAfter (part_at world part).last path
+  pub later : ComesAfter (search_rules world.search) (part_at world part).last path
   pub some : path.rest ≢ 0
   pub below : path.paid + bound world.search.kind world.search.film path.rest < (worker_at world who).told
   pub through : part ≢ 0 → LetsThrough (worker_at world who).probe path (worker_at world who).told

@@ -2,7 +2,7 @@
 use Rattle.std.specs.Prelude.{◌≡◌, ℕ, suc, ◌<◌, ◌≤◌, true, Some, None, List, length, All}
 use Rattle.strip_film.specs.declared.shared.Known.{Known}
 use Rattle.strip_film.specs.Film.{IsFilm}
-use Rattle.strip_film.specs.Path.{PathData, IsComplete}
+use Rattle.strip_film.specs.Path.{PathData, IsComplete, IsPath}
 use Rattle.strip_lines.specs.Lines.{AreJustified}
 use Rattle.strip_count.specs.Parts.{AreCounted, lies_in}
 use Rattle.strip_table.specs.Home.{stripe_of}
@@ -31,11 +31,12 @@ pub record IsStripeOf (world : WorldData) (number : ℕ) (buckets : List (List K
   pub own : (bucket : ℕ) → bucket < length buckets → All (λ entry. stripe_of entry.set ≡ number) (bucket_at buckets bucket)
   pub entries : (bucket : ℕ) → bucket < length buckets → All (Knows world.lines) (bucket_at buckets bucket)
 
--- a part below the next one has a claimer, whose last path lies in it; another part has nothing yet
+-- a part below the next one has a claimer, whose last path is one of the film and lies in it; another part has nothing yet
 pub record IsClaimed (world : WorldData) (part : ℕ) : Type 0 where
   pub claimer : part < world.next → (who : ℕ) × (who < length world.workers) × ((part_at world part).claimer ≡ Some who)
   pub free : world.next ≤ part → ((part_at world part).claimer ≡ None) × ((part_at world part).last ≡ None) × ((part_at world part).number ≡ 0)
   pub last : (path : PathData) → (part_at world part).last ≡ Some path → lies_in (depth_of world.search) world.search.tasks part path ≡ true
+  pub own : (path : PathData) → (part_at world part).last ≡ Some path → IsPath world.search.film path
 
 pub record IsSound (world : WorldData) : Type 0 where
   pub film : IsFilm world.search.film

@@ -20,7 +20,7 @@ ghost use Rattle.strip_race.specs.Allowed.{IsAllowed, IsFitting, MayEnlist, MayR
 ghost use Rattle.strip_race.specs.Sound.{IsSound};
 
 use crate::event::Event;
-use crate::paths::{is_complete, is_open};
+use crate::paths::{is_complete, is_earlier, is_open};
 use crate::state::Asked;
 use crate::world::World;
 use strip_bound::Kept;
@@ -81,26 +81,43 @@ impl World {
         ensures { IsTrue result ↔ MayEnlist self.now who part (path_data path.now) }
     {
         let worker = &self.workers[who as usize];
-        self.is_next_of(who, part, path)
+        self.is_in_part_of(who, part, path)
             && is_open(&self.film, path)
+            && self.comes_after(kept, part, path)
             && !path.rest().is_empty()
             && self.is_below(kept, path, worker.told)
             && (part == 0 || lets_through(worker.asked, path, worker.told))
     }
 
-    /// Whether the worker claimed the part, and the path lies in it and comes after its last.
-    fn is_next_of(&self, who: u32, part: u32, path: &Path) -> bool
+    /// Whether the worker claimed the part, and the path lies in it.
+    fn is_in_part_of(&self, who: u32, part: u32, path: &Path) -> bool
         requires { IsSound self.now }
         ensures { IsTrue result ↔ ((part < length self.now.parts) × ((part_at self.now part).claimer ≡ Some who)
-            × (lies_in (depth_of self.now.search) self.now.search.tasks part (path_data path.now) ≡ true)
-            × ComesAfter (part_at self.now part).last (path_data path.now)) }
+            × (lies_in (depth_of self.now.search) self.now.search.tasks part (path_data path.now) ≡ true)) }
     {
-        let Some(state) = self.parts.get(part as usize) else {
-            return false;
-        };
-        state.claimer == Some(who)
-            && lies_in(self.film.scenes().min(2), &self.tasks, part, path)
-            && comes_after(state.last, path)
+        match self.parts.get(part as usize) {
+            Some(state) => {
+                state.claimer == Some(who)
+                    && lies_in(self.film.scenes().min(2), &self.tasks, part, path)
+            }
+            None => false,
+        }
+    }
+
+    /// Whether the path comes after the last one of the part, if there is one. For each scene that they
+    /// begin with alike a comparison, and two ranks.
+    fn comes_after<F: Fn(u64, u64) -> u64>(&self, kept: &Kept<F>, part: u32, path: &Path) -> bool
+        requires sound { IsSound self.now }
+        requires keeps { Keeps (F.pre kept.now.f) (F.post kept.now.f) kept.now.kind kept.now.film.now }
+        requires search { GoesBy kept.now.kind kept.now.film.now self.now.search }
+        requires part { part < length self.now.parts }
+        requires path { IsPath self.now.search.film (path_data path.now) }
+        ensures { IsTrue result ↔ ComesAfter (search_rules self.now.search) (part_at self.now part).last (path_data path.now) }
+    {
+        match &self.parts[part as usize].last {
+            Some(last) => is_earlier(kept, self.film.all(), last.scenes(), path.scenes()),
+            None => true,
+        }
     }
 
     /// Whether the path with the static bound of what remains is below a cost.
@@ -234,16 +251,6 @@ fn lies_in(depth: usize, tasks: &[Path], part: u32, path: &Path) -> bool
         return path.scenes().len() < depth;
     }
     path.scenes().starts_with(tasks[part as usize - 1].scenes())
-}
-
-/// Whether the path comes after the last one, if there is one.
-fn comes_after(last: Option<Path>, path: &Path) -> bool
-    ensures { IsTrue result ↔ ComesAfter (option_map path_data last) (path_data path.now) }
-{
-    match last {
-        Some(last) => last.before(path),
-        None => true,
-    }
 }
 
 /// Whether the last probe was of what remains after the path, and doesn't rule the path out.

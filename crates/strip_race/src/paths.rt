@@ -1,12 +1,17 @@
-// Whether a path is one of a film.
-ghost use Rattle.std.specs.Prelude.{◌≡◌, ◌↔◌, ◌<◌, IsTrue, IfSome, IfNone};
+// Whether a path is one of a film, and which of two comes first.
+ghost use Rattle.std.specs.Prelude.{◌≡◌, ◌↔◌, ◌<◌, true, IsTrue, IfSome, IfNone};
 ghost use Rattle.strip_mask.specs.Set.{has};
-ghost use Rattle.strip_film.specs.Film.{all_scenes};
+ghost use Rattle.strip_film.specs.Film.{LiesIn, all_scenes};
 ghost use Rattle.strip_film.specs.Finish.{AreFirsts, Remained};
 ghost use Rattle.strip_film.specs.Path.{IsComplete, IsPath};
+ghost use Rattle.strip_film.specs.Ranks.{IsEarlier, IsSooner};
+ghost use Rattle.strip_film.specs.Rules.{rank};
 ghost use Rattle.strip_film.specs.Shown.{path_data};
+ghost use Rattle.strip_bound.specs.Kept.{Keeps};
+ghost use Rattle.strip_lines.specs.Lines.{rules_of};
 ghost use Rattle.strip_rule.specs.Rule.{open_firsts};
 
+use strip_bound::Kept;
 use strip_film::{Film, Path, ready};
 use strip_mask::Mask;
 use strip_rule::open_firsts;
@@ -74,4 +79,44 @@ fn is_in(set: Mask, scene: u8) -> bool
     ensures below { IsTrue result → scene < 64 }
 {
     scene < 64 && set.has(scene as u32)
+}
+
+/// Whether the first of two lists of scenes comes before the second, both shot from the set. A turn for
+/// each scene that they begin with alike, and two ranks.
+pub(crate) fn is_earlier<F: Fn(u64, u64) -> u64>(
+    kept: &Kept<F>,
+    set: Mask,
+    first: &[u8],
+    second: &[u8],
+) -> bool
+    requires keeps { Keeps (F.pre kept.now.f) (F.post kept.now.f) kept.now.kind kept.now.film.now }
+    requires lies { LiesIn kept.now.film.now set.0 }
+    requires first { Remained kept.now.film.now set.0 first.now }
+    requires second { Remained kept.now.film.now set.0 second.now }
+    ensures { IsTrue result ↔ IsEarlier (rules_of kept.now.kind kept.now.film.now) set.0 first.now second.now }
+{
+    kept.film().keeps_limits();
+    let Some((other, after_other)) = second.split_first() else {
+        return false;
+    };
+    let Some((one, after_one)) = first.split_first() else {
+        return true;
+    };
+    if one == other {
+        return is_earlier(kept, set.without(*one as u32), after_one, after_other);
+    }
+    is_sooner(kept, set, *one as u32, *other as u32)
+}
+
+/// Whether scene `s` of the set goes before scene `t`: by rank, of equal ranks by number.
+fn is_sooner<F: Fn(u64, u64) -> u64>(kept: &Kept<F>, set: Mask, s: u32, t: u32) -> bool
+    requires keeps { Keeps (F.pre kept.now.f) (F.post kept.now.f) kept.now.kind kept.now.film.now }
+    requires lies { LiesIn kept.now.film.now set.0 }
+    requires one { has set.0 s ≡ true }
+    requires other { has set.0 t ≡ true }
+    ensures { IsTrue result ↔ IsSooner (rank (rules_of kept.now.kind kept.now.film.now) set.0) s t }
+{
+    let rank = kept.rank(set, s);
+    let other = kept.rank(set, t);
+    rank < other || rank == other && s < t
 }

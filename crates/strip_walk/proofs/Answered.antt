@@ -24,7 +24,7 @@ use Rattle.strip_walk.proofs.Stayed.{begun_itself, knows_more, not_begun, walks_
 
 -- an answer at a cursor that didn't move
 pub found_still : (after : HandData) (cursor : CursorData) (path : PathData) (found : Found) → IsHand after → LiesIn after.search.film path.rest
-    → ComesAfter cursor.last path
+    → ComesAfter (search_rules after.search) cursor.last path
     → ((line : ℕ) → found.line ≡ Some line → Knows after.lines (known_of path line found.bound) × ((search_rules after.search).bound path.rest ≤ found.bound))
     → (found.line ≡ None → found.bound ≤ (search_rules after.search).bound path.rest)
     → (found.spent ≡ false → after.told ≤ path.paid + found.bound) → Reaches after path found.bound → (found.spent ≡ true → IsCutShort after cursor)
@@ -37,12 +37,12 @@ found_still after cursor path found is lies later line none enough reaches spent
   none = none;
   enough = enough;
   reaches = reaches;
-  begun = λ begun. absurd (not_begun cursor.last path later begun);
+  begun = λ begun. absurd (not_begun (search_rules after.search) cursor.last path later begun);
   spent = spent;
 }
 
 pub found_cut : (after : HandData) (cursor : CursorData) (path : PathData) (found : Found) → IsHand after → LiesIn after.search.film path.rest
-    → ComesAfter cursor.last path → IsCut after path found → IsFound after cursor path found
+    → ComesAfter (search_rules after.search) cursor.last path → IsCut after path found → IsFound after cursor path found
 found_cut after cursor path found is lies later cut =
     found_still after cursor path found is lies later cut.line cut.none (λ _. cut.reached) (inr cut.reached)
     (λ spent. absurd (let e : false ≡ true = sym cut.spent ∙ spent in cc))
@@ -100,13 +100,16 @@ module _ (before after : HandData) (cursor : CursorData) (path : PathData) (coun
   lies_here : LiesIn after.search.film path.rest
   lies_here = subst (λ (search : SearchData). LiesIn search.film path.rest) (sym same_search) (rest_lies before.search.film path may.is_open.0)
 
+  later_here : ComesAfter (search_rules after.search) cursor.last path
+  later_here = subst (λ (search : SearchData). ComesAfter (search_rules search) cursor.last path) (sym same_search) may.later
+
   cut_here : IsCutShort after cursor
   cut_here = record {
     full = spent.counted ∙ spent.full ∙ ap (λ (search : SearchData). search.cap) (sym same_search);
     path = path;
     is_open = subst (λ (search : SearchData). IsOpen (search_rules search) path) (sym same_search) may.is_open;
     lies = ap (λ (search : SearchData). lies_in (depth_of search) search.tasks cursor.task path) same_search ∙ may.lies;
-    later = may.later;
+    later = later_here;
     some = some;
     below = (let told : after.told ≡ before.told = ap (λ (hand : HandData). hand.told) spent.only in
         omega (arith, static_bound, told, through.told, through.below, is.told));
@@ -121,11 +124,11 @@ module _ (before after : HandData) (cursor : CursorData) (path : PathData) (coun
 
   best_found : (found : Found) → IsBest passed found → IsFound after cursor path found
   best_found found (inl (no_greater, best)) = subst (IsFound after cursor path) (sym best)
-      (found_still after cursor path (record { bound = passed.bound; line = None; spent = true }) is lies_here may.later
+      (found_still after cursor path (record { bound = passed.bound; line = None; spent = true }) is lies_here later_here
       (λ line same. absurd (cc))
       (λ _. omega (arith, static_bound)) (λ same. absurd (cc)) (inl (omega (arith, static_bound))) (λ _. cut_here))
   best_found found (inr (known, hit, more, best)) = subst (IsFound after cursor path) (sym best)
-      (found_still after cursor path (record { bound = known.bound; line = Some known.line; spent = true }) is lies_here may.later
+      (found_still after cursor path (record { bound = known.bound; line = Some known.line; spent = true }) is lies_here later_here
       (λ line same. (let e : known.line ≡ line = cc in
       (subst (λ (l : ℕ). Knows after.lines (known_of path l known.bound)) e (knows_grown known hit), omega (arith, static_bound, more))))
       (λ same. absurd (cc))

@@ -1,77 +1,103 @@
 -- Which children were ruled out so far.
-use Rattle.std.proofs.Common.{Bool, ◌&&◌, not, ap₂, refl, ◌≡◌, ℕ, ◌+◌, ◌^◌, ◌<◌, ◌≤◌, inl, inr, min, true, false, MatchBool, nat_lt, List, [], ◌∷◌, ◌++◌, length, Contains, sym, ◌∙◌, subst, arith}
+use Rattle.std.proofs.Common.{Bool, ◌&&◌, not, ap, ap₂, refl, ◌≡◌, ◌≢◌, ℕ, ◌+◌, ◌-◌, ◌⊎◌, ◌^◌, ◌<◌, ◌≤◌, inl, inr, min, true, false, MatchBool, nat_lt, List, [], ◌∷◌, ◌++◌, length, Contains, sym, ◌∙◌, subst, arith}
 use Rattle.std.proofs.lemmas.Bool.{cases_eq, cases_lt, le-ltb, lt-ltb}
 use Rattle.std.proofs.lemmas.Bool.Decides.{when_false, when_true}
 use Rattle.std.proofs.lemmas.List.Elements.{Contains-append_cases, Contains-append_left, Contains-append_right, Contains-push, Contains-push_cases}
-use Rattle.strip_mask.specs.Set.{has, members, with, without}
+use Rattle.strip_mask.specs.Set.{has, members, without}
 use Rattle.strip_mask.proofs.Below.{LiesBelow-without, is_set_below}
-use Rattle.strip_mask.proofs.ByMembers.{has-empty, has-with_other, has-with_same}
+use Rattle.strip_mask.proofs.ByMembers.{empty_has, has-with_other, has-with_same}
 use Rattle.strip_mask.proofs.Members.{Contains-members, has_from_members}
 use Rattle.strip_kind.specs.declared.kind.Kind.{Kind}
 use Rattle.strip_pay.specs.Film.{FilmData}
 use Rattle.strip_pay.proofs.Lists.{contains_none}
 use Rattle.strip_film.specs.Film.{IsFilm, LiesIn}
 use Rattle.strip_film.specs.Path.{IsPath, PathData}
+use Rattle.strip_film.specs.Rules.{rank}
 use Rattle.strip_film.specs.Shoot.{step_cost}
+use Rattle.strip_film.specs.Shown.{turns_data}
+use Rattle.strip_film.specs.Turns.{Adds}
 use Rattle.strip_film.proofs.Costs.{step_limit}
 use Rattle.strip_film.proofs.Paths.{rest_lies}
 use Rattle.strip_bound.specs.Bounds.{bound}
+use Rattle.strip_bound.specs.Promise.{promised}
 use Rattle.strip_bound.proofs.Small.{bound_small}
+use Rattle.strip_lines.specs.Lines.{rules_of}
 use Rattle.strip_rule.specs.Rule.{open_firsts}
 use Rattle.strip_rule.proofs.Firsts.{first_there}
 use Rattle.strip_walk.specs.declared.found.Sifted.{Sifted}
-use Rattle.strip_walk.specs.Sifted.{AreSifted, AreWeighed}
+use Rattle.strip_walk.specs.Sifted.{AreSifted, AreWeighed, to_walk}
 
-pub sifted_none : (kind : Kind) (film : FilmData) (set room least : ℕ) → room ≤ least
-    → AreWeighed kind film set room [] (record { visit = record { 0 = 0 }; least = least })
-sifted_none kind film set room least enough = record {
-  within = λ scene visited. absurd (let e : has 0 scene ≡ false = has-empty scene in cc);
+pub sifted_none : (kind : Kind) (film : FilmData) (set room : ℕ) (sifted : Sifted) → to_walk sifted ≡ 0 → room ≤ sifted.least
+    → AreWeighed kind film set room [] sifted
+sifted_none kind film set room sifted nobody enough = record {
+  within = λ scene there. absurd (nothing scene there);
+  ranks = λ scene there. absurd (nothing scene there);
   passed = λ scene there. absurd (contains_none scene there);
   enough = enough;
 }
+  where
+    nothing : (scene : ℕ) → has (to_walk sifted) scene ≡ true → ⊥
+    nothing scene there = empty_has scene (subst (λ (set : ℕ). has set scene ≡ true) nobody there)
 
-module _ (kind : Kind) (film : FilmData) (set room : ℕ) (done : List ℕ) (s rest : ℕ) (sifted : Sifted) (so : AreWeighed kind film set room done sifted) where
-  -- it has to be walked
-  sifted_visit : AreWeighed kind film set room (done ++ s ∷ []) (record { visit = record { 0 = with sifted.visit.0 s }; least = sifted.least })
-  sifted_visit = record {
+module _ (kind : Kind) (film : FilmData) (set room : ℕ) (done : List ℕ) (s rest : ℕ) (sifted next : Sifted) (so : AreWeighed kind film set room done sifted)
+    (most : rest ≤ bound kind film (without set s)) (whole : (room - step_cost film set s ≤ rest) ⊎ (rest ≡ bound kind film (without set s))) where
+  abbrev reached : ℕ
+  reached = step_cost film set s + rest
+
+  -- it has to be walked, and then its rank is known
+  sifted_visit : reached < room → Adds (turns_data sifted.visit) (turns_data next.visit) s (promised kind reached) → next.least ≡ sifted.least
+      → AreWeighed kind film set room (done ++ s ∷ []) next
+  sifted_visit less adds same = record {
     within = λ scene visited. elim (cases_eq s scene) [
-      | inl same ↦ subst (Contains (done ++ s ∷ [])) same (Contains-push done s)
-      | inr other ↦ Contains-append_left done (s ∷ []) scene (so.within scene (sym (has-with_other sifted.visit.0 s scene other) ∙ visited))
+      | inl here ↦ subst (Contains (done ++ s ∷ [])) here (Contains-push done s)
+      | inr other ↦ Contains-append_left done (s ∷ []) scene (so.within scene (earlier scene other true visited))
+    ];
+    ranks = λ scene visited. elim (cases_eq s scene) [
+      | inl here ↦ subst (λ (x : ℕ). (turns_data next.visit).ranks x ≡ rank (rules_of kind film) set x) here (adds.its_rank ∙ ap (promised kind) known)
+      | inr other ↦ adds.others scene (λ e. other (sym e)) ∙ so.ranks scene (earlier scene other true visited)
     ];
     passed = λ scene there out. elim (cases_eq s scene) [
-      | inl same ↦ absurd (let e : has (with sifted.visit.0 s) scene ≡ true = subst (λ (x : ℕ). has (with sifted.visit.0 s) x ≡ true) same (has-with_same sifted.visit.0 s) in cc)
+      | inl here ↦ absurd (let e : has (to_walk next) scene ≡ true = subst (λ (x : ℕ). has (to_walk next) x ≡ true) here waits in cc)
       | inr other ↦ elim (Contains-push_cases done s scene there) [
-        | inl earlier ↦ so.passed scene earlier (sym (has-with_other sifted.visit.0 s scene other) ∙ out)
-        | inr same ↦ absurd (other same)
+        | inl before ↦ omega (arith, same, so.passed scene before (earlier scene other false out))
+        | inr here ↦ absurd (other here)
       ]
     ];
-    enough = so.enough;
+    enough = omega (arith, same, so.enough);
   }
+    where
+      earlier : (scene : ℕ) → s ≢ scene → (b : Bool) → has (to_walk next) scene ≡ b → has (to_walk sifted) scene ≡ b
+      earlier scene other b is =
+          sym (has-with_other (to_walk sifted) s scene other) ∙ sym (ap (λ (left : ℕ). has left scene) adds.left) ∙ is
+
+      waits : has (to_walk next) s ≡ true
+      waits = ap (λ (left : ℕ). has left s) adds.left ∙ has-with_same (to_walk sifted) s
+
+      known : reached ≡ step_cost film set s + bound kind film (without set s)
+      known = elim whole [
+        | inl far ↦ absurd (omega (arith, far, less))
+        | inr is ↦ ap (λ (n : ℕ). step_cost film set s + n) is
+      ]
 
   -- it is ruled out
-  sifted_out : rest ≤ bound kind film (without set s) → room ≤ step_cost film set s + rest
-      → AreWeighed kind film set room (done ++ s ∷ []) (record { visit = sifted.visit; least = min sifted.least (step_cost film set s + rest) })
-  sifted_out most full = record {
+  sifted_out : room ≤ reached → next ≡ record sifted { least = min sifted.least reached } → AreWeighed kind film set room (done ++ s ∷ []) next
+  sifted_out full is = subst (AreWeighed kind film set room (done ++ s ∷ [])) (sym is) (record {
     within = λ scene visited. Contains-append_left done (s ∷ []) scene (so.within scene visited);
+    ranks = so.ranks;
     passed = λ scene there out. elim (Contains-push_cases done s scene there) [
       | inl earlier ↦ omega (arith, so.passed scene earlier out)
-      | inr same ↦ subst (λ (x : ℕ). min sifted.least (step_cost film set s + rest) ≤ step_cost film set x + bound kind film (without set x)) same (omega (arith, most))
+      | inr same ↦ subst (λ (x : ℕ). min sifted.least reached ≤ step_cost film set x + bound kind film (without set x)) same (omega (arith, most))
     ];
     enough = omega (arith, so.enough, full);
-  }
+  })
 
-  pub sifted_more : (next : Sifted) → rest ≤ bound kind film (without set s)
-      → MatchBool (nat_lt (step_cost film set s + rest) room)
-      (next ≡ record { visit = record { 0 = with sifted.visit.0 s }; least = sifted.least })
-      (next ≡ record sifted { least = min sifted.least (step_cost film set s + rest) })
+  pub sifted_more : MatchBool (nat_lt reached room)
+      (Adds (turns_data sifted.visit) (turns_data next.visit) s (promised kind reached) × (next.least ≡ sifted.least))
+      (next ≡ record sifted { least = min sifted.least reached })
       → AreWeighed kind film set room (done ++ s ∷ []) next
-  sifted_more next most chosen = elim (cases_lt (step_cost film set s + rest) room) [
-    | inl less ↦ subst (AreWeighed kind film set room (done ++ s ∷ []))
-        (sym (when_true (next ≡ record { visit = record { 0 = with sifted.visit.0 s }; least = sifted.least })
-        (next ≡ record sifted { least = min sifted.least (step_cost film set s + rest) }) (lt-ltb (step_cost film set s + rest) room less) chosen)) sifted_visit
-    | inr full ↦ subst (AreWeighed kind film set room (done ++ s ∷ []))
-        (sym (when_false (next ≡ record { visit = record { 0 = with sifted.visit.0 s }; least = sifted.least })
-        (next ≡ record sifted { least = min sifted.least (step_cost film set s + rest) }) (le-ltb (step_cost film set s + rest) room full) chosen)) (sifted_out most full)
+  sifted_more chosen = elim (cases_lt reached room) [
+    | inl less ↦ (let both = when_true _ _ (lt-ltb reached room less) chosen in sifted_visit less both.0 both.1)
+    | inr full ↦ sifted_out full (when_false _ _ (le-ltb reached room full) chosen)
   ]
 
 module _ (kind : Kind) (film : FilmData) (path : PathData) (is_film : IsFilm film) (within : IsPath film path) where
@@ -97,6 +123,7 @@ module _ (kind : Kind) (film : FilmData) (path : PathData) (is_film : IsFilm fil
       → ((scene : ℕ) → has others scene ≡ (has (open_firsts film path.rest) scene && not (has part scene)))
       → AreWeighed kind film path.rest room (members part ++ members others) sifted → AreSifted kind film path told sifted
   sifted_all told room part others sifted whole within rest so = record {
+    ranks = so.ranks;
     within = λ scene visited. elim (Contains-append_cases (members part) (members others) scene (so.within scene visited)) [
       | inl first ↦ within scene (has_from_members part scene first)
       | inr second ↦ both (has (open_firsts film path.rest) scene) (has part scene) (sym (rest scene) ∙ has_from_members others scene second)

@@ -1,10 +1,11 @@
 -- The end of a walk: the line is raised to what its children make known.
-use Rattle.std.proofs.Common.{◌≡◌, ◌≢◌, ℕ, ◌+◌, ◌<◌, ◌≤◌, inl, inr, max, Bool, true, false, Some, None, Result, Ok, Err, List, [], ◌∷◌, ◌++◌, length, Contains, refl, sym, ap, ◌∙◌, subst, arith}
+use Rattle.std.proofs.Common.{◌≡◌, ◌≢◌, ℕ, ◌+◌, ◌<◌, ◌≤◌, inl, inr, max, Bool, true, false, Some, None, Result, Ok, Err, [], ◌∷◌, ◌++◌, length, refl, sym, ap, ◌∙◌, subst, arith}
 use Rattle.std.proofs.lemmas.Bool.{cases_lt}
 use Rattle.std.proofs.lemmas.List.{same_from_push}
 use Rattle.strip_io.specs.declared.files.Memory.{Memory}
 use Rattle.strip_mask.specs.Set.{has, members, size, without}
 use Rattle.strip_mask.proofs.Below.{is_set_below}
+use Rattle.strip_mask.proofs.ByMembers.{has-empty}
 use Rattle.strip_mask.proofs.Members.{Contains-members}
 use Rattle.strip_mask.proofs.Sizes.{size-without}
 use Rattle.strip_pay.specs.Film.{FilmData}
@@ -21,6 +22,7 @@ use Rattle.strip_rule.proofs.Open.{open_is}
 use Rattle.strip_rule.proofs.Firsts.{firsts_set}
 use Rattle.strip_lines.specs.Lines.{GrowTo, IsJustified, ahead, line_at}
 use Rattle.strip_lines.proofs.Ahead.{least_step_le}
+use Rattle.strip_count.specs.Paths.{ComesAfter}
 use Rattle.strip_hand.specs.Search.{SearchData, search_rules}
 use Rattle.strip_hand.specs.Hand.{HandData, IsHand, Knows}
 use Rattle.strip_hand.specs.Calls.{MayRaise}
@@ -55,7 +57,7 @@ offered_explores before after cursor path found may none offers =
       walks_still before after cursor path may.stands offers.stays,
       found_still after cursor path found offers.limits
           (subst (λ (search : SearchData). LiesIn search.film path.rest) (sym offers.stays.search) (rest_lies before.search.film path may.is_open.0))
-          may.later (λ number some. absurd (cc)) (λ _. omega (arith, bound))
+          (subst (λ (search : SearchData). ComesAfter (search_rules search) cursor.last path) (sym offers.stays.search) may.later) (λ number some. absurd (cc)) (λ _. omega (arith, bound))
           (λ _. omega (arith, offers.offered, bound)) (inr (omega (arith, offers.offered, bound)))
           (λ is_cut. absurd (let e : false ≡ true = sym spent ∙ is_cut in cc)),
     )
@@ -80,14 +82,13 @@ taken_back film path longer back s is back_is more (last, less) =
 
 -- ---- the end
 
-module _ (before hand : HandData) (cursor cursor_now : CursorData) (path : PathData) (visit : ℕ) (done : List ℕ) (least : ℕ) (spent : Bool)
+module _ (before hand : HandData) (cursor cursor_now : CursorData) (path : PathData) (least : ℕ) (spent : Bool)
     (static line most : ℕ) (may : MayExplore before cursor path) (some : path.rest ≢ 0) (is : IsHand hand)
-    (walks : Walks before cursor path hand cursor_now) (settled : AreSettled before.search hand cursor_now path visit done least spent)
-    (all : (scene : ℕ) → has visit scene ≡ true → Contains done scene)
+    (walks : Walks before cursor path hand cursor_now) (settled : AreSettled before.search hand cursor_now path 0 least spent)
     (static_is : static ≡ (search_rules before.search).bound path.rest) (has_line : HasLine hand path line) (most_is : most ≡ max least static) where
   justified : IsJustified (search_rules before.search) hand.lines (record { set = path.rest; bound = most })
   justified = elim (cases_lt static least) [
-    | inl less ↦ inr (some, λ scene first. omega (arith, settled.justified scene first (all scene), most_is, less))
+    | inl less ↦ inr (some, λ scene first. omega (arith, settled.justified scene first (has-empty scene), most_is, less))
     | inr more ↦ inl (omega (arith, most_is, more, static_is))
   ]
 

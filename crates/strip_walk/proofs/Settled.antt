@@ -1,18 +1,20 @@
 -- The children of a path, walked one after the other: what they make known of what remains.
-use Rattle.std.proofs.Common.{◌≡◌, ◌≢◌, ℕ, zero, suc, ◌+◌, ◌<◌, ◌≤◌, ◌⊎◌, inl, inr, min, Bool, true, false, ◌||◌, nat_eq, Option, List, [], ◌∷◌, ◌++◌, slice_index_or, Contains, refl, sym, ap, ◌∙◌, subst, arith}
-use Rattle.std.proofs.lemmas.Bool.{cases_Bool, cases_eq, cases_lt}
-use Rattle.std.proofs.lemmas.List.Elements.{Contains-append_left, Contains-push, Contains-push_cases}
+use Rattle.std.proofs.Common.{◌≡◌, ◌≢◌, ℕ, zero, suc, ◌+◌, ◌≤◌, ◌⊎◌, inl, inr, min, Bool, true, false, ◌||◌, nat_eq, Option, List, [], ◌∷◌, ◌++◌, slice_index_or, refl, sym, ap, ◌∙◌, subst, arith}
+use Rattle.std.proofs.lemmas.Bool.{cases_eq, cases_lt}
 use Rattle.std.specs.List.{starts_with}
 use Rattle.strip_mask.specs.Set.{has, without}
-use Rattle.strip_pay.proofs.Lists.{contains_none}
+use Rattle.strip_mask.proofs.ByMembers.{has-without_other, has_from_without}
 use Rattle.strip_kind.specs.declared.kind.Kind.{Kind}
 use Rattle.strip_pay.specs.Film.{FilmData}
 use Rattle.strip_film.specs.Film.{all_scenes}
 use Rattle.strip_film.specs.Path.{IsPath, PathData}
-use Rattle.strip_film.specs.Rules.{IsOpen}
+use Rattle.strip_film.specs.Ranks.{IsSooner}
+use Rattle.strip_film.specs.Rules.{IsOpen, rank}
+use Rattle.strip_film.specs.Turns.{IsSoonest}
 use Rattle.strip_film.specs.Shoot.{step_cost}
 use Rattle.strip_film.specs.Shown.{CursorData}
 use Rattle.strip_film.proofs.Lists.{AreFirsts-append}
+use Rattle.strip_film.proofs.Ranks.{earlier_longer}
 use Rattle.strip_rule.specs.Rule.{open_firsts}
 use Rattle.strip_lines.specs.Lines.{known}
 use Rattle.strip_lines.proofs.Grown.{known-grows, known-static}
@@ -26,9 +28,9 @@ use Rattle.strip_walk.specs.declared.found.Sifted.{Sifted}
 use Rattle.strip_walk.specs.Found.{BegunBy, IsCutShort, IsFound, MayExplore}
 use Rattle.strip_walk.specs.Walked.{Walks}
 use Rattle.strip_walk.specs.Begun.{IsOpened}
-use Rattle.strip_walk.specs.Sifted.{AreSifted}
+use Rattle.strip_walk.specs.Sifted.{AreSifted, to_walk}
 use Rattle.strip_walk.proofs.Bounds.{bound_known}
-use Rattle.strip_walk.proofs.Lists.{begun_before, itself_before, starts_longer, starts_shorter}
+use Rattle.strip_walk.proofs.Lists.{begun_earlier, starts_longer, starts_shorter}
 use Rattle.strip_walk.proofs.Stayed.{begun_itself, cut_stays}
 
 -- the path with this scene shot next
@@ -43,18 +45,17 @@ shot search path scene = record {
 abbrev pub IsFirst : SearchData → PathData → ℕ → Type 0
 IsFirst search path scene = has (open_firsts search.film path.rest) scene ≡ true
 
--- those to be walked are open firsts; of the open firsts those that are not to be walked, and those that were, are settled: the least reaches no further than the step of
--- each and what is known of the rest; the path with the least is no cheaper than the least cost told, unless the walk was cut short;
--- the least reaches some step with the static bound of the rest, or that cost; each greater scene comes later
-pub record AreSettled (search : SearchData) (hand : HandData) (cursor : CursorData) (path : PathData) (visit : ℕ) (done : List ℕ)
-    (least : ℕ) (spent : Bool) : Type 0 where
-  pub within : (scene : ℕ) → has visit scene ≡ true → IsFirst search path scene
-  pub justified : (scene : ℕ) → IsFirst search path scene → (has visit scene ≡ true → Contains done scene)
+-- those that are left to be walked are open firsts; each other open first is settled: the least reaches no further than its step and
+-- what is known of the rest; the path with the least is no cheaper than the least cost told, unless the walk was cut short; the least
+-- reaches some step with the static bound of the rest, or that cost; each that is left comes later
+pub record AreSettled (search : SearchData) (hand : HandData) (cursor : CursorData) (path : PathData) (left least : ℕ) (spent : Bool) : Type 0 where
+  pub within : (scene : ℕ) → has left scene ≡ true → IsFirst search path scene
+  pub justified : (scene : ℕ) → IsFirst search path scene → has left scene ≡ false
       → least ≤ step_cost search.film path.rest scene + known (search_rules search) hand.lines (without path.rest scene)
   pub enough : spent ≡ false → hand.told ≤ path.paid + least
   pub ahead : ((scene : ℕ) × IsFirst search path scene
       × (step_cost search.film path.rest scene + (search_rules search).bound (without path.rest scene) ≤ least)) ⊎ (hand.told ≤ path.paid + least)
-  pub later : (scene : ℕ) → ((x : ℕ) → Contains done x → x < scene) → ComesAfter cursor.last (shot search path scene)
+  pub later : (scene : ℕ) → has left scene ≡ true → ComesAfter (search_rules search) cursor.last (shot search path scene)
   pub begun : BegunBy path cursor.last
   pub cut : spent ≡ true → IsCutShort hand cursor
 
@@ -68,18 +69,17 @@ sifted_by kind film search path told sifted (film_is, kind_is) sifts =
 
 pub settled_none : (search : SearchData) (hand : HandData) (cursor : CursorData) (path : PathData) (opened : Opened) (sifted : Sifted)
     → IsOpened hand cursor path opened → AreSifted search.kind search.film path opened.told sifted
-    → AreSettled search hand cursor path sifted.visit.0 [] sifted.least false
+    → AreSettled search hand cursor path (to_walk sifted) sifted.least false
 settled_none search hand cursor path opened sifted is sifts =
     let enough : hand.told ≤ path.paid + sifted.least = omega (arith, is.told, sifts.enough) in
     record {
       within = sifts.within;
-      justified = λ scene first met. elim (cases_Bool (has sifted.visit.0 scene)) [
-        | inl visited ↦ absurd (contains_none scene (met visited))
-        | inr passed ↦ omega (arith, sifts.passed scene first passed, known-static (search_rules search) hand.lines (without path.rest scene))
-      ];
+      justified = λ scene first passed.
+          omega (arith, sifts.passed scene first passed, known-static (search_rules search) hand.lines (without path.rest scene));
       enough = λ _. enough;
       ahead = inr enough;
-      later = λ scene _. subst (λ (last : Option PathData). ComesAfter last (shot search path scene)) (sym is.last) (itself_before path.scenes scene);
+      later = λ scene _. subst (λ (last : Option PathData). ComesAfter (search_rules search) last (shot search path scene)) (sym is.last)
+          (earlier_longer (search_rules search) (all_scenes search.film) path.scenes scene []);
       begun = begun_itself cursor.last path is.last;
       cut = λ is_cut. absurd (let e : false ≡ true = is_cut in cc);
     }
@@ -94,15 +94,18 @@ lies_longer depth tasks (suc task) path longer s some more lies =
     = starts_longer path.scenes (slice_index_or tasks task no_task).scenes (s ∷ []) lies in
     subst (λ (scenes : List ℕ). starts_with nat_eq scenes (slice_index_or tasks task no_task).scenes ≡ true) (sym more) begins
 
-module _ (before now : HandData) (cursor cursor_now : CursorData) (path : PathData) (visit : ℕ) (done : List ℕ) (least : ℕ) (spent : Bool) (s : ℕ)
+module _ (before now : HandData) (cursor cursor_now : CursorData) (path : PathData) (left least : ℕ) (spent : Bool) (s : ℕ)
     (may : MayExplore before cursor path) (walks : Walks before cursor path now cursor_now)
-    (settled : AreSettled before.search now cursor_now path visit done least spent)
-    (first : IsFirst before.search path s) (lesser : (x : ℕ) → Contains done x → x < s) (within : IsPath before.search.film (shot before.search path s)) where
+    (settled : AreSettled before.search now cursor_now path left least spent)
+    (waits : has left s ≡ true) (within : IsPath before.search.film (shot before.search path s)) where
+  is_one : IsFirst before.search path s
+  is_one = settled.within s waits
+
   open_longer : IsOpen (search_rules before.search) (shot before.search path s)
   open_longer = (
     within,
     AreFirsts-append (open_firsts before.search.film) (all_scenes before.search.film) s path.scenes may.is_open.1
-        (subst (λ (q : ℕ). has (open_firsts before.search.film q) s ≡ true) may.is_open.0.left first),
+        (subst (λ (q : ℕ). has (open_firsts before.search.film q) s ≡ true) may.is_open.0.left is_one),
   )
 
   pub may_child : MayExplore now cursor_now (shot before.search path s)
@@ -113,7 +116,8 @@ module _ (before now : HandData) (cursor cursor_now : CursorData) (path : PathDa
     lies = ap (λ (search : SearchData). lies_in (depth_of search) search.tasks cursor_now.task (shot before.search path s)) walks.search
         ∙ ap (λ (task : ℕ). lies_in (depth_of before.search) before.search.tasks task (shot before.search path s)) walks.task
         ∙ lies_longer (depth_of before.search) before.search.tasks cursor.task path (shot before.search path s) s may.task refl may.lies;
-    later = settled.later s lesser;
+    later = subst (λ (search : SearchData). ComesAfter (search_rules search) cursor_now.last (shot before.search path s)) (sym walks.search)
+        (settled.later s waits);
   }
 
 -- ---- a child was walked
@@ -126,10 +130,17 @@ some_true : (a b : Bool) → (a || b) ≡ true → (a ≡ true) ⊎ (b ≡ true)
 some_true true b is = inl refl
 some_true false b is = inr is
 
-module _ (search : SearchData) (now after : HandData) (cursor cursor_after : CursorData) (path : PathData) (visit : ℕ) (done : List ℕ) (least : ℕ) (spent : Bool)
+-- of those that are left the scene is the next one, by rank
+abbrev pub IsNext : SearchData → PathData → ℕ → ℕ → Type 0
+IsNext search path left scene = IsSoonest (record { left = left; ranks = rank (search_rules search) path.rest }) scene
+
+module _ (search : SearchData) (now after : HandData) (cursor cursor_after : CursorData) (path : PathData) (left least : ℕ) (spent : Bool)
     (s : ℕ) (found : Found) (here : now.search ≡ search) (is : IsHand after) (walks : Walks now cursor (shot search path s) after cursor_after)
-    (finds : IsFound after cursor_after (shot search path s) found) (settled : AreSettled search now cursor path visit done least spent)
-    (first : IsFirst search path s) (next : ℕ) (least_is : next ≡ min least (step_cost search.film path.rest s + found.bound)) where
+    (finds : IsFound after cursor_after (shot search path s) found) (settled : AreSettled search now cursor path left least spent)
+    (within : IsPath search.film path) (soonest : IsNext search path left s) (next : ℕ) (least_is : next ≡ min least (step_cost search.film path.rest s + found.bound)) where
+  first : IsFirst search path s
+  first = settled.within s soonest.waits
+
   same_search : after.search ≡ search
   same_search = walks.search ∙ here
 
@@ -137,16 +148,13 @@ module _ (search : SearchData) (now after : HandData) (cursor cursor_after : Cur
   child_known = bound_known (search_rules search) after.lines (shot search path s) found.line found.bound (λ number some. (finds.line number some).0)
       (λ none. subst (λ (of : SearchData). found.bound ≤ (search_rules of).bound (without path.rest s)) same_search (finds.none none))
 
-  justified_then : (scene : ℕ) → IsFirst search path scene → (has visit scene ≡ true → Contains (done ++ s ∷ []) scene)
+  justified_then : (scene : ℕ) → IsFirst search path scene → has (without left s) scene ≡ false
       → next ≤ step_cost search.film path.rest scene + known (search_rules search) after.lines (without path.rest scene)
-  justified_then scene is_first met = elim (cases_eq s scene) [
+  justified_then scene is_first out = elim (cases_eq s scene) [
     | inl same ↦ subst (λ (x : ℕ). next ≤ step_cost search.film path.rest x + known (search_rules search) after.lines (without path.rest x)) same
         (omega (arith, least_is, child_known))
     | inr other ↦ (let old : least ≤ step_cost search.film path.rest scene + known (search_rules search) now.lines (without path.rest scene)
-        = settled.justified scene is_first (λ visited. elim (Contains-push_cases done s scene (met visited)) [
-          | inl earlier ↦ earlier
-          | inr same ↦ absurd (other same)
-        ]) in
+        = settled.justified scene is_first (sym (has-without_other left s scene other) ∙ out) in
         omega (arith, least_is, old, known-grows (search_rules search) now.lines after.lines (without path.rest scene) walks.grow))
   ]
 
@@ -182,13 +190,16 @@ module _ (search : SearchData) (now after : HandData) (cursor cursor_after : Cur
     | inr more ↦ subst Reached (let e : step_cost search.film path.rest s + found.bound ≡ next = omega (arith, least_is, more) in e) child_ahead
   ]
 
-  later_then : (scene : ℕ) → ((x : ℕ) → Contains (done ++ s ∷ []) x → x < scene) → ComesAfter cursor_after.last (shot search path scene)
-  later_then scene lesser = elim walks.last [
-    | inl same ↦ subst (λ (last : Option PathData). ComesAfter last (shot search path scene)) (sym same)
-        (settled.later scene (λ x there. lesser x (Contains-append_left done (s ∷ []) x there)))
-    | inr begun ↦ subst (λ (last : Option PathData). ComesAfter last (shot search path scene)) (sym begun.1)
-        (begun_before begun.0.scenes path.scenes s scene begun.2 (lesser s (Contains-push done s)))
-  ]
+  later_then : (scene : ℕ) → has (without left s) scene ≡ true → ComesAfter (search_rules search) cursor_after.last (shot search path scene)
+  later_then scene waits =
+      let still = has_from_without left s scene waits in
+      elim walks.last [
+        | inl same ↦ subst (λ (last : Option PathData). ComesAfter (search_rules search) last (shot search path scene)) (sym same)
+            (settled.later scene still.1)
+        | inr begun ↦ subst (λ (last : Option PathData). ComesAfter (search_rules search) last (shot search path scene)) (sym begun.1)
+            (begun_earlier (search_rules search) (all_scenes search.film) begun.0.scenes path.scenes s scene begun.2
+            (subst (λ (set : ℕ). IsSooner (rank (search_rules search) set) s scene) within.left (soonest.first scene still.1 (λ e. still.0 (sym e)))))
+      ]
 
   begun_then : BegunBy path cursor_after.last
   begun_then = elim walks.last [
@@ -202,9 +213,9 @@ module _ (search : SearchData) (now after : HandData) (cursor cursor_after : Cur
     | inr new ↦ finds.spent new
   ]
 
-  pub settled_more : AreSettled search after cursor_after path visit (done ++ s ∷ []) next (spent || found.spent)
+  pub settled_more : AreSettled search after cursor_after path (without left s) next (spent || found.spent)
   settled_more = record {
-    within = settled.within;
+    within = λ scene waits. settled.within scene (has_from_without left s scene waits).1;
     justified = justified_then;
     enough = enough_then;
     ahead = ahead_then;

@@ -4,8 +4,9 @@ use Rattle.strip_io.specs.declared.files.Memory.{Memory}
 use Rattle.strip_io.specs.Counts.{Rose}
 use Rattle.strip_film.specs.declared.shared.Known.{Known}
 use Rattle.strip_film.specs.declared.shared.Line.{Line}
+use Rattle.strip_film.specs.Film.{all_scenes}
 use Rattle.strip_film.specs.Path.{PathData}
-use Rattle.strip_film.specs.Rules.{IsOpen}
+use Rattle.strip_film.specs.Rules.{IsOpen, Rules}
 use Rattle.strip_film.specs.Shown.{CursorData}
 use Rattle.strip_lines.specs.Lines.{GrowTo}
 use Rattle.strip_lines.proofs.Grown.{grow_trans}
@@ -19,7 +20,7 @@ use Rattle.strip_walk.specs.declared.found.Begun.TheVariants.{Answered, Enlisted
 use Rattle.strip_walk.specs.Found.{BegunBy, IsCutShort, MayExplore}
 use Rattle.strip_walk.specs.Walked.{Walks}
 use Rattle.strip_walk.specs.Begun.{Begins, Stays}
-use Rattle.strip_walk.proofs.Lists.{begun_not_before, starts_itself, starts_shorter}
+use Rattle.strip_walk.proofs.Lists.{begun_not_earlier, starts_itself, starts_shorter}
 
 -- ---- lines that grow
 
@@ -120,9 +121,9 @@ walks_child before after cursor cursor_after path child s longer walks = record 
 -- ---- the last path
 
 -- a path that comes after the last one doesn't begin it
-pub not_begun : (last : Option PathData) (path : PathData) → ComesAfter last path → BegunBy path last → ⊥
-not_begun last path later (end, is, starts) =
-    begun_not_before end.scenes path.scenes starts (subst (λ (l : Option PathData). ComesAfter l path) is later)
+pub not_begun : (rules : Rules) (last : Option PathData) (path : PathData) → ComesAfter rules last path → BegunBy path last → ⊥
+not_begun rules last path later (end, is, starts) =
+    begun_not_earlier rules (all_scenes rules.film) end.scenes path.scenes starts (subst (λ (l : Option PathData). ComesAfter rules l path) is later)
 
 pub begun_itself : (last : Option PathData) (path : PathData) → last ≡ Some path → BegunBy path last
 begun_itself last path is = (path, is, starts_itself path.scenes)
@@ -141,7 +142,8 @@ cut_stays now after cursor cursor_after path few walks cut =
       is_open = subst (λ (search : SearchData). IsOpen (search_rules search) cut.path) (sym walks.search) cut.is_open;
       lies = ap (λ (search : SearchData). lies_in (depth_of search) search.tasks cursor_after.task cut.path) walks.search
           ∙ ap (λ (at : CursorData). lies_in (depth_of now.search) now.search.tasks at.task cut.path) same ∙ cut.lies;
-      later = subst (λ (at : CursorData). ComesAfter at.last cut.path) (sym same) cut.later;
+      later = subst (λ (search : SearchData). ComesAfter (search_rules search) cursor_after.last cut.path) (sym walks.search)
+          (subst (λ (at : CursorData). ComesAfter (search_rules now.search) at.last cut.path) (sym same) cut.later);
       some = cut.some;
       below = subst (λ (search : SearchData). cut.path.paid + (search_rules search).bound cut.path.rest < search.start) (sym walks.search) cut.below;
     }
@@ -155,7 +157,7 @@ may_still before after cursor path stays may = record {
   task = may.task;
   is_open = subst (λ (search : SearchData). IsOpen (search_rules search) path) (sym stays.search) may.is_open;
   lies = ap (λ (search : SearchData). lies_in (depth_of search) search.tasks cursor.task path) stays.search ∙ may.lies;
-  later = may.later;
+  later = subst (λ (search : SearchData). ComesAfter (search_rules search) cursor.last path) (sym stays.search) may.later;
 }
 
 module _ (before mid after : HandData) (cursor cursor_after : CursorData) (path : PathData) (few : length mid.lines ≤ mid.search.cap)

@@ -1,30 +1,30 @@
 -- One turn of a walk: a scene is shot, what then remains is walked, and the scene is taken back.
-use Rattle.std.proofs.Common.{◌≡◌, ℕ, ◌+◌, ◌-◌, ◌^◌, ◌<◌, ◌≤◌, Bool, true, false, Result, Ok, Err, IfOk, List, [], ◌∷◌, ◌++◌, length, length-append, get_or, Contains, sym, ap, ◌∙◌, subst, arith}
+use Rattle.std.proofs.Common.{◌≡◌, ℕ, ◌+◌, ◌-◌, ◌^◌, ◌<◌, ◌≤◌, inl, inr, true, false, Result, Ok, Err, IfOk, [], ◌∷◌, ◌++◌, length, sym, ap, ◌∙◌, subst, arith}
 use Rattle.std.specs.Result.{IsErr}
-use Rattle.std.proofs.Math.ListN.{get_or-append}
-use Rattle.std.proofs.Math.Seq.{get_or-append_seam}
-use Rattle.std.proofs.lemmas.List.Kept.{AllPairs-from_increasing}
 use Rattle.strip_io.specs.declared.files.Memory.{Memory}
-use Rattle.strip_mask.specs.Set.{IsSet, has, members, size, without}
+use Rattle.strip_mask.specs.Set.{IsSet, has, size, without}
 use Rattle.strip_mask.proofs.Below.{LiesBelow-without, is_set_below}
-use Rattle.strip_mask.proofs.Members.{Contains-members, members_rise}
+use Rattle.strip_mask.proofs.ByMembers.{has_from_without}
 use Rattle.strip_pay.specs.Film.{FilmData}
 use Rattle.strip_film.specs.Film.{IsFilm, LiesIn}
 use Rattle.strip_film.specs.Path.{IsPath, PathData}
+use Rattle.strip_film.specs.Ranks.{IsSooner}
+use Rattle.strip_film.specs.Rules.{rank}
 use Rattle.strip_film.specs.Shoot.{ready, step_cost}
 use Rattle.strip_film.specs.Shown.{CursorData}
+use Rattle.strip_film.specs.Turns.{IsSoonest, TurnsData}
 use Rattle.strip_film.proofs.Costs.{step_limit}
 use Rattle.strip_film.proofs.Lists.{ready_there}
 use Rattle.strip_film.proofs.Paths.{rest_lies}
 use Rattle.strip_film.proofs.Small.{finish_small}
 use Rattle.strip_rule.proofs.Open.{open_is}
-use Rattle.strip_hand.specs.Search.{SearchData}
+use Rattle.strip_hand.specs.Search.{SearchData, search_rules}
 use Rattle.strip_hand.specs.Hand.{HandData}
 use Rattle.strip_walk.specs.declared.found.Found.{Found}
 use Rattle.strip_walk.specs.Found.{IsFound}
 use Rattle.strip_walk.specs.Walked.{Explores, Walks}
 use Rattle.strip_walk.proofs.Ended.{fewer}
-use Rattle.strip_walk.proofs.Settled.{AreSettled, IsFirst, shot}
+use Rattle.strip_walk.proofs.Settled.{IsFirst, IsNext, shot}
 use Rattle.strip_walk.proofs.Stayed.{rose_around, walks_child, walks_trans}
 
 -- ---- the scene
@@ -89,26 +89,30 @@ module _ (before now after : HandData) (cursor cursor_now cursor_after : CursorD
   turn_refused (Err other) fault is (child, rose) =
       (turn_walks child, rose_around before.refusals now.refusals after.refusals after.refusals walks.refusals rose (omega arith))
 
--- ---- all of them
+-- ---- the turns
 
-pub all_met : (search : SearchData) (hand : HandData) (cursor : CursorData) (path : PathData) (visit : ℕ) (done : List ℕ) (least : ℕ) (spent : Bool)
-    → IsFilm search.film → IsPath search.film path → AreSettled search hand cursor path visit done least spent → done ≡ members visit
-    → (scene : ℕ) → has visit scene ≡ true → Contains done scene
-all_met search hand cursor path visit done least spent is within settled all scene visited =
-    subst (λ (xs : List ℕ). Contains xs scene) (sym all)
-    (Contains-members visit scene (is_set_below (length search.film.casts) visit is.scene_count.1
-    (λ x there. rest_lies search.film path within x (ready_there search.film path.rest x (open_is search.film path.rest x (settled.within x there)).0))) visited)
+-- by these ranks the scene is the next one
+pub next_is : (search : SearchData) (path : PathData) (turns : TurnsData) (s : ℕ)
+    → ((scene : ℕ) → has turns.left scene ≡ true → turns.ranks scene ≡ rank (search_rules search) path.rest scene)
+    → IsSoonest turns s → IsNext search path turns.left s
+next_is search path turns s ranked soonest = record {
+  waits = soonest.waits;
+  first = λ other waits apart. sooner_by (ranked s soonest.waits) (ranked other waits) (soonest.first other waits apart);
+}
+  where
+    sooner_by : {t : ℕ} → turns.ranks s ≡ rank (search_rules search) path.rest s → turns.ranks t ≡ rank (search_rules search) path.rest t
+        → IsSooner turns.ranks s t → IsSooner (rank (search_rules search) path.rest) s t
+    sooner_by here there (inl less) = inl (omega (arith, here, there, less))
+    sooner_by here there (inr (same, less)) = inr (sym here ∙ same ∙ there, less)
+
+-- those that are left keep their ranks
+pub still_ranked : (search : SearchData) (path : PathData) (turns later : TurnsData) (s : ℕ) → later.left ≡ without turns.left s → later.ranks ≡ turns.ranks
+    → ((scene : ℕ) → has turns.left scene ≡ true → turns.ranks scene ≡ rank (search_rules search) path.rest scene)
+    → (scene : ℕ) → has later.left scene ≡ true → later.ranks scene ≡ rank (search_rules search) path.rest scene
+still_ranked search path turns later s fewer_wait same ranked scene waits =
+    ap (λ (ranks : ℕ → ℕ). ranks scene) same
+    ∙ ranked scene (has_from_without turns.left s scene (subst (λ (left : ℕ). has left scene ≡ true) fewer_wait waits)).1
 
 pub if_ok_holds : {X E : Type 0} (P : Type 0) (result : Result X E) → P → IfOk result (λ _. P)
 if_ok_holds P (Ok x) holds = holds
 if_ok_holds P (Err e) holds = tt
-
--- the scenes before a turn's scene are lesser, as the members of a set rise
-pub earlier_lesser : (set s : ℕ) (done rest left : List ℕ) → done ++ rest ≡ members set → rest ≡ s ∷ left → (x : ℕ) → Contains done x → x < s
-earlier_lesser set s done rest left all here x (place, within, at) =
-    let list : done ++ s ∷ left ≡ members set = ap (λ (xs : List ℕ). done ++ xs) (sym here) ∙ all in
-    let risen = subst (λ (xs : List ℕ). (i j d : ℕ) → i < j → j < length xs → get_or xs i d < get_or xs j d) (sym list)
-    (AllPairs-from_increasing (members set) (members_rise set)) in
-    let less : get_or (done ++ s ∷ left) place x < get_or (done ++ s ∷ left) (length done) x
-    = risen place (length done) x within (omega (arith, length-append done (s ∷ left))) in
-    omega (arith, less, get_or-append done (s ∷ left) x place within, at, get_or-append_seam done s left x)

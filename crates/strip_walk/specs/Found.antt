@@ -26,7 +26,7 @@ pub record MayExplore (hand : HandData) (cursor : CursorData) (path : PathData) 
   pub task : cursor.task ≢ 0
   pub is_open : IsOpen (search_rules hand.search) path
   pub lies : lies_in (depth_of hand.search) hand.search.tasks cursor.task path ≡ true
-  pub later : ComesAfter cursor.last path
+  pub later : ComesAfter (search_rules hand.search) cursor.last path
 
 -- the last path begins with this one
 abbrev pub BegunBy : PathData → Option PathData → Type 0
@@ -38,7 +38,7 @@ pub record IsCutShort (hand : HandData) (cursor : CursorData) : Type 0 where
   pub path : PathData
   pub is_open : IsOpen (search_rules hand.search) path
   pub lies : lies_in (depth_of hand.search) hand.search.tasks cursor.task path ≡ true
-  pub later : ComesAfter cursor.last path
+  pub later : ComesAfter (search_rules hand.search) cursor.last path
   pub some : path.rest ≢ 0
   pub below : path.paid + (search_rules hand.search).bound path.rest < hand.search.start
 

@@ -4,22 +4,37 @@ use Rattle.strip_mask.specs.Set.{has, without}
 use Rattle.strip_kind.specs.declared.kind.Kind.{Kind}
 use Rattle.strip_pay.specs.Film.{FilmData}
 use Rattle.strip_film.specs.Path.{PathData}
+use Rattle.strip_film.specs.Rules.{rank}
 use Rattle.strip_film.specs.Shoot.{step_cost}
+use Rattle.strip_film.specs.Shown.{turns_data}
 use Rattle.strip_bound.specs.Bounds.{bound}
+use Rattle.strip_lines.specs.Lines.{rules_of}
 use Rattle.strip_rule.specs.Rule.{open_firsts}
 use Rattle.strip_walk.specs.declared.found.Sifted.{Sifted}
 
--- of the scenes of a list: those to be walked are among them, the least reaches no further than any other, and takes all of the room
+-- the scenes that are still to be walked
+abbrev pub to_walk : Sifted → ℕ
+to_walk sifted = (turns_data sifted.visit).left
+
+-- each scene that is to be walked waits by its rank in the set
+abbrev pub AreRanked : Kind → FilmData → ℕ → Sifted → Type 0
+AreRanked kind film set sifted =
+    (scene : ℕ) → has (to_walk sifted) scene ≡ true → (turns_data sifted.visit).ranks scene ≡ rank (rules_of kind film) set scene
+
+-- of the scenes of a list: those to be walked are among them, each by its rank; the least reaches no further than any other, and takes
+-- all of the room
 pub record AreWeighed (kind : Kind) (film : FilmData) (set room : ℕ) (scenes : List ℕ) (sifted : Sifted) : Type 0 where
-  pub within : (scene : ℕ) → has sifted.visit.0 scene ≡ true → Contains scenes scene
-  pub passed : (scene : ℕ) → Contains scenes scene → has sifted.visit.0 scene ≡ false
+  pub within : (scene : ℕ) → has (to_walk sifted) scene ≡ true → Contains scenes scene
+  pub ranks : AreRanked kind film set sifted
+  pub passed : (scene : ℕ) → Contains scenes scene → has (to_walk sifted) scene ≡ false
       → sifted.least ≤ step_cost film set scene + bound kind film (without set scene)
   pub enough : room ≤ sifted.least
 
--- those to be walked are open firsts; the least reaches no further than the step and the static bound of each other; and the path with
--- it is no cheaper than the least cost told
+-- those to be walked are open firsts, each by its rank; the least reaches no further than the step and the static bound of each other;
+-- and the path with it is no cheaper than the least cost told
 pub record AreSifted (kind : Kind) (film : FilmData) (path : PathData) (told : ℕ) (sifted : Sifted) : Type 0 where
-  pub within : (scene : ℕ) → has sifted.visit.0 scene ≡ true → has (open_firsts film path.rest) scene ≡ true
-  pub passed : (scene : ℕ) → has (open_firsts film path.rest) scene ≡ true → has sifted.visit.0 scene ≡ false
+  pub within : (scene : ℕ) → has (to_walk sifted) scene ≡ true → has (open_firsts film path.rest) scene ≡ true
+  pub ranks : AreRanked kind film path.rest sifted
+  pub passed : (scene : ℕ) → has (open_firsts film path.rest) scene ≡ true → has (to_walk sifted) scene ≡ false
       → sifted.least ≤ step_cost film path.rest scene + bound kind film (without path.rest scene)
   pub enough : told ≤ path.paid + sifted.least

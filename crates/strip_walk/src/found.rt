@@ -1,7 +1,6 @@
 // What a walk finds, and how it begins.
 
-use strip_film::Probe;
-use strip_mask::Mask;
+use strip_film::{Probe, Turns};
 
 /// What a walk found of what remains after a path: a bound, in units of money, that is at most the cost of
 /// finishing; the line that has it, where it is no static bound; and whether there were as many lines as
@@ -44,10 +43,10 @@ pub(crate) enum Begun {
     Enlisted(Opened),
 }
 
-/// The children of a path that have to be walked, and the least of the others' steps with their static
-/// bounds; `u64::MAX` where there is no other.
-#[derive(Clone, Copy, Debug)]
+/// The children of a path that have to be walked, by rank, and the least of the others' steps with their
+/// static bounds; `u64::MAX` where there is no other.
+#[derive(Debug, Drop)]
 pub(crate) struct Sifted {
-    pub visit: Mask,
+    pub visit: Turns,
     pub least: u64,
 }

@@ -18,7 +18,7 @@ use strip_io::Memory;
 use strip_memo::Memo;
 
 /// Explores the path of `running`: it is ruled out by its static bound or a known line, or enlisted, and
-/// then those of its open firsts are shot next, by rising number, whose step and static bound don't rule
+/// then those of its open firsts are shot next, by rising rank, whose step and static bound don't rule
 /// them out, each explored in turn; at the end the path's line is raised to the least of the steps with
 /// what was found behind them, and noted. What is answered is a bound on what remains, in units of money;
 /// `running` is then as it was. Where memory is refused, `running` may stand further on.
@@ -58,7 +58,7 @@ pub fn explore<H: Hand, F: Fn(u64, u64) -> u64>(
     hand.keeps_limits();
     let mut sifted = sift(kept, running, memo, opened.told);
     let mut spent = false;
-    for s in sifted.visit.iter() {
+    while let Some(s) = sifted.visit.take_next() {
         let paid = running.paid();
         running.take(film, s);
         let step = running.paid() - paid;

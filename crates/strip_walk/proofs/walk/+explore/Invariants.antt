@@ -1,11 +1,11 @@
-use Rattle.std.proofs.Common.{◌≡◌, ◌++◌}
-use Rattle.strip_mask.specs.Iter.{rest_of}
-use Rattle.strip_mask.specs.Set.{members, size}
+use Rattle.std.proofs.Common.{◌≡◌}
+use Rattle.strip_mask.specs.Set.{size}
 use Rattle.strip_film.specs.Running.{IsRunning}
 use Rattle.strip_film.specs.Shown.{cursor_data, running_data}
 use Rattle.strip_hand.specs.Hand.{IsHand}
 use Rattle.strip_walk.specs.Walked.{Walks}
 use Rattle.strip_memo.specs.Memo.{IsMemo}
+use Rattle.strip_walk.specs.Sifted.{AreRanked, to_walk}
 use Rattle.strip_walk.proofs.Ended.{HasLine}
 use Rattle.strip_walk.proofs.Settled.{AreSettled}
 use Rattle.strip_walk.proofs.walk.+explore.Given as goal
@@ -13,7 +13,10 @@ use Rattle.strip_walk.proofs.walk.+explore.Given as goal
 abbrev pub decreases-explore : goal.decreases-explore
 decreases-explore g l = size l.running.now.path.rest.0
 
--- the path is as it was, what was walked so far is settled, and the scenes so far and those to come are those to be walked
+abbrev pub decreases-loop-s : goal.decreases-loop-s
+decreases-loop-s g l = size (to_walk l.sifted)
+
+-- the path is as it was, what was walked so far is settled, and those that are left wait by their ranks
 abbrev pub invariant-loop-s : goal.invariant-loop-s
 invariant-loop-s g l = record {
   sound : g.H.Hand.is_sound l.hand;
@@ -24,7 +27,7 @@ invariant-loop-s g l = record {
   path : (running_data l.running).path ≡ (running_data l.fn.running).path;
   walks : Walks (g.H.Hand.shows l.fn.hand) (cursor_data l.fn.cursor) (running_data l.fn.running).path (g.H.Hand.shows l.hand) (cursor_data l.cursor);
   line : HasLine (g.H.Hand.shows l.hand) (running_data l.fn.running).path l.opened.line;
-  turns : l.yielded ++ rest_of l.s-iterator ≡ members l.sifted.visit.0;
+  ranks : AreRanked (g.H.Hand.shows l.fn.hand).search.kind (g.H.Hand.shows l.fn.hand).search.film (running_data l.fn.running).path.rest l.sifted;
   settled : AreSettled (g.H.Hand.shows l.fn.hand).search (g.H.Hand.shows l.hand) (cursor_data l.cursor) (running_data l.fn.running).path
-      l.sifted.visit.0 l.yielded l.sifted.least l.spent;
+      (to_walk l.sifted) l.sifted.least l.spent;
 }
