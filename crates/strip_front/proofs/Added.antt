@@ -33,9 +33,13 @@ each_of P tasks (path ∷ paths) are is =
 abbrev pub Differs : PathData → PathData → Type 0
 Differs one other = one.rest ≢ other.rest
 
+-- it holds of each and each later one
+abbrev pub EachPair : (PathData → PathData → Type 0) → List PathData → Type 0
+EachPair R [] = Unit {0}
+EachPair R (task ∷ tasks) = All (R task) tasks × EachPair R tasks
+
 abbrev pub AreApart : List PathData → Type 0
-AreApart [] = Unit {0}
-AreApart (task ∷ tasks) = All (Differs task) tasks × AreApart tasks
+AreApart tasks = EachPair Differs tasks
 
 apart_with : (tasks : List PathData) (path : PathData) → AreApart tasks → AreApart (with_task tasks path)
 apart_with [] path apart = (All-nil (Differs path), tt)
@@ -52,12 +56,12 @@ pub apart_of : (tasks paths : List PathData) → AreApart tasks → AreApart (fo
 apart_of tasks [] apart = apart
 apart_of tasks (path ∷ paths) apart = apart_of (with_task tasks path) paths (apart_with tasks path apart)
 
-pub pairs_apart : (tasks : List PathData) → AreApart tasks → AllPairs (λ a b. a.rest ≢ b.rest) tasks
-pairs_apart [] apart i j d before within = absurd (omega (arith, within))
-pairs_apart (task ∷ tasks) apart zero zero d before within = absurd (omega (arith, before))
-pairs_apart (task ∷ tasks) apart zero (suc j) d before within = apart.0 j d (omega (arith, within))
-pairs_apart (task ∷ tasks) apart (suc i) zero d before within = absurd (omega (arith, before))
-pairs_apart (task ∷ tasks) apart (suc i) (suc j) d before within = pairs_apart tasks apart.1 i j d (omega (arith, before)) (omega (arith, within))
+pub pairs_of : (R : PathData → PathData → Type 0) (tasks : List PathData) → EachPair R tasks → AllPairs R tasks
+pairs_of R [] pairs i j d before within = absurd (omega (arith, within))
+pairs_of R (task ∷ tasks) pairs zero zero d before within = absurd (omega (arith, before))
+pairs_of R (task ∷ tasks) pairs zero (suc j) d before within = pairs.0 j d (omega (arith, within))
+pairs_of R (task ∷ tasks) pairs (suc i) zero d before within = absurd (omega (arith, before))
+pairs_of R (task ∷ tasks) pairs (suc i) (suc j) d before within = pairs_of R tasks pairs.1 i j d (omega (arith, before)) (omega (arith, within))
 
 -- ---- they pay no more
 

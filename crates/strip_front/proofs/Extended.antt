@@ -8,7 +8,7 @@ use Rattle.strip_film.specs.Path.{PathData}
 use Rattle.strip_film.specs.Shoot.{step_cost}
 use Rattle.strip_rule.specs.Rule.{open_firsts}
 use Rattle.strip_count.specs.Paths.{path_along}
-use Rattle.strip_front.specs.Tasks.{paths_after, paths_of_two, tasks_of, with_task}
+use Rattle.strip_front.specs.Tasks.{arising_tasks, paths_after, paths_of_two, with_task}
 use Rattle.strip_front.proofs.Lists.{fold_flat_map}
 
 abbrev pub extended : FilmData → PathData → ℕ → PathData
@@ -43,14 +43,14 @@ all_extended film path first is =
 
 -- all tasks of a film of two scenes or more, by first scenes
 pub tasks_by_first : (film : FilmData) (firsts : List ℕ) (tasks : List PathData) → tasks ≡ fold (λ tasks first. fold with_task tasks (paths_after film first)) [] firsts
-    → firsts ≡ members (open_firsts film (all_scenes film)) → 1 < length film.casts → tasks ≡ tasks_of film
+    → firsts ≡ members (open_firsts film (all_scenes film)) → 1 < length film.casts → tasks ≡ arising_tasks film
 tasks_by_first film firsts tasks are all more =
     are ∙ ap (fold (λ tasks first. fold with_task tasks (paths_after film first)) []) all
     ∙ sym (fold_flat_map with_task (paths_after film) [] (members (open_firsts film (all_scenes film))))
     ∙ sym (cond-true (ltb 1 (length film.casts)) (fold with_task [] (paths_of_two film)) (path_along film (0 ∷ []) ∷ []) (lt-ltb 1 (length film.casts) more))
 
 -- and that of a film of one scene
-pub only_task : (film : FilmData) (path : PathData) → path ≡ extended film (record { scenes = []; rest = all_scenes film; paid = 0 }) 0 → length film.casts ≡ 1 → path ∷ [] ≡ tasks_of film
+pub only_task : (film : FilmData) (path : PathData) → path ≡ extended film (record { scenes = []; rest = all_scenes film; paid = 0 }) 0 → length film.casts ≡ 1 → path ∷ [] ≡ arising_tasks film
 only_task film path is one =
     ap (λ (p : PathData). p ∷ []) (is ∙ one_extended film 0)
     ∙ sym (cond-false (ltb 1 (length film.casts)) (fold with_task [] (paths_of_two film)) (path_along film (0 ∷ []) ∷ []) (le-ltb 1 (length film.casts) (omega (arith, one))))

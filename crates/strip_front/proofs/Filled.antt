@@ -69,6 +69,6 @@ root_own hand cursor front is stands task both cut some few = by_last cursor.las
     by_last None at =
         let entry : RecordData = record { last = None; number = stands.0 } in
         let none = (is.records 0 entry (record_at ∙ ap (λ (o : Option PathData). Some (record { last = o; number = stands.0 })) at)).share in
-        let zero : number_up_to hand.search.film None (inside (depth_of hand.search) hand.search.tasks 0 (is_candidate (search_rules hand.search) hand.search.start)) ≡ 0
+        let zero : number_up_to (search_rules hand.search) None (inside (depth_of hand.search) hand.search.tasks 0 (is_candidate (search_rules hand.search) hand.search.start)) ≡ 0
         = none_counted (lists_from hand.search.film (length hand.search.film.casts) (all_scenes hand.search.film)) in
         absurd (omega (arith, none, zero, count, few, some, cut.full))

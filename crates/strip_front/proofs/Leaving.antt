@@ -7,14 +7,16 @@ use Rattle.std.proofs.lemmas.List.Elements.{Contains-append_left, Contains-push,
 use Rattle.strip_mask.specs.Set.{has, members, without}
 use Rattle.strip_mask.proofs.Below.{is_set_below, LiesBelow-full}
 use Rattle.strip_mask.proofs.Members.{Contains-members, has_from_members}
+use Rattle.strip_kind.specs.declared.kind.Kind.{Kind}
 use Rattle.strip_pay.specs.Film.{FilmData}
 use Rattle.strip_film.specs.Film.{IsFilm, all_scenes}
 use Rattle.strip_rule.specs.Rule.{open_firsts}
 use Rattle.strip_rule.proofs.Firsts.{firsts_set}
+use Rattle.strip_lines.specs.Lines.{rules_of}
 use Rattle.strip_front.specs.Filled.{Follows, IsWanted}
 use Rattle.strip_front.specs.Front.{FrontData, IsFrontOf, task_at}
 use Rattle.strip_front.specs.Marked.{MarksMore}
-use Rattle.strip_front.specs.Tasks.{paths_of_two, tasks_of, with_task}
+use Rattle.strip_front.specs.Tasks.{arising_tasks, paths_of_two, placed, promise_of, tasks_of, with_task}
 use Rattle.strip_count.specs.Paths.{path_along}
 
 -- where no scene so far leaves it, none does at the end
@@ -138,29 +140,32 @@ marks_all film old front firsts is more all marks = record {
 }
 
 -- the one task of a film of one scene
-pub only_tasks : (film : FilmData) → length film.casts ≡ 1 → tasks_of film ≡ path_along film (0 ∷ []) ∷ []
-only_tasks film one =
+only_arising : (film : FilmData) → length film.casts ≡ 1 → arising_tasks film ≡ path_along film (0 ∷ []) ∷ []
+only_arising film one =
     cond-false (ltb 1 (length film.casts)) (fold with_task [] (paths_of_two film)) (path_along film (0 ∷ []) ∷ []) (le-ltb 1 (length film.casts) (omega (arith, one)))
 
-pub one_task : (film : FilmData) (front : FrontData) → IsFrontOf film front → length film.casts ≡ 1 → (length front.tasks ≡ 1) × (length front.wanted ≡ 1)
-one_task film front is one =
+pub only_tasks : (kind : Kind) (film : FilmData) → length film.casts ≡ 1 → tasks_of (rules_of kind film) ≡ path_along film (0 ∷ []) ∷ []
+only_tasks kind film one = ap (fold (placed (promise_of (rules_of kind film))) []) (only_arising film one)
+
+pub one_task : (kind : Kind) (film : FilmData) (front : FrontData) → IsFrontOf (rules_of kind film) front → length film.casts ≡ 1 → (length front.tasks ≡ 1) × (length front.wanted ≡ 1)
+one_task kind film front is one =
     let count : length front.tasks ≡ 1
-    = ap length (is.tasks ∙ only_tasks film one) in
+    = ap length (is.tasks ∙ only_tasks kind film one) in
     (count, omega (arith, count, is.wanted))
 
-pub marks_one : (film : FilmData) (front : FrontData) (before root : Bool) → IsFrontOf film front → length film.casts ≡ 1
+pub marks_one : (kind : Kind) (film : FilmData) (front : FrontData) (before root : Bool) → IsFrontOf (rules_of kind film) front → length film.casts ≡ 1
     → before ≡ get_or front.wanted 0 before → root ≡ is_some front.root
     → MarksMore front (record front { wanted = slice_set front.wanted 0 (before || root) }) (IsWanted film front)
-marks_one film front before root is one read tells = record {
+marks_one kind film front before root is one read tells = record {
   only = refl;
   count = length-set front.wanted 0 (before || root);
   marked = λ task within. (
       let here = marked_more front.wanted front.wanted (IsWanted film front) 0 before root within_wanted read decides
-      (λ i lower. absurd (omega (arith, lower))) (λ i _. refl) task (omega (arith, within, (one_task film front is one).0)) in here);
+      (λ i lower. absurd (omega (arith, lower))) (λ i _. refl) task (omega (arith, within, (one_task kind film front is one).0)) in here);
 }
   where
     within_wanted : 0 < length front.wanted
-    within_wanted = omega (arith, (one_task film front is one).1)
+    within_wanted = omega (arith, (one_task kind film front is one).1)
 
     decides : (root ≡ true) ↔ IsWanted film front 0
     decides = (

@@ -1,5 +1,6 @@
 pub mod Lists
 pub mod Added
+pub mod Rising
 pub mod Tasks
 pub mod Placed
 pub mod Grown

@@ -44,7 +44,7 @@ greater_justified rules lines set static least is some steps = elim (cases_lt st
   | inr more ↦ inl (omega (arith, is, more))
 ]
 
-module _ (hand : HandData) (sound : IsHand hand) (front : FrontData) (front_of : IsFrontOf hand.search.film front) (filled : IsFilled hand front) (found : List ℕ)
+module _ (hand : HandData) (sound : IsHand hand) (front : FrontData) (front_of : IsFrontOf (search_rules hand.search) front) (filled : IsFilled hand front) (found : List ℕ)
     (are : AreFound hand front found) (first : ℕ) (member : has (open_firsts hand.search.film (all_scenes hand.search.film)) first ≡ true) where
   -- ---- two scenes or more
 
@@ -59,7 +59,7 @@ module _ (hand : HandData) (sound : IsHand hand) (front : FrontData) (front_of :
     follows second there =
         let film = hand.search.film in
         let pays = tasks_pay film sound.film hand.search.kind (path_along film (first ∷ second ∷ [])) (two_open film sound.film hand.search.kind first second member there) (omega (arith, more)) in
-        let at : get_or (tasks_of film) pays.1.0 no_task ≡ pays.0 = get_or_default (tasks_of film) pays.1.0 no_task pays.0 pays.1.1 ∙ pays.1.2 in
+        let at : get_or (tasks_of (search_rules hand.search)) pays.1.0 no_task ≡ pays.0 = get_or_default (tasks_of (search_rules hand.search)) pays.1.0 no_task pays.0 pays.1.1 ∙ pays.1.2 in
         let here : task_at front pays.1.0 ≡ pays.0 = ap (λ (tasks : List PathData). get_or tasks pays.1.0 no_task) front_of.tasks ∙ at in (
           pays.1.0,
           omega (arith, pays.1.1, ap length front_of.tasks),
@@ -109,7 +109,7 @@ module _ (hand : HandData) (sound : IsHand hand) (front : FrontData) (front_of :
           → value - step_cost hand.search.film (all_scenes hand.search.film) first ≤ reach
       least_reaches value all second reach there (task, within, leaves, is) =
           let other = follows second there in
-          let same : other.0 ≡ task = same_task hand.search.film sound.film front.tasks front_of.tasks other.0 task other.1 within (other.2 ∙ sym leaves) in
+          let same : other.0 ≡ task = same_task hand.search.kind hand.search.film sound.film front.tasks front_of.tasks other.0 task other.1 within (other.2 ∙ sym leaves) in
           let paid : (task_at front task).paid ≡ (task_at front other.0).paid = ap (λ (i : ℕ). (task_at front i).paid) (sym same) in
           omega (arith, all task within (wanted second task there within leaves), paid, other.3, is)
 
@@ -129,11 +129,11 @@ module _ (hand : HandData) (sound : IsHand hand) (front : FrontData) (front_of :
 
     task_is : task_at front 0 ≡ path_along hand.search.film (first ∷ [])
     task_is =
-        ap (λ (tasks : List PathData). get_or tasks 0 no_task) (front_of.tasks ∙ only_tasks hand.search.film one)
+        ap (λ (tasks : List PathData). get_or tasks 0 no_task) (front_of.tasks ∙ only_tasks hand.search.kind hand.search.film one)
         ∙ ap (λ (s : ℕ). path_along hand.search.film (s ∷ [])) (sym (only_first hand.search.film sound.film one first member))
 
     pub zero_within : 0 < length front.tasks
-    zero_within = omega (arith, (one_task hand.search.film front front_of one).0)
+    zero_within = omega (arith, (one_task hand.search.kind hand.search.film front front_of one).0)
 
     pub zero_leaves : (task_at front 0).rest ≡ without (all_scenes hand.search.film) first
     zero_leaves = ap (λ (p : PathData). p.rest) task_is
@@ -162,7 +162,7 @@ LeastFor film front found set least = (value : ℕ) → value < 2 ^ 64 → MostF
 abbrev pub AllFor : FilmData → FrontData → List ℕ → ℕ → Type 0
 AllFor film front found set = (second : ℕ) → has (open_firsts film set) second ≡ true → (reach : ℕ) × ReachesBy film front found set second reach × (reach < 2 ^ 64)
 
-module _ (hand : HandData) (sound : IsHand hand) (front : FrontData) (front_of : IsFrontOf hand.search.film front) (filled : IsFilled hand front) (root : IsSome front.root)
+module _ (hand : HandData) (sound : IsHand hand) (front : FrontData) (front_of : IsFrontOf (search_rules hand.search) front) (filled : IsFilled hand front) (root : IsSome front.root)
     (found : List ℕ) (are : AreFound hand front found) (first : ℕ) (member : has (open_firsts hand.search.film (all_scenes hand.search.film)) first ≡ true) where
   pub reached_one : length hand.search.film.casts ≡ 1 → (number : ℕ)
       → ((task : ℕ) → task < length front.tasks → (task_at front task).rest ≡ without (all_scenes hand.search.film) first → number ≡ slice_index found task)

@@ -1,5 +1,5 @@
 -- The tasks of a film: they are open, apart and few, and no open path pays less.
-use Rattle.std.proofs.Common.{◌≡◌, ◌≢◌, ℕ, ◌*◌, ◌≤◌, min, true, false, ltb, List, [], ◌∷◌, length, sum_by, fold, All, Contains, refl, sym, ap, ◌∙◌, subst, arith}
+use Rattle.std.proofs.Common.{◌≡◌, ◌≢◌, ℕ, ◌*◌, ◌≤◌, min, true, false, ltb, List, [], ◌∷◌, length, get_or, sum_by, fold, All, Contains, refl, sym, ap, ◌∙◌, subst, arith}
 use Rattle.std.specs.List.{AllPairs}
 use Rattle.std.proofs.lemmas.Bool.{cond_both, ltb-true, ltb-false}
 use Rattle.std.proofs.lemmas.List.{length-map}
@@ -11,6 +11,7 @@ use Rattle.strip_mask.proofs.Below.{LiesBelow-full, LiesBelow-without, is_set_be
 use Rattle.strip_mask.proofs.Members.{All-members, Contains-members}
 use Rattle.strip_mask.proofs.Sizes.{length-members, size-empty, size-le, size-without, size_mono}
 use Rattle.strip_kind.specs.declared.kind.Kind.{Kind}
+use Rattle.strip_kind.specs.declared.kind.Kind.TheVariants.{Plain}
 use Rattle.strip_pay.specs.Film.{FilmData}
 use Rattle.strip_pay.proofs.Lists.{contains_here}
 use Rattle.strip_film.specs.Film.{IsFilm, LiesIn, all_scenes}
@@ -24,9 +25,10 @@ use Rattle.strip_rule.proofs.Firsts.{first_there, firsts_set}
 use Rattle.strip_lines.specs.Lines.{rules_of}
 use Rattle.strip_count.specs.Paths.{path_along}
 use Rattle.strip_hand.specs.Search.{AreStarts, SearchData, depth_of}
-use Rattle.strip_front.specs.Tasks.{paths_after, paths_of_two, tasks_of, with_task}
+use Rattle.strip_front.specs.Tasks.{arising_tasks, paths_after, paths_of_two, promise_of, tasks_of, with_task}
 use Rattle.strip_front.proofs.Lists.{All-flat_map, Contains-flat_map, Contains-map}
-use Rattle.strip_front.proofs.Added.{AreApart, Pays, apart_of, each_of, more_of, pairs_apart, pays_of}
+use Rattle.strip_front.proofs.Added.{AreApart, Differs, Pays, apart_of, each_of, more_of, pairs_of, pays_of}
+use Rattle.strip_front.proofs.Rising.{each_risen, pairs_risen, risen_count, risen_has}
 
 -- ---- open firsts
 
@@ -120,13 +122,13 @@ module _ (film : FilmData) (is : IsFilm film) where
 
   -- ---- the laws
 
-  pub tasks_open : (kind : Kind) → All (IsOpen (rules_of kind film)) (tasks_of film)
-  tasks_open kind = cond_both (ltb 1 (length film.casts)) (fold with_task [] (paths_of_two film)) (path_along film (0 ∷ []) ∷ []) (All (IsOpen (rules_of kind film)))
+  arising_open : (kind : Kind) → All (IsOpen (rules_of kind film)) (arising_tasks film)
+  arising_open kind = cond_both (ltb 1 (length film.casts)) (fold with_task [] (paths_of_two film)) (path_along film (0 ∷ []) ∷ []) (All (IsOpen (rules_of kind film)))
       (λ _. each_of (IsOpen (rules_of kind film)) [] (paths_of_two film) (All-nil (IsOpen (rules_of kind film))) (each_two (IsOpen (rules_of kind film)) (two_open kind)))
       (λ one. All-cons (IsOpen (rules_of kind film)) (path_along film (0 ∷ [])) [] (one_open kind 0 (zero_first (one_scene one))) (All-nil (IsOpen (rules_of kind film))))
 
-  pub tasks_pay : (kind : Kind) (path : PathData) → IsOpen (rules_of kind film) path → length path.scenes ≡ min 2 (length film.casts) → Pays (tasks_of film) path.rest path.paid
-  tasks_pay kind path open_path long =
+  arising_pay : (kind : Kind) (path : PathData) → IsOpen (rules_of kind film) path → length path.scenes ≡ min 2 (length film.casts) → Pays (arising_tasks film) path.rest path.paid
+  arising_pay kind path open_path long =
       cond_both (ltb 1 (length film.casts)) (fold with_task [] (paths_of_two film)) (path_along film (0 ∷ []) ∷ []) (λ tasks. Pays tasks path.rest path.paid)
       (λ more. two path.scenes refl (omega (arith, long, ltb-true 1 (length film.casts) more)))
       (λ one. only path.scenes refl (one_scene one) (omega (arith, long, one_scene one)))
@@ -161,26 +163,52 @@ module _ (film : FilmData) (is : IsFilm film) where
           (path_along film (0 ∷ []), contains_here (path_along film (0 ∷ [])) [], refl, omega arith)
       only (first ∷ second ∷ scenes) are one count = absurd (omega (arith, count, ap length are))
 
-  -- what remains after two of them differs
-  pub tasks_apart : AllPairs (λ a b. a.rest ≢ b.rest) (tasks_of film)
-  tasks_apart = pairs_apart (tasks_of film) (cond_both (ltb 1 (length film.casts)) (fold with_task [] (paths_of_two film)) (path_along film (0 ∷ []) ∷ []) AreApart
-      (λ _. apart_of [] (paths_of_two film) tt) (λ _. (All-nil (λ other. (path_along film (0 ∷ [])).rest ≢ other.rest), tt)))
+  arising_apart : AreApart (arising_tasks film)
+  arising_apart = cond_both (ltb 1 (length film.casts)) (fold with_task [] (paths_of_two film)) (path_along film (0 ∷ []) ∷ []) AreApart
+      (λ _. apart_of [] (paths_of_two film) tt) (λ _. (All-nil (λ other. (path_along film (0 ∷ [])).rest ≢ other.rest), tt))
 
-  pub starts : (search : SearchData) → search.film ≡ film → search.tasks ≡ tasks_of film → AreStarts search
+  arising_long : All (λ task. length task.scenes ≡ min 2 (length film.casts)) (arising_tasks film)
+  arising_long = cond_both (ltb 1 (length film.casts)) (fold with_task [] (paths_of_two film)) (path_along film (0 ∷ []) ∷ []) (All (λ task. length task.scenes ≡ min 2 (length film.casts)))
+      (λ more. each_of (λ task. length task.scenes ≡ min 2 (length film.casts)) [] (paths_of_two film) (All-nil (λ task. length task.scenes ≡ min 2 (length film.casts)))
+      (each_two (λ task. length task.scenes ≡ min 2 (length film.casts)) (λ first second _ _. omega (arith, ltb-true 1 (length film.casts) more))))
+      (λ one. All-cons (λ task. length task.scenes ≡ min 2 (length film.casts)) (path_along film (0 ∷ [])) [] (omega (arith, one_scene one)) (All-nil (λ task. length task.scenes ≡ min 2 (length film.casts))))
+
+  arising_few : length (arising_tasks film) ≤ 4032
+  arising_few = cond_both (ltb 1 (length film.casts)) (fold with_task [] (paths_of_two film)) (path_along film (0 ∷ []) ∷ []) (λ tasks. length tasks ≤ 4032)
+      (λ _. omega (arith, more_of [] (paths_of_two film), few_two)) (λ _. omega arith)
+
+  pub arising_paths : All (IsPath film) (arising_tasks film)
+  arising_paths = All-weaker (IsOpen (rules_of Plain film)) (IsPath film) (λ task open_task. open_task.0) (arising_tasks film) (arising_open Plain)
+
+  -- ---- by rising promise
+
+  pub tasks_open : (kind : Kind) → All (IsOpen (rules_of kind film)) (tasks_of (rules_of kind film))
+  tasks_open kind = each_risen (promise_of (rules_of kind film)) (IsOpen (rules_of kind film)) [] (arising_tasks film) (All-nil (IsOpen (rules_of kind film))) (arising_open kind)
+
+  pub tasks_pay : (kind : Kind) (path : PathData) → IsOpen (rules_of kind film) path → length path.scenes ≡ min 2 (length film.casts)
+      → Pays (tasks_of (rules_of kind film)) path.rest path.paid
+  tasks_pay kind path open_path long =
+      let pays = arising_pay kind path open_path long in
+      (pays.0, risen_has (promise_of (rules_of kind film)) [] (arising_tasks film) pays.0 pays.1, pays.2, pays.3)
+
+  -- what remains after two of them differs
+  pub tasks_apart : (kind : Kind) → AllPairs (λ a b. a.rest ≢ b.rest) (tasks_of (rules_of kind film))
+  tasks_apart kind = pairs_of Differs (tasks_of (rules_of kind film))
+      (pairs_risen (promise_of (rules_of kind film)) Differs (λ a b apart same. apart (sym same)) [] (arising_tasks film) tt arising_apart
+      (λ k d within. All-nil (Differs (get_or (arising_tasks film) k d))))
+
+  pub starts : (search : SearchData) → search.film ≡ film → search.tasks ≡ tasks_of (rules_of search.kind film) → AreStarts search
   starts search same are = record {
     paths = subst (λ (f : FilmData). All (IsPath f) search.tasks) (sym same) (subst (All (IsPath film)) (sym are)
-        (All-weaker (IsOpen (rules_of search.kind film)) (IsPath film) (λ task open_task. open_task.0) (tasks_of film) (tasks_open search.kind)));
-    long = subst (All (λ task. length task.scenes ≡ depth_of search)) (sym are) (subst (λ (f : FilmData). All (λ task. length task.scenes ≡ min 2 (length f.casts)) (tasks_of film)) (sym same) long);
-    apart = subst (AllPairs (λ a b. a.rest ≢ b.rest)) (sym are) tasks_apart;
+        (All-weaker (IsOpen (rules_of search.kind film)) (IsPath film) (λ task open_task. open_task.0) (tasks_of (rules_of search.kind film)) (tasks_open search.kind)));
+    long = subst (All (λ task. length task.scenes ≡ depth_of search)) (sym are) (subst (λ (f : FilmData). All (λ task. length task.scenes ≡ min 2 (length f.casts)) (tasks_of (rules_of search.kind film))) (sym same) long);
+    apart = subst (AllPairs (λ a b. a.rest ≢ b.rest)) (sym are) (tasks_apart search.kind);
     few = subst (λ (tasks : List PathData). length tasks ≤ 4032) (sym are) few;
   }
     where
-      long : All (λ task. length task.scenes ≡ min 2 (length film.casts)) (tasks_of film)
-      long = cond_both (ltb 1 (length film.casts)) (fold with_task [] (paths_of_two film)) (path_along film (0 ∷ []) ∷ []) (All (λ task. length task.scenes ≡ min 2 (length film.casts)))
-          (λ more. each_of (λ task. length task.scenes ≡ min 2 (length film.casts)) [] (paths_of_two film) (All-nil (λ task. length task.scenes ≡ min 2 (length film.casts)))
-          (each_two (λ task. length task.scenes ≡ min 2 (length film.casts)) (λ first second _ _. omega (arith, ltb-true 1 (length film.casts) more))))
-          (λ one. All-cons (λ task. length task.scenes ≡ min 2 (length film.casts)) (path_along film (0 ∷ [])) [] (omega (arith, one_scene one)) (All-nil (λ task. length task.scenes ≡ min 2 (length film.casts))))
+      long : All (λ task. length task.scenes ≡ min 2 (length film.casts)) (tasks_of (rules_of search.kind film))
+      long = each_risen (promise_of (rules_of search.kind film)) (λ task. length task.scenes ≡ min 2 (length film.casts)) [] (arising_tasks film)
+          (All-nil (λ task. length task.scenes ≡ min 2 (length film.casts))) arising_long
 
-      few : length (tasks_of film) ≤ 4032
-      few = cond_both (ltb 1 (length film.casts)) (fold with_task [] (paths_of_two film)) (path_along film (0 ∷ []) ∷ []) (λ tasks. length tasks ≤ 4032)
-          (λ _. omega (arith, more_of [] (paths_of_two film), few_two)) (λ _. omega arith)
+      few : length (tasks_of (rules_of search.kind film)) ≤ 4032
+      few = omega (arith, risen_count (promise_of (rules_of search.kind film)) [] (arising_tasks film), arising_few)

@@ -1,17 +1,21 @@
 -- A turn over the first scenes: the path of one of them may be tried, and what it tells.
-use Rattle.std.proofs.Common.{◌≡◌, ◌≢◌, ℕ, ◌<◌, ◌⊎◌, Bool, true, Option, Some, None, Result, Ok, List, [], ◌∷◌, ◌++◌, length, get_or, slice_set, Contains, inl, inr, refl, sym, ap, ◌∙◌, subst, arith}
-use Rattle.std.proofs.lemmas.Bool.{lt-ltb}
+use Rattle.std.proofs.Common.{◌≡◌, ◌≢◌, ℕ, ◌<◌, ◌⊎◌, Bool, true, Option, Some, None, Result, Ok, List, [], ◌∷◌, ◌++◌, length, get_or, slice_set, Contains, false, inl, inr, refl, sym, ap, ◌∙◌, subst, arith}
+use Rattle.std.proofs.lemmas.Bool.{cases_eq, lt-ltb}
 use Rattle.std.proofs.lemmas.List.{get_or-set_same, get_or-set_other}
-use Rattle.strip_mask.specs.Set.{has, members, size, without}
+use Rattle.std.proofs.lemmas.List.Elements.{Contains-append_left, Contains-push, Contains-push_cases}
+use Rattle.strip_mask.specs.Set.{IsSet, has, members, size, with, without}
 use Rattle.strip_mask.proofs.Below.{LiesBelow-full, size-full}
+use Rattle.strip_mask.proofs.ByMembers.{has-empty, has-with_other, has-with_same, has_from_without, same_has}
+use Rattle.strip_mask.proofs.Members.{Contains-members, has_from_members}
 use Rattle.strip_mask.proofs.Sizes.{size-empty, size-without}
-use Rattle.strip_mask.proofs.Turns.{lesser_before, turn_member}
+use Rattle.strip_pay.proofs.Lists.{contains_none}
 use Rattle.strip_pay.specs.Film.{FilmData}
-use Rattle.strip_pay.specs.Order.{IsBefore}
 use Rattle.strip_film.specs.Film.{IsFilm, all_scenes}
 use Rattle.strip_film.specs.Path.{PathData}
-use Rattle.strip_film.specs.Rules.{IsOpen}
+use Rattle.strip_film.specs.Ranks.{IsEarlier}
+use Rattle.strip_film.specs.Rules.{IsOpen, Rules, rank}
 use Rattle.strip_film.specs.Shown.{CursorData}
+use Rattle.strip_film.specs.Turns.{Adds, TakesNext, TurnsData}
 use Rattle.strip_io.specs.declared.files.Memory.{Memory}
 use Rattle.strip_rule.specs.Rule.{open_firsts}
 use Rattle.strip_rule.proofs.Firsts.{first_there}
@@ -23,19 +27,113 @@ use Rattle.strip_hand.specs.Search.{SearchData, depth_of, search_rules}
 use Rattle.strip_front.specs.declared.down.Tried.{Tried}
 use Rattle.strip_front.specs.declared.down.Tried.TheVariants.{Line, Passed, Spent}
 use Rattle.strip_front.specs.Front.{FrontData}
-use Rattle.strip_front.specs.Tried.{AreTried, Tries}
+use Rattle.strip_front.specs.Tried.{AreFirstTurns, AreTried, GoesBefore, Tries}
 use Rattle.strip_front.proofs.Tasks.{one_open, set_is}
 use Rattle.strip_front.proofs.Tried.{MayTry, passed, spent_here, enlisted}
 
--- a path of one scene comes behind the empty one and those of lesser scenes
-later : (last : Option PathData) (scenes : List ℕ) (scene : ℕ) (path : PathData) → path.scenes ≡ scene ∷ [] → ((x : ℕ) → Contains scenes x → x < scene)
-    → (old : PathData) → last ≡ Some old → (old.scenes ≡ []) ⊎ ((s : ℕ) × Contains scenes s × (old.scenes ≡ s ∷ [])) → ComesAfter last path
-later last scenes scene path is less old at (inl none) =
-    subst (λ (o : Option PathData). ComesAfter o path) (sym at)
-    (subst (λ (xs : List ℕ). IsBefore xs path.scenes) (sym none) (subst (IsBefore []) (sym is) tt))
-later last scenes scene path is less old at (inr (s, there, along)) =
-    subst (λ (o : Option PathData). ComesAfter o path) (sym at)
-    (subst (λ (xs : List ℕ). IsBefore xs path.scenes) (sym along) (subst (IsBefore (s ∷ [])) (sym is) (inl (less s there))))
+-- a path of one scene comes behind the empty one and those of scenes that go before it
+later : (search : SearchData) (last : Option PathData) (left scene : ℕ) (path : PathData) → path.scenes ≡ scene ∷ [] → has left scene ≡ true
+    → (old : PathData) → last ≡ Some old → (old.scenes ≡ []) ⊎ ((s : ℕ) × GoesBefore search left s × (old.scenes ≡ s ∷ [])) → ComesAfter (search_rules search) last path
+later search last left scene path is waits old at (inl none) =
+    subst (λ (o : Option PathData). ComesAfter (search_rules search) o path) (sym at)
+    (subst (λ (xs : List ℕ). IsEarlier (search_rules search) (all_scenes search.film) xs path.scenes) (sym none)
+    (subst (IsEarlier (search_rules search) (all_scenes search.film) []) (sym is) tt))
+later search last left scene path is waits old at (inr (s, before, along)) =
+    subst (λ (o : Option PathData). ComesAfter (search_rules search) o path) (sym at)
+    (subst (λ (xs : List ℕ). IsEarlier (search_rules search) (all_scenes search.film) xs path.scenes) (sym along)
+    (subst (IsEarlier (search_rules search) (all_scenes search.film) (s ∷ [])) (sym is) (inl (before scene waits))))
+
+-- ---- the open firsts are added one after the other
+
+same_test : (a b : Bool) → (a ≡ true → b ≡ true) → (b ≡ true → a ≡ true) → a ≡ b
+same_test true b one two = sym (one refl)
+same_test false true one two = two refl
+same_test false false one two = refl
+
+-- just these scenes wait, each by its rank
+pub record AreWaiting (rules : Rules) (scenes : List ℕ) (turns : TurnsData) : Type 0 where
+  pub only : (scene : ℕ) → has turns.left scene ≡ true → Contains scenes scene
+  pub each : (scene : ℕ) → Contains scenes scene → has turns.left scene ≡ true
+  pub ranks : (scene : ℕ) → Contains scenes scene → turns.ranks scene ≡ rank rules (all_scenes rules.film) scene
+
+pub none_wait : (rules : Rules) (turns : TurnsData) → turns.left ≡ 0 → AreWaiting rules [] turns
+none_wait rules turns none = record {
+  only = λ scene waits. absurd (let e : has turns.left scene ≡ false = ap (λ (q : ℕ). has q scene) none ∙ has-empty scene in cc);
+  each = λ scene there. absurd (contains_none scene there);
+  ranks = λ scene there. absurd (contains_none scene there);
+}
+
+pub one_waits : (rules : Rules) (scenes : List ℕ) (turns next : TurnsData) (scene number : ℕ) → AreWaiting rules scenes turns → Adds turns next scene number
+    → number ≡ rank rules (all_scenes rules.film) scene → AreWaiting rules (scenes ++ scene ∷ []) next
+one_waits rules scenes turns next scene number are adds is = record {
+  only = λ other waits. elim (cases_eq scene other) [
+    | inl same ↦ subst (λ (s : ℕ). Contains (scenes ++ scene ∷ []) s) same (Contains-push scenes scene)
+    | inr apart ↦ Contains-append_left scenes (scene ∷ []) other (are.only other (sym (has-with_other turns.left scene other apart) ∙ sym (left other) ∙ waits))
+  ];
+  each = λ other there. left other ∙ elim (cases_eq scene other) [
+    | inl same ↦ subst (λ (s : ℕ). has (with turns.left scene) s ≡ true) same (has-with_same turns.left scene)
+    | inr apart ↦ has-with_other turns.left scene other apart ∙ are.each other (earlier other there apart)
+  ];
+  ranks = λ other there. elim (cases_eq scene other) [
+    | inl same ↦ subst (λ (s : ℕ). next.ranks s ≡ rank rules (all_scenes rules.film) s) same (adds.its_rank ∙ is)
+    | inr apart ↦ adds.others other (λ same. apart (sym same)) ∙ are.ranks other (earlier other there apart)
+  ];
+}
+  where
+    left : (other : ℕ) → has next.left other ≡ has (with turns.left scene) other
+    left other = ap (λ (q : ℕ). has q other) adds.left
+
+    earlier : (other : ℕ) → Contains (scenes ++ scene ∷ []) other → scene ≢ other → Contains scenes other
+    earlier other there apart = elim (Contains-push_cases scenes scene other there) [ inl old ↦ old | inr new ↦ absurd (apart new) ]
+
+pub all_wait : (rules : Rules) (scenes : List ℕ) (turns : TurnsData) → AreWaiting rules scenes turns → IsSet (rules.firsts (all_scenes rules.film))
+    → scenes ≡ members (rules.firsts (all_scenes rules.film)) → AreFirstTurns rules turns
+all_wait rules scenes turns are is_set all = record {
+  left = same_has turns.left (rules.firsts (all_scenes rules.film)) (λ scene. same_test (has turns.left scene) (has (rules.firsts (all_scenes rules.film)) scene)
+      (λ waits. has_from_members (rules.firsts (all_scenes rules.film)) scene (subst (λ (xs : List ℕ). Contains xs scene) all (are.only scene waits)))
+      (λ member. are.each scene (subst (λ (xs : List ℕ). Contains xs scene) (sym all) (Contains-members (rules.firsts (all_scenes rules.film)) scene is_set member))));
+  ranks = λ scene waits. are.ranks scene (are.only scene waits);
+}
+
+-- ---- a turn
+
+-- the scenes that wait are open firsts, each by its rank
+pub record FirstsWait (search : SearchData) (turns : TurnsData) : Type 0 where
+  pub among : (scene : ℕ) → has turns.left scene ≡ true → has (open_firsts search.film (all_scenes search.film)) scene ≡ true
+  pub ranks : (scene : ℕ) → has turns.left scene ≡ true → turns.ranks scene ≡ rank (search_rules search) (all_scenes search.film) scene
+
+-- so it is at first, and when one has had its turn
+pub wait_first : (search : SearchData) (turns : TurnsData) → AreFirstTurns (search_rules search) turns → FirstsWait search turns
+wait_first search turns are = record {
+  among = λ scene waits. ap (λ (q : ℕ). has q scene) (sym are.left) ∙ waits;
+  ranks = are.ranks;
+}
+
+-- they are a set
+pub waiting_set : (search : SearchData) (turns : TurnsData) → IsFilm search.film → FirstsWait search turns → IsSet turns.left
+waiting_set search turns is wait = set_is search.film is turns.left (λ scene waits.
+    LiesBelow-full (length search.film.casts) scene (first_there search.film (all_scenes search.film) scene (wait.among scene waits)))
+
+module _ (search : SearchData) (turns next : TurnsData) (scene : ℕ) (wait : FirstsWait search turns) (takes : TakesNext turns next (Some scene)) where
+  -- the others that wait did so before, and are others
+  waited : (other : ℕ) → has next.left other ≡ true → (scene ≢ other) × (has turns.left other ≡ true)
+  waited other waits = has_from_without turns.left scene other (ap (λ (q : ℕ). has q other) (sym takes.1) ∙ waits)
+
+  pub wait_still : FirstsWait search next
+  wait_still = record {
+    among = λ other waits. wait.among other (waited other waits).1;
+    ranks = λ other waits. ap (λ (f : ℕ → ℕ). f other) takes.2 ∙ wait.ranks other (waited other waits).1;
+  }
+
+  pub goes_before : GoesBefore search next.left scene
+  goes_before other waits =
+      let was = waited other waits in
+      let one = wait.ranks scene takes.0.waits in
+      let two = wait.ranks other was.1 in
+      elim (takes.0.first other was.1 (λ same. was.0 (sym same))) [
+        | inl less ↦ inl (omega (arith, less, one, two))
+        | inr (same, less) ↦ inr (sym one ∙ same ∙ two, less)
+      ]
 
 -- while all scenes of a film remain some do, and so after one of two or more
 pub some_remain : (film : FilmData) → IsFilm film → all_scenes film ≢ 0
@@ -46,11 +144,14 @@ others_remain film scene is more there none =
     omega (arith, more, size-full (length film.casts) is.scene_count.1, size-without (all_scenes film) scene (set_is film is (all_scenes film) (LiesBelow-full (length film.casts))) there, ap size none, size-empty)
 
 module _ (film : FilmData) (is : IsFilm film) (more : 1 < length film.casts) (hand : HandData) (same : hand.search.film ≡ film) (cursor : CursorData)
-    (task : cursor.task ≡ 0) (front : FrontData) (scenes rest left : List ℕ) (scene : ℕ) (spent : Bool) (tried : AreTried hand cursor front scenes spent)
-    (turns : scenes ++ rest ≡ members (open_firsts film (all_scenes film))) (here : rest ≡ scene ∷ left)
+    (task : cursor.task ≡ 0) (front : FrontData) (turns next : TurnsData) (scene : ℕ) (spent : Bool) (tried : AreTried hand cursor front turns.left spent)
+    (wait : FirstsWait hand.search turns) (takes : TakesNext turns next (Some scene))
     (path : PathData) (along : path ≡ path_along film (scene ∷ [])) where
-  member : has (open_firsts film (all_scenes film)) scene ≡ true
-  member = turn_member (open_firsts film (all_scenes film)) scene scenes rest left turns here
+  own_member : has (open_firsts hand.search.film (all_scenes hand.search.film)) scene ≡ true
+  own_member = wait.among scene takes.0.waits
+
+  pub member : has (open_firsts film (all_scenes film)) scene ≡ true
+  member = subst (λ (f : FilmData). has (open_firsts f (all_scenes f)) scene ≡ true) same own_member
 
   same_path : path ≡ path_along hand.search.film (scene ∷ [])
   same_path = along ∙ ap (λ (f : FilmData). path_along f (scene ∷ [])) (sym same)
@@ -62,9 +163,7 @@ module _ (film : FilmData) (is : IsFilm film) (more : 1 < length film.casts) (ha
     lies = subst (λ (part : ℕ). lies_in (depth_of hand.search) hand.search.tasks part path ≡ true) (sym task)
         (lt-ltb (length path.scenes) (depth_of hand.search)
         (omega (arith, more, ap (λ (p : PathData). length p.scenes) along, ap (λ (f : FilmData). length f.casts) same)));
-    later = later cursor.last scenes scene path (ap (λ (p : PathData). p.scenes) along)
-        (lesser_before (open_firsts film (all_scenes film)) scene scenes left (ap (λ (xs : List ℕ). scenes ++ xs) (sym here) ∙ turns))
-        tried.last.0 tried.last.1 tried.last.2;
+    later = later hand.search cursor.last turns.left scene path (ap (λ (p : PathData). p.scenes) along) takes.0.waits tried.last.0 tried.last.1 tried.last.2;
     some = λ none. others_remain film scene is more (first_there film (all_scenes film) scene member) (ap (λ (p : PathData). p.rest) (sym along) ∙ none);
   }
 
@@ -74,21 +173,27 @@ module _ (film : FilmData) (is : IsFilm film) (more : 1 < length film.casts) (ha
         subst (λ (r : Result Tried Memory). Tries hand cursor (path_along hand.search.film (scene ∷ [])) r after cursor_after) was
         (subst (λ (p : PathData). Tries hand cursor p result after cursor_after) same_path tries)
 
-    pub turn_passed : result ≡ Ok Passed → AreTried after cursor_after front (scenes ++ scene ∷ []) spent
-    turn_passed was = passed hand cursor after cursor_after front scenes scene spent tried (tries_along Passed was)
+    still_left : (front_after : FrontData) (cut : Bool) → AreTried after cursor_after front_after (without turns.left scene) cut → AreTried after cursor_after front_after next.left cut
+    still_left front_after cut = subst (λ (q : ℕ). AreTried after cursor_after front_after q cut) (sym takes.1)
 
-    pub turn_spent : result ≡ Ok Spent → IsHand after → AreTried after cursor_after front (scenes ++ scene ∷ []) true
+    pub turn_passed : result ≡ Ok Passed → AreTried after cursor_after front next.left spent
+    turn_passed was = still_left front spent (passed hand cursor after cursor_after front turns.left scene spent tried own_member (tries_along Passed was))
+
+    pub turn_spent : result ≡ Ok Spent → IsHand after → AreTried after cursor_after front next.left true
     turn_spent was sound =
-        spent_here hand cursor after cursor_after front scenes scene spent tried sound (subst (MayTry hand.search cursor) same_path may_try) (tries_along Spent was)
+        still_left front true
+        (spent_here hand cursor after cursor_after front turns.left scene spent tried own_member sound (subst (MayTry hand.search cursor) same_path may_try) (tries_along Spent was))
 
     pub turn_enlisted : (front_after : FrontData) (line : ℕ) (firsts : List (Option ℕ)) → result ≡ Ok (Line line) → IsHand after → front_after.root ≡ front.root
         → front.firsts ≡ (λ s. get_or firsts s None) → front_after.firsts ≡ (λ s. get_or (slice_set firsts scene (Some line)) s None) → scene < length firsts
-        → AreTried after cursor_after front_after (scenes ++ scene ∷ []) spent
+        → AreTried after cursor_after front_after next.left spent
     turn_enlisted front_after line firsts was sound root old new within =
-        enlisted hand cursor after cursor_after front scenes scene spent tried front_after line sound root
+        still_left front_after spent
+        (enlisted hand cursor after cursor_after front turns.left scene spent tried own_member front_after line sound
+        (subst (λ (q : ℕ). GoesBefore hand.search q scene) takes.1 (goes_before hand.search turns next scene wait takes)) root
         (ap (λ (f : ℕ → Option ℕ). f scene) new ∙ get_or-set_same firsts scene (Some line) None within)
         (λ s other. ap (λ (f : ℕ → Option ℕ). f s) new ∙ get_or-set_other firsts scene s (Some line) None other ∙ sym (ap (λ (f : ℕ → Option ℕ). f s) old))
-        (tries_along (Line line) was)
+        (tries_along (Line line) was))
 
 -- the empty path may be tried
 pub may_try_root : (film : FilmData) (search : SearchData) (cursor : CursorData) (path : PathData) → IsFilm film → search.film ≡ film

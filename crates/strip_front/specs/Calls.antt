@@ -28,7 +28,7 @@ pub record GoesDown (before after : HandData) (cursor_after : CursorData) : Type
 pub record IsCutShort (hand : HandData) (cursor : CursorData) : Type 0 where
   pub full : length hand.lines ≡ hand.search.cap
   pub later : (path : PathData) × IsOpen (search_rules hand.search) path
-      × (lies_in (depth_of hand.search) hand.search.tasks cursor.task path ≡ true) × ComesAfter cursor.last path × (path.rest ≢ 0)
+      × (lies_in (depth_of hand.search) hand.search.tasks cursor.task path ≡ true) × ComesAfter (search_rules hand.search) cursor.last path × (path.rest ≢ 0)
       × (path.paid + (search_rules hand.search).bound path.rest < hand.search.start)
 
 -- nothing changed but that lines may have been learnt or raised, and memory refused

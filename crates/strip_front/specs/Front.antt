@@ -1,7 +1,7 @@
 -- The front of a search: its tasks, and the lines of the paths that are shorter than these.
 use Rattle.std.specs.Prelude.{◌≡◌, ℕ, Bool, false, Option, None, List, length, replicate, slice_index_or}
-use Rattle.strip_pay.specs.Film.{FilmData}
 use Rattle.strip_film.specs.Path.{PathData}
+use Rattle.strip_film.specs.Rules.{Rules}
 use Rattle.strip_count.specs.Parts.{no_task}
 use Rattle.strip_front.specs.Tasks.{tasks_of}
 
@@ -18,14 +18,14 @@ task_at front task = slice_index_or front.tasks task no_task
 abbrev pub is_wanted : FrontData → ℕ → Bool
 is_wanted front task = slice_index_or front.wanted task false
 
--- the front of a film
-pub record IsFrontOf (film : FilmData) (front : FrontData) : Type 0 where
-  pub tasks : front.tasks ≡ tasks_of film
+-- the front of a search by these rules
+pub record IsFrontOf (rules : Rules) (front : FrontData) : Type 0 where
+  pub tasks : front.tasks ≡ tasks_of rules
   pub wanted : length front.wanted ≡ length front.tasks
 
--- the front of a film with nothing in it: no task is asked for, and no path has a line
-pub record IsEmptyFront (film : FilmData) (front : FrontData) : Type 0 where
-  pub tasks : front.tasks ≡ tasks_of film
+-- the front with nothing in it: no task is asked for, and no path has a line
+pub record IsEmptyFront (rules : Rules) (front : FrontData) : Type 0 where
+  pub tasks : front.tasks ≡ tasks_of rules
   pub wanted : front.wanted ≡ replicate (length front.tasks) false
   pub root : front.root ≡ None
   pub firsts : (scene : ℕ) → front.firsts scene ≡ None

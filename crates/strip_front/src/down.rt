@@ -6,9 +6,10 @@ ghost use Rattle.strip_pay.specs.Film.{FilmData};
 ghost use Rattle.strip_film.specs.Film.{all_scenes};
 ghost use Rattle.strip_film.specs.Path.{PathData};
 ghost use Rattle.strip_film.specs.Rules.{IsOpen};
-ghost use Rattle.strip_film.specs.Shown.{cursor_data, path_data};
+ghost use Rattle.strip_film.specs.Shown.{cursor_data, path_data, turns_data};
 ghost use Rattle.strip_bound.specs.Kept.{Keeps};
 ghost use Rattle.strip_rule.specs.Rule.{open_firsts};
+ghost use Rattle.strip_lines.specs.Lines.{rules_of};
 ghost use Rattle.strip_count.specs.Parts.{lies_in};
 ghost use Rattle.strip_count.specs.Paths.{ComesAfter};
 ghost use Rattle.strip_hand.specs.Calls.{StandsAt};
@@ -19,12 +20,12 @@ ghost use Rattle.strip_front.specs.Filled.{IsFilled, IsWhole};
 ghost use Rattle.strip_front.specs.Front.{IsEmptyFront};
 ghost use Rattle.strip_front.specs.Shown.{front_data};
 ghost use Rattle.strip_front.specs.Tasks.{tasks_of};
-ghost use Rattle.strip_front.specs.Tried.{AreTried, IsEnlisted, Tries};
+ghost use Rattle.strip_front.specs.Tried.{AreFirstTurns, AreTried, IsEnlisted, Tries};
 
 use crate::front::Front;
 use crate::marks::mark_wanted;
 use strip_bound::Kept;
-use strip_film::{Cursor, Film, Listed, Path};
+use strip_film::{Cursor, Film, Listed, Path, Turns};
 use strip_hand::Hand;
 use strip_io::Memory;
 use strip_mask::Mask;
@@ -33,11 +34,13 @@ use strip_rule::open_firsts;
 /// Enlists the front's paths in part 0, which the caller has claimed, and asks for the tasks that follow.
 /// The empty path is enlisted where the static bound of all scenes is below the least cost; and then, in
 /// a film of two scenes or more, each path of one open first scene whose paid with the bound of what
-/// remains is below the least cost, in rising order. Answers whether the budget was spent: where there
-/// are as many lines as there may be a path isn't enlisted, and the later ones are tried nonetheless.
+/// remains is below the least cost, by rising rank and those of equal ranks by rising number. Answers
+/// whether the budget was spent: where there are as many lines as there may be a path isn't enlisted,
+/// and the later ones are tried nonetheless.
 /// The empty path has a line then too, where at least one may be made and the hand knows none but those
 /// of its own paths here.
-/// A few calls of the hand for each scene, and a turn for each of the paths' tasks.
+/// A few calls of the hand and two of the stored bound for each scene, and a turn for each of the paths'
+/// tasks.
 pub fn go_down<H: Hand, F: Fn(u64, u64) -> u64>(
     kept: &Kept<F>,
     hand: &mut H,
@@ -48,8 +51,8 @@ pub fn go_down<H: Hand, F: Fn(u64, u64) -> u64>(
     requires keeps { Keeps (F.pre kept.now.f) (F.post kept.now.f) kept.now.kind kept.now.film.now }
     requires film { (H.shows hand.old).search.film ≡ kept.now.film.now }
     requires kind { (H.shows hand.old).search.kind ≡ kept.now.kind }
-    requires tasks { (H.shows hand.old).search.tasks ≡ tasks_of kept.now.film.now }
-    requires front { IsEmptyFront kept.now.film.now (front_data front.old) }
+    requires tasks { (H.shows hand.old).search.tasks ≡ tasks_of (search_rules (H.shows hand.old).search) }
+    requires front { IsEmptyFront (search_rules (H.shows hand.old).search) (front_data front.old) }
     requires stands { StandsAt (H.shows hand.old) (cursor_data cursor.old) }
     requires cursor { cursor_data cursor.old ≡ record { task = 0; last = None } }
     ensures sound { H.is_sound hand.new }
@@ -95,7 +98,7 @@ fn try_path<H: Hand, F: Fn(u64, u64) -> u64>(
     requires front { (cursor_data cursor.old).task ≡ 0 }
     requires path { IsOpen (search_rules (H.shows hand.old).search) (path_data path.now) }
     requires lies { lies_in (depth_of (H.shows hand.old).search) (H.shows hand.old).search.tasks 0 (path_data path.now) ≡ true }
-    requires later { ComesAfter (cursor_data cursor.old).last (path_data path.now) }
+    requires later { ComesAfter (search_rules (H.shows hand.old).search) (cursor_data cursor.old).last (path_data path.now) }
     requires some { (path_data path.now).rest ≢ 0 }
     ensures sound { H.is_sound hand.new }
     ensures home { H.home hand.new ≡ H.home hand.old }
@@ -151,7 +154,8 @@ fn enlist_paths<H: Hand, F: Fn(u64, u64) -> u64>(
     }
 }
 
-/// Enlists the paths of one scene, where there are two and the path is below the least cost.
+/// Enlists the paths of one scene by rank, where there are two scenes and the path is below the least
+/// cost.
 fn enlist_firsts<H: Hand, F: Fn(u64, u64) -> u64>(
     kept: &Kept<F>,
     hand: &mut H,
@@ -164,7 +168,8 @@ fn enlist_firsts<H: Hand, F: Fn(u64, u64) -> u64>(
     requires kind { (H.shows hand.old).search.kind ≡ kept.now.kind }
     requires stands { StandsAt (H.shows hand.old) (cursor_data cursor.old) }
     requires task { (cursor_data cursor.old).task ≡ 0 }
-    requires tried { AreTried (H.shows hand.old) (cursor_data cursor.old) (front_data front.old) [] false }
+    requires tried { AreTried (H.shows hand.old) (cursor_data cursor.old) (front_data front.old)
+        (open_firsts (H.shows hand.old).search.film (all_scenes (H.shows hand.old).search.film)) false }
     ensures sound { H.is_sound hand.new }
     ensures home { H.home hand.new ≡ H.home hand.old }
     ensures down { GoesDown (H.shows hand.old) (H.shows hand.new) (cursor_data cursor.new) }
@@ -180,7 +185,8 @@ fn enlist_firsts<H: Hand, F: Fn(u64, u64) -> u64>(
         return Ok(spent);
     }
     let start = Path::start(film);
-    for first in open_firsts(film, film.all()).iter() {
+    let mut turns = first_turns(kept);
+    while let Some(first) = turns.take_next() {
         match try_path(kept, hand, cursor, &start.extend(film, first))? {
             Tried::Passed => {}
             Tried::Spent => spent = true,
@@ -188,4 +194,19 @@ fn enlist_firsts<H: Hand, F: Fn(u64, u64) -> u64>(
         }
     }
     Ok(spent)
+}
+
+/// The open firsts of all scenes, which take their turns by rank. One call of the stored bound for each.
+fn first_turns<F: Fn(u64, u64) -> u64>(kept: &Kept<F>) -> Turns
+    requires keeps { Keeps (F.pre kept.now.f) (F.post kept.now.f) kept.now.kind kept.now.film.now }
+    ensures { AreFirstTurns (rules_of kept.now.kind kept.now.film.now) (turns_data result) }
+{
+    let film = kept.film();
+    film.keeps_limits();
+    let all = film.all();
+    let mut turns = Turns::none();
+    for first in open_firsts(film, all).iter() {
+        turns.add(first, kept.rank(all, first));
+    }
+    turns
 }

@@ -1,7 +1,9 @@
 // Which tasks are asked for.
 ghost use Rattle.std.specs.Prelude.{◌≡◌, ◌↔◌, ℕ, ◌<◌, true, length, IsTrue};
 ghost use Rattle.strip_mask.specs.Set.{LiesBelow, has, without};
+ghost use Rattle.strip_kind.specs.declared.kind.Kind.{Kind};
 ghost use Rattle.strip_film.specs.Film.{all_scenes};
+ghost use Rattle.strip_lines.specs.Lines.{rules_of};
 ghost use Rattle.strip_front.specs.Filled.{Follows, IsWanted};
 ghost use Rattle.strip_front.specs.Front.{IsFrontOf, task_at};
 ghost use Rattle.strip_front.specs.Marked.{MarksMore};
@@ -16,7 +18,7 @@ use strip_rule::open_firsts;
 /// its open firsts leave; in a film of one scene the one task, where the empty path has a line. A turn
 /// for each such scene with each task.
 pub(crate) fn mark_wanted(film: &Film, front: &mut Front)
-    requires { IsFrontOf film.now (front_data front.old) }
+    requires { (kind : Kind) × IsFrontOf (rules_of kind film.now) (front_data front.old) }
     ensures { MarksMore (front_data front.old) (front_data front.new) (IsWanted film.now (front_data front.old)) }
 {
     film.keeps_limits();

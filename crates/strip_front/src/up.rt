@@ -2,12 +2,13 @@
 ghost use Rattle.std.specs.Prelude.{◌≡◌, ◌≢◌, ℕ, ◌+◌, ◌^◌, ◌<◌, ◌≤◌, true, length, slice_index, Some, IsSome, IfOk, IfErr, Ok, Err, OnErr, OnOk};
 ghost use Rattle.strip_io.specs.Counts.{Rose};
 ghost use Rattle.strip_mask.specs.Set.{has, without};
+ghost use Rattle.strip_kind.specs.declared.kind.Kind.{Kind};
 ghost use Rattle.strip_film.specs.Film.{IsFilm, LiesIn, all_scenes};
 ghost use Rattle.strip_film.specs.Shoot.{step_cost};
 ghost use Rattle.strip_bound.specs.Bounds.{bound};
 ghost use Rattle.strip_bound.specs.Kept.{Keeps};
 ghost use Rattle.strip_rule.specs.Rule.{open_firsts};
-ghost use Rattle.strip_lines.specs.Lines.{ahead, known, line_at};
+ghost use Rattle.strip_lines.specs.Lines.{ahead, known, line_at, rules_of};
 ghost use Rattle.strip_hand.specs.Hand.{HandData};
 ghost use Rattle.strip_hand.specs.Search.{search_rules};
 ghost use Rattle.strip_front.specs.Calls.{AllReach, AreFound, Learns};
@@ -44,8 +45,8 @@ pub fn close_up<H: Hand, F: Fn(u64, u64) -> u64>(
     requires keeps { Keeps (F.pre kept.now.f) (F.post kept.now.f) kept.now.kind kept.now.film.now }
     requires film { (H.shows hand.old).search.film ≡ kept.now.film.now }
     requires kind { (H.shows hand.old).search.kind ≡ kept.now.kind }
-    requires tasks { (H.shows hand.old).search.tasks ≡ tasks_of kept.now.film.now }
-    requires front { IsFrontOf kept.now.film.now (front_data front.now) }
+    requires tasks { (H.shows hand.old).search.tasks ≡ tasks_of (search_rules (H.shows hand.old).search) }
+    requires front { IsFrontOf (search_rules (H.shows hand.old).search) (front_data front.now) }
     requires filled { IsFilled (H.shows hand.old) (front_data front.now) }
     requires count { length found.now ≡ length (front_data front.now).tasks }
     requires found { AreFound (H.shows hand.old) (front_data front.now) found.now }
@@ -78,7 +79,7 @@ fn raise_root<H: Hand, F: Fn(u64, u64) -> u64>(
     requires keeps { Keeps (F.pre kept.now.f) (F.post kept.now.f) kept.now.kind kept.now.film.now }
     requires film { (H.shows hand.old).search.film ≡ kept.now.film.now }
     requires kind { (H.shows hand.old).search.kind ≡ kept.now.kind }
-    requires front { IsFrontOf kept.now.film.now (front_data front.now) }
+    requires front { IsFrontOf (search_rules (H.shows hand.old).search) (front_data front.now) }
     requires filled { IsFilled (H.shows hand.old) (front_data front.now) }
     requires count { length found.now ≡ length (front_data front.now).tasks }
     requires found { AreFound (H.shows hand.old) (front_data front.now) found.now }
@@ -122,7 +123,7 @@ fn raise_first<H: Hand, F: Fn(u64, u64) -> u64>(
     requires keeps { Keeps (F.pre kept.now.f) (F.post kept.now.f) kept.now.kind kept.now.film.now }
     requires film { (H.shows hand.old).search.film ≡ kept.now.film.now }
     requires kind { (H.shows hand.old).search.kind ≡ kept.now.kind }
-    requires front { IsFrontOf kept.now.film.now (front_data front.now) }
+    requires front { IsFrontOf (search_rules (H.shows hand.old).search) (front_data front.now) }
     requires filled { IsFilled (H.shows hand.old) (front_data front.now) }
     requires count { length found.now ≡ length (front_data front.now).tasks }
     requires found { AreFound (H.shows hand.old) (front_data front.now) found.now }
@@ -154,7 +155,7 @@ fn raise_first<H: Hand, F: Fn(u64, u64) -> u64>(
 /// The least, over the open firsts of what remains, of the step and the number that was found of the
 /// task that then remains, in units of money. A turn for each task with each open first.
 fn least_over(film: &Film, front: &Front, found: &[u64], rest: Mask) -> u64
-    requires front { IsFrontOf film.now (front_data front.now) }
+    requires front { (kind : Kind) × IsFrontOf (rules_of kind film.now) (front_data front.now) }
     requires count { length found.now ≡ length (front_data front.now).tasks }
     requires lies { LiesIn film.now rest.0 }
     requires there { (second : ℕ) → has (open_firsts film.now rest.0) second ≡ true
@@ -175,7 +176,7 @@ fn least_over(film: &Film, front: &Front, found: &[u64], rest: Mask) -> u64
 
 /// The number that was found of the task that leaves these scenes; 0 where there is none.
 fn found_for(film: &Film, front: &Front, found: &[u64], rest: Mask) -> u64
-    requires front { IsFrontOf film.now (front_data front.now) }
+    requires front { (kind : Kind) × IsFrontOf (rules_of kind film.now) (front_data front.now) }
     requires count { length found.now ≡ length (front_data front.now).tasks }
     ensures { (task : ℕ) → task < length (front_data front.now).tasks → (task_at (front_data front.now) task).rest ≡ rest.0
         → result ≡ slice_index found.now task }

@@ -6,7 +6,9 @@ use Rattle.std.proofs.lemmas.List.{get_or-replicate, length-replicate}
 use Rattle.strip_kind.specs.declared.kind.Kind.{Kind}
 use Rattle.strip_pay.specs.Film.{FilmData}
 use Rattle.strip_film.specs.Path.{PathData}
+use Rattle.strip_film.specs.Rules.{Rules}
 use Rattle.strip_film.specs.Shown.{CursorData}
+use Rattle.strip_lines.specs.Lines.{rules_of}
 use Rattle.strip_hand.specs.Calls.{Claims}
 use Rattle.strip_hand.specs.Hand.{HandData, RecordData}
 use Rattle.strip_hand.specs.Search.{SearchData}
@@ -18,7 +20,7 @@ use Rattle.strip_front.specs.Calls.{GoesDown, IsCutShort, count_in}
 use Rattle.strip_front.specs.Front.{FrontData, IsEmptyFront, IsFrontOf}
 use Rattle.strip_front.specs.Filled.{IsFilled, IsWhole}
 use Rattle.strip_team.specs.Team.{IsAlone, IsCut, IsUnbegun, IsUnderWay}
-use Rattle.strip_team.proofs.OneWorker.{front_has_all, next_stays, part_count}
+use Rattle.strip_team.proofs.OneWorker.{front_has_all, next_stays, part_count, rules_alone}
 
 -- a world with as many workers and the same search
 pub alone_after : (kind : Kind) (film : FilmData) (world after : WorldData) → IsAlone kind film world → IsOwned after
@@ -45,10 +47,10 @@ claim_takes world after reply left step told claims =
           (task_of reply (claim_reply world) told ∙ cond-true (ltb world.next (length world.parts)) (Some world.next) None is) claims,
     )
 
--- the front of a film stays one
-pub front_stays : (film : FilmData) (before after : FrontData) → IsEmptyFront film before → after.tasks ≡ before.tasks
-    → length after.wanted ≡ length before.wanted → IsFrontOf film after
-front_stays film before after empty tasks wanted = record {
+-- the front of a search stays one
+pub front_stays : (rules : Rules) (before after : FrontData) → IsEmptyFront rules before → after.tasks ≡ before.tasks
+    → length after.wanted ≡ length before.wanted → IsFrontOf rules after
+front_stays rules before after empty tasks wanted = record {
   tasks = tasks ∙ empty.tasks;
   wanted = wanted ∙ ap (λ (xs : List Bool). length xs) empty.wanted ∙ length-replicate (length before.tasks) false ∙ sym (ap (λ (xs : List PathData). length xs) tasks);
 }
@@ -91,7 +93,7 @@ module _ (kind : Kind) (film : FilmData) (world taken after : WorldData) (reply 
   next_then : after.next ≡ 1
   next_then = next_stays kind film taken after 0 alone_taken alone_then (omega (arith, takes.0)) here down.others ∙ takes.0 ∙ ap (λ (n : ℕ). n + 1) unbegun.next
 
-  module _ (front : FrontData) (found : List ℕ) (spent : Bool) (front_of : IsFrontOf film front)
+  module _ (front : FrontData) (found : List ℕ) (spent : Bool) (front_of : IsFrontOf (rules_of kind film) front)
       (none : (length found ≡ length front.tasks) × ((task : ℕ) → task < length front.tasks → slice_index found task ≡ 0))
       (filled : IsFilled (hand_data after) front) (whole : spent ≡ false → IsWhole after.search front (hand_data after).told)
       (short : spent ≡ true → IsCutShort (hand_data after) cursor)
@@ -117,7 +119,7 @@ module _ (kind : Kind) (film : FilmData) (world taken after : WorldData) (reply 
       alone = alone_then;
       next = next_then;
       walked = record {
-        front_of = subst (λ (f : FilmData). IsFrontOf f front) (sym alone_then.same_film) front_of;
+        front_of = subst (λ (rules : Rules). IsFrontOf rules front) (sym (rules_alone kind film after alone_then)) front_of;
         filled = filled;
         long = none.0;
         known = λ task within wanted. omega (arith, none.1 task within);

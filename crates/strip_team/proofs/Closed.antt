@@ -32,7 +32,7 @@ use Rattle.strip_team.specs.Shown.{ended_data}
 use Rattle.strip_team.specs.Team.{HasWalked, IsAlone}
 use Rattle.strip_team.proofs.Moved.{moved}
 use Rattle.strip_team.proofs.Settled.{some_of}
-use Rattle.strip_team.proofs.OneWorker.{best_is_least, cut_has_more}
+use Rattle.strip_team.proofs.OneWorker.{best_is_least, cut_has_more, rules_alone}
 
 -- what closing up answered is known of all scenes
 pub closed : (kind : Kind) (film : FilmData) (world after : WorldData) (front : FrontData) (found : List ℕ) (spent : Bool) (bound : ℕ)
@@ -61,7 +61,7 @@ closed kind film world after front found spent bound is learns was most root rea
         (λ part first i. (learns.only i).records part) was
 
     count : length front.tasks ≡ length after.search.tasks
-    count = ap (λ (tasks : List PathData). length tasks) (held.front_of.tasks ∙ ap tasks_of is.same_film ∙ sym is.tasks)
+    count = ap (λ (tasks : List PathData). length tasks) (held.front_of.tasks ∙ ap tasks_of (rules_alone kind film after is) ∙ sym is.tasks)
 
 module _ (film : FilmData) (is : IsFilm film) where
   -- a bound on finishing all scenes is one on what any order pays

@@ -7,6 +7,7 @@ use Rattle.strip_mask.proofs.Sums.{sum_below-suc, sum_below-zero}
 use Rattle.strip_kind.specs.declared.kind.Kind.{Kind}
 use Rattle.strip_pay.specs.Film.{FilmData}
 use Rattle.strip_film.specs.Path.{PathData}
+use Rattle.strip_lines.specs.Lines.{rules_of}
 use Rattle.strip_count.specs.Paths.{ComesAfter, few}
 use Rattle.strip_count.proofs.Shares.{is_candidate_from, lines_room}
 use Rattle.strip_hand.specs.Hand.{RecordData}
@@ -44,6 +45,10 @@ module _ (kind : Kind) (film : FilmData) (world : WorldData) (is : IsAlone kind 
   abbrev sound : IsSound world
   sound = is.owned.sound
 
+  -- it goes by the rules of the film and the kind
+  pub rules_alone : search_rules world.search ≡ rules_of kind film
+  rules_alone = λ i. rules_of (is.same_kind i) (is.same_film i)
+
   -- a part below the next one has a record
   own_part : (part : ℕ) → part < world.next
       → (hand_data world).records part ≡ Some (record { last = (part_at world part).last; number = (part_at world part).number })
@@ -59,7 +64,7 @@ module _ (kind : Kind) (film : FilmData) (world : WorldData) (is : IsAlone kind 
   pub free_unrecorded : (part : ℕ) → part < length world.parts → world.next ≤ part → (hand_data world).records part ≡ None
   free_unrecorded part within above = record_of_nobody (part_at world part) ((sound.parts part within).free above).0
 
-  pub part_count : length world.parts ≡ suc (length (tasks_of film))
+  pub part_count : length world.parts ≡ suc (length (tasks_of (rules_of kind film)))
   part_count = sound.part_count ∙ ap (λ (tasks : List PathData). suc (length tasks)) is.tasks
 
   -- where only the front was claimed, all lines are its own
@@ -119,6 +124,6 @@ cut_has_more kind film world front parts is cut most =
     (tasks_apart world.search is.owned.sound.tasks) world.lines
     (λ p. (part_at world p).last) (λ p. (part_at world p).number) is.owned.sound.counts cut.part cut.path
     (omega (arith, cut.first, most, is.owned.sound.part_count)) (cut.is_open.0, cut.some)
-    (subst (λ (path : Option PathData). ComesAfter path cut.path) last cut.later) cut.lies
+    (subst (λ (path : Option PathData). ComesAfter (search_rules world.search) path cut.path) last cut.later) cut.lies
     (is_candidate_from (search_rules world.search) world.search.start cut.path (cut.is_open, cut.below)) in
     omega (arith, room, cut.full)

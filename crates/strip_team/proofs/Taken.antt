@@ -26,7 +26,7 @@ use Rattle.strip_walk.specs.declared.found.Found.{Found}
 use Rattle.strip_walk.specs.Found.{IsFound, MayExplore}
 use Rattle.strip_walk.specs.Walked.{Explores, Walks}
 use Rattle.strip_team.specs.Team.{HasWalked, IsAlone, IsUnderWay, WalksTask, beginning}
-use Rattle.strip_team.proofs.OneWorker.{next_stays}
+use Rattle.strip_team.proofs.OneWorker.{next_stays, rules_alone}
 use Rattle.strip_team.proofs.Begun.{alone_after, claim_takes}
 use Rattle.strip_team.proofs.Moved.{moved}
 use Rattle.strip_team.proofs.Settled.{passed, walked}
@@ -58,7 +58,7 @@ module _ (kind : Kind) (film : FilmData) (world taken : WorldData) (reply : Opti
     (owned : IsOwned taken) (workers : length taken.workers ≡ length world.workers)
     (step : (taken ≡ claimed world 0) × (Task reply ≡ Task (claim_reply world))) (claims : Claims (hand_data world) reply (hand_data taken)) where
   tasks_same : world.search.tasks ≡ front.tasks
-  tasks_same = way.alone.tasks ∙ sym (ap tasks_of way.alone.same_film) ∙ sym way.walked.front_of.tasks
+  tasks_same = way.alone.tasks ∙ sym (ap tasks_of (rules_alone kind film world way.alone)) ∙ sym way.walked.front_of.tasks
 
   takes : (taken.next ≡ world.next + 1) × Claims (hand_data world) (Some world.next) (hand_data taken)
   takes =
@@ -86,7 +86,7 @@ module _ (kind : Kind) (film : FilmData) (world taken : WorldData) (reply : Opti
       owned.sound.few (λ part first. takes.1.4 part (λ same. absurd (omega (arith, first, same, way.next)))) way.walked
 
   pub may_walk : MayExplore (hand_data taken) (beginning (suc task)) (task_at front task)
-  may_walk = may_walk_task kind film front task (way.walked.front_of.tasks ∙ ap tasks_of way.alone.same_film) within
+  may_walk = may_walk_task kind film front task (way.walked.front_of.tasks ∙ ap tasks_of (rules_alone kind film world way.alone)) within
       (tasks_open film (subst IsFilm way.alone.same_film way.alone.owned.sound.film) kind)
       (hand_data taken) (alone_taken.same_film, alone_taken.same_kind) alone_taken.tasks record_taken
 

@@ -15,12 +15,12 @@ use Rattle.strip_walk.specs.Found.{MayExplore}
 use Rattle.strip_walk.proofs.Lists.{starts_itself}
 use Rattle.strip_team.specs.Team.{beginning}
 
-module _ (kind : Kind) (film : FilmData) (front : FrontData) (task : ℕ) (of_film : front.tasks ≡ tasks_of film) (within : task < length front.tasks)
-    (all : All (IsOpen (rules_of kind film)) (tasks_of film)) where
+module _ (kind : Kind) (film : FilmData) (front : FrontData) (task : ℕ) (of_film : front.tasks ≡ tasks_of (rules_of kind film)) (within : task < length front.tasks)
+    (all : All (IsOpen (rules_of kind film)) (tasks_of (rules_of kind film))) where
   pub open_task : IsOpen (rules_of kind film) (task_at front task)
   open_task = subst (λ (tasks : List PathData). All (IsOpen (rules_of kind film)) tasks) (sym of_film) all task no_task within
 
-  module _ (hand : HandData) (goes : GoesBy kind film hand.search) (tasks_same : hand.search.tasks ≡ tasks_of film) where
+  module _ (hand : HandData) (goes : GoesBy kind film hand.search) (tasks_same : hand.search.tasks ≡ tasks_of (rules_of kind film)) where
     open_by : IsOpen (search_rules hand.search) (task_at front task)
     open_by =
         subst (λ (k : Kind). IsOpen (rules_of k hand.search.film) (task_at front task)) (sym goes.1)

@@ -5,6 +5,7 @@ use Rattle.strip_pay.specs.Film.{FilmData}
 use Rattle.strip_film.specs.Path.{PathData}
 use Rattle.strip_film.specs.Rules.{IsOpen}
 use Rattle.strip_film.specs.Shown.{CursorData}
+use Rattle.strip_lines.specs.Lines.{rules_of}
 use Rattle.strip_count.specs.Parts.{lies_in}
 use Rattle.strip_count.specs.Paths.{ComesAfter}
 use Rattle.strip_hand.specs.Hand.{HandData, RecordData}
@@ -25,7 +26,7 @@ pub record IsAlone (kind : Kind) (film : FilmData) (world : WorldData) : Type 0 
   pub one_worker : length world.workers ≡ 1
   pub same_film : world.search.film ≡ film
   pub same_kind : world.search.kind ≡ kind
-  pub tasks : world.search.tasks ≡ tasks_of film
+  pub tasks : world.search.tasks ≡ tasks_of (rules_of kind film)
 
 -- nothing was claimed, and there may be a line
 pub record IsUnbegun (world : WorldData) : Type 0 where
@@ -44,7 +45,7 @@ pub record IsCut (hand : HandData) (front : FrontData) (parts : ℕ) : Type 0 wh
   pub path : PathData
   pub is_open : IsOpen (search_rules hand.search) path
   pub lies : lies_in (depth_of hand.search) hand.search.tasks part path ≡ true
-  pub later : ComesAfter entry.last path
+  pub later : ComesAfter (search_rules hand.search) entry.last path
   pub some : path.rest ≢ 0
   pub below : path.paid + (search_rules hand.search).bound path.rest < hand.search.start
 
@@ -57,7 +58,7 @@ ReachFound hand front found parts =
 -- the first parts were walked, so many of them, the front as one: what was found of each task is at most what is known of what remains
 -- after it; and unless the budget was spent, nothing is left out of these parts that is below the least cost told
 pub record HasWalked (hand : HandData) (front : FrontData) (found : List ℕ) (parts : ℕ) (spent : Bool) : Type 0 where
-  pub front_of : IsFrontOf hand.search.film front
+  pub front_of : IsFrontOf (search_rules hand.search) front
   pub filled : IsFilled hand front
   pub long : length found ≡ length front.tasks
   pub known : AreFound hand front found

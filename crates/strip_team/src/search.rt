@@ -3,6 +3,7 @@ ghost use Rattle.std.specs.Prelude.{◌≡◌, ◌+◌, ◌<◌, ◌≤◌, suc,
 ghost use Rattle.strip_bound.specs.Kept.{Keeps};
 ghost use Rattle.strip_film.specs.Path.{IsComplete};
 ghost use Rattle.strip_film.specs.Shown.{path_data};
+ghost use Rattle.strip_lines.specs.Lines.{rules_of};
 ghost use Rattle.strip_front.specs.Front.{IsEmptyFront};
 ghost use Rattle.strip_front.specs.Shown.{front_data};
 ghost use Rattle.strip_front.specs.Tasks.{tasks_of};
@@ -51,7 +52,7 @@ pub fn alone<F: Fn(u64, u64) -> u64>(
     ensures memo { IsMemo kept.now.kind kept.now.film.now memo.new }
     ensures ended { IfOk result (λ ended. IsEnded kept.now.kind kept.now.film.now (path_data start.now) cap (ended_data ended)) }
 {
-    let mut front = layers(alloc, kept.film())?;
+    let mut front = layers(alloc, kept)?;
     let limits = Limits {
         workers: 1,
         cap,
@@ -72,13 +73,14 @@ fn open<F: Fn(u64, u64) -> u64>(
     limits: &Limits,
 ) -> Result<World, Memory>
     requires start { IsComplete kept.now.film.now (path_data start.now) }
-    requires front { (front_data front.now).tasks ≡ tasks_of kept.now.film.now }
+    requires front { (front_data front.now).tasks ≡ tasks_of (rules_of kept.now.kind kept.now.film.now) }
     requires limits { AreLimits limits.now }
     requires one_worker { limits.now.workers ≡ 1 }
     ensures alone { IfOk result (IsAlone kept.now.kind kept.now.film.now) }
     ensures unbegun { IfOk result IsUnbegun }
     ensures search { IfOk result (λ world. world.search
-        ≡ search_of kept.now.film.now kept.now.kind (path_data start.now) (tasks_of kept.now.film.now) limits.now) }
+        ≡ search_of kept.now.film.now kept.now.kind (path_data start.now)
+        (tasks_of (rules_of kept.now.kind kept.now.film.now)) limits.now) }
 {
     kept.film().keeps_limits();
     tasks_are_starts();
@@ -95,7 +97,7 @@ fn begin<F: Fn(u64, u64) -> u64>(
     requires keeps { Keeps (F.pre kept.now.f) (F.post kept.now.f) kept.now.kind kept.now.film.now }
     requires alone { IsAlone kept.now.kind kept.now.film.now world.old }
     requires unbegun { IsUnbegun world.old }
-    requires front { IsEmptyFront kept.now.film.now (front_data front.old) }
+    requires front { IsEmptyFront (rules_of kept.now.kind kept.now.film.now) (front_data front.old) }
     ensures search { IfOk result (λ _. world.new.search ≡ world.old.search) }
     ensures walked { IfOk result (λ walked. IsUnderWay kept.now.kind kept.now.film.now world.new (front_data front.new)
         walked.found.items 1 walked.spent) }

@@ -58,7 +58,7 @@ module _ (kind : Kind) (film : FilmData) (before after : HandData) (front : Fron
       let count = ap (λ (h : HandData). length h.search.tasks) claims.0 in
       omega (arith, claims.1, count, ap (λ (tasks : List PathData). length tasks) tasks_same)
 
-  pub may_walk : All (IsOpen (rules_of kind film)) (tasks_of film) → MayExplore after (beginning (suc task)) (task_at front task)
+  pub may_walk : All (IsOpen (rules_of kind film)) (tasks_of (rules_of kind film)) → MayExplore after (beginning (suc task)) (task_at front task)
   may_walk all = may_walk_task kind film front task was.front_of.tasks within all after (way_claimed.search.same_film, way_claimed.search.same_kind)
       way_claimed.search.tasks claims.3
 

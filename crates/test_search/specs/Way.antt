@@ -2,6 +2,7 @@
 use Rattle.std.specs.Prelude.{◌≡◌, ℕ, List, length}
 use Rattle.strip_kind.specs.declared.kind.Kind.{Kind}
 use Rattle.strip_pay.specs.Film.{FilmData}
+use Rattle.strip_lines.specs.Lines.{rules_of}
 use Rattle.strip_hand.specs.Hand.{HandData}
 use Rattle.strip_front.specs.Calls.{AreFound}
 use Rattle.strip_front.specs.Filled.{IsFilled}
@@ -12,12 +13,12 @@ use Rattle.strip_front.specs.Tasks.{tasks_of}
 pub record IsSearchBy (kind : Kind) (film : FilmData) (hand : HandData) : Type 0 where
   pub same_film : hand.search.film ≡ film
   pub same_kind : hand.search.kind ≡ kind
-  pub tasks : hand.search.tasks ≡ tasks_of film
+  pub tasks : hand.search.tasks ≡ tasks_of (rules_of kind film)
 
 -- the front was gone down, and what was found of each task is at most what is known of what remains after it
 pub record IsOnItsWay (kind : Kind) (film : FilmData) (hand : HandData) (front : FrontData) (found : List ℕ) : Type 0 where
   pub search : IsSearchBy kind film hand
-  pub front_of : IsFrontOf film front
+  pub front_of : IsFrontOf (rules_of kind film) front
   pub filled : IsFilled hand front
   pub long : length found ≡ length front.tasks
   pub known : AreFound hand front found

@@ -1,6 +1,6 @@
 //! Tests: what no clause says of the parts of a search, by calls that no command makes. Films and their paths, the running state,
 //! the orders that a search begins with, the table, the world and the trimming of lines on films that were worked by hand; that a search whose hand drops
-//! its notes makes more lines; and that searches from a start that wasn't improved agree with the program that tries every order.
+//! its notes makes more lines, and how many one by ranks makes; and that searches from a start that wasn't improved agree with the program that tries every order.
 #![tactic(auto)]
 
 #[cfg(test)]
@@ -17,6 +17,8 @@ mod instances;
 mod notes;
 #[cfg(test)]
 mod paths;
+#[cfg(test)]
+mod ranks;
 #[cfg(test)]
 mod searched;
 #[cfg(test)]

@@ -44,7 +44,7 @@ fn without_notes<F: Fn(u64, u64) -> u64>(
     let film = kept.film();
     film.keeps_limits();
     tasks_are_starts();
-    let mut front = layers(alloc, film)?;
+    let mut front = layers(alloc, kept)?;
     let limits = Limits {
         workers: 1,
         cap: CAP,

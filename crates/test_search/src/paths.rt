@@ -193,36 +193,6 @@ fn tells_which_scenes_are_ready(rt: HostRuntime) -> Result<(), Fail> {
     Ok(())
 }
 
-// Paths in rising order.
-static RISING: [&'static [u32]; 6] = [&[], &[0], &[0, 1], &[0, 1, 2], &[0, 2], &[1]];
-
-/// Whether the path at this place comes before those behind it, and no others.
-fn stands_so(film: &Film, place: usize, scenes: &[u32]) -> Result<bool, Fail> {
-    let first = path(film, scenes)?;
-    for other in 0..RISING.len() {
-        if first.before(&path(film, RISING[other])?) != (place < other) {
-            return Ok(false);
-        }
-    }
-    Ok(true)
-}
-
-fn are_rising(film: &Film) -> Result<bool, Fail> {
-    for place in 0..RISING.len() {
-        if !stands_so(film, place, RISING[place])? {
-            return Ok(false);
-        }
-    }
-    Ok(true)
-}
-
-#[test]
-fn orders_paths(rt: HostRuntime) -> Result<(), Fail> {
-    let triangle = plain_triangle(rt.alloc())?;
-    assert!(&rt; are_rising(&triangle)?);
-    Ok(())
-}
-
 // Lists that a film may not have.
 struct Lists {
     casts: &'static [u64],

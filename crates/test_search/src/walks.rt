@@ -1,6 +1,7 @@
 // A search over a hand: its front, its tasks as they are claimed, and its front again.
 ghost use Rattle.std.specs.Prelude.{◌≡◌, IfOk, Some};
 ghost use Rattle.strip_bound.specs.Kept.{Keeps};
+ghost use Rattle.strip_lines.specs.Lines.{rules_of};
 ghost use Rattle.strip_front.specs.Front.{IsEmptyFront};
 ghost use Rattle.strip_front.specs.Shown.{front_data};
 ghost use Rattle.strip_hand.specs.Calls.{Claims};
@@ -27,7 +28,7 @@ pub(crate) fn search<H: Hand, F: Fn(u64, u64) -> u64>(
     requires sound { H.is_sound hand.old }
     requires keeps { Keeps (F.pre kept.now.f) (F.post kept.now.f) kept.now.kind kept.now.film.now }
     requires search { IsSearchBy kept.now.kind kept.now.film.now (H.shows hand.old) }
-    requires front { IsEmptyFront kept.now.film.now (front_data front.old) }
+    requires front { IsEmptyFront (rules_of kept.now.kind kept.now.film.now) (front_data front.old) }
     ensures sound { H.is_sound hand.new }
     ensures home { H.home hand.new ≡ H.home hand.old }
 {
@@ -47,7 +48,7 @@ fn begin<H: Hand, F: Fn(u64, u64) -> u64>(
     requires sound { H.is_sound hand.old }
     requires keeps { Keeps (F.pre kept.now.f) (F.post kept.now.f) kept.now.kind kept.now.film.now }
     requires search { IsSearchBy kept.now.kind kept.now.film.now (H.shows hand.old) }
-    requires front { IsEmptyFront kept.now.film.now (front_data front.old) }
+    requires front { IsEmptyFront (rules_of kept.now.kind kept.now.film.now) (front_data front.old) }
     ensures sound { H.is_sound hand.new }
     ensures home { H.home hand.new ≡ H.home hand.old }
     ensures way { IfOk result (λ found. IsOnItsWay kept.now.kind kept.now.film.now (H.shows hand.new) (front_data front.new) found.items) }

@@ -28,6 +28,7 @@ fn world<F: Fn(u64, u64) -> u64>(
     start: &Path,
     cap: u32,
 ) -> Result<World, Fail>
+    requires keeps { Keeps (F.pre kept.now.f) (F.post kept.now.f) kept.now.kind kept.now.film.now }
     requires start { IsComplete kept.now.film.now (path_data start.now) }
     requires cap { (1 ≤ cap) × (cap ≤ 16777216) }
     ensures sound { IfOk result IsSound }
@@ -41,7 +42,7 @@ fn world<F: Fn(u64, u64) -> u64>(
         cap,
         entries: 64,
     };
-    let front = layers(alloc, film)?;
+    let front = layers(alloc, kept)?;
     let world = World::new(alloc, film, kept.kind(), start, &front.tasks, &limits)?;
     Ok(world)
 }
@@ -409,6 +410,50 @@ fn lets_open_paths_through<F: Fn(u64, u64) -> u64>(
     let mut world = world(alloc, kept, &greedy(film), 9)?;
     reply(kept, &mut world, &Event::Claim { who: 0 });
     Ok(!world.allows(kept, &closed) && world.allows(kept, &opening))
+}
+
+/// The reply that a line of this number was made.
+fn listed(line: u32) -> Option<Reply> {
+    Some(Reply::Listed(Listed::Line(line)))
+}
+
+// The ranks of the ring's scenes are 21, 23, 22 and 21, so the front's paths come in the order of the scenes
+// 0, 3, 2 and 1.
+fn enlists_by_rank<F: Fn(u64, u64) -> u64>(alloc: Global, kept: &Kept<F>) -> Result<bool, Fail>
+    requires { Keeps (F.pre kept.now.f) (F.post kept.now.f) kept.now.kind kept.now.film.now }
+{
+    let film = kept.film();
+    let steps = [
+        Step(Event::Claim { who: 0 }, Some(Reply::Task(Some(0)))),
+        Step(enlist(0, 0, path(film, &[])?), listed(0)),
+        Step(enlist(0, 0, path(film, &[0])?), listed(1)),
+        Step(enlist(0, 0, path(film, &[3])?), listed(2)),
+        Step(enlist(0, 0, path(film, &[0])?), None),
+        Step(enlist(0, 0, path(film, &[2])?), listed(3)),
+        Step(enlist(0, 0, path(film, &[3])?), None),
+        Step(enlist(0, 0, path(film, &[1])?), listed(4)),
+    ];
+    let mut world = world(alloc, kept, &order(film, &[1, 3, 2, 0])?, 9)?;
+    Ok(are_replied(kept, &mut world, &steps))
+}
+
+#[test]
+fn worlds_by_groups(rt: HostRuntime) -> Result<(), Fail> {
+    let alloc = rt.alloc();
+    let film = film(
+        alloc,
+        &[0b1001, 0b0011, 0b0110, 0b1100],
+        &[1; 4],
+        &[4, 3, 2, 1],
+    )?;
+    let tables = BoundTables::of(alloc, &film)?;
+    let kept = Kept::new(
+        &film,
+        Kind::Groups,
+        |q, need| static_reach(&film, &tables, Kind::Groups, Mask(q), need),
+    );
+    assert!(&rt; enlists_by_rank(alloc, &kept)?);
+    Ok(())
 }
 
 // The scenes of one actor each come before that of both.

@@ -1,15 +1,13 @@
-use Rattle.std.proofs.Common.{◌≡◌, ◌++◌, length}
-use Rattle.strip_mask.specs.Set.{members}
-use Rattle.strip_mask.specs.Iter.{rest_of}
-use Rattle.strip_film.specs.Film.{all_scenes}
-use Rattle.strip_film.specs.Shown.{cursor_data}
-use Rattle.strip_rule.specs.Rule.{open_firsts}
+use Rattle.std.proofs.Common.{◌≡◌, length}
+use Rattle.strip_mask.specs.Set.{size}
+use Rattle.strip_film.specs.Shown.{cursor_data, turns_data}
 use Rattle.strip_front.specs.Calls.{GoesDown}
 use Rattle.strip_front.specs.Shown.{front_data}
 use Rattle.strip_front.specs.Tried.{AreTried}
+use Rattle.strip_front.proofs.Turns.{FirstsWait}
 use Rattle.strip_front.proofs.down.enlist_firsts.Given as goal
 
--- the scenes so far were tried; these and those to come are the open firsts
+-- the scenes that have had their turn were tried; the others wait by their ranks
 abbrev pub invariant-loop-first : goal.invariant-loop-first
 invariant-loop-first g l = record {
   sound : g.H.Hand.is_sound l.hand;
@@ -18,6 +16,9 @@ invariant-loop-first g l = record {
   tasks : l.front.tasks ≡ l.fn.front.tasks;
   wanted : l.front.wanted ≡ l.fn.front.wanted;
   room : length l.front.firsts ≡ 64;
-  tried : AreTried (g.H.Hand.shows l.hand) (cursor_data l.cursor) (front_data l.front) l.yielded l.spent;
-  turns : l.yielded ++ rest_of l.first-iterator ≡ members (open_firsts l.film (all_scenes l.film));
+  tried : AreTried (g.H.Hand.shows l.hand) (cursor_data l.cursor) (front_data l.front) (turns_data l.turns).left l.spent;
+  wait : FirstsWait (g.H.Hand.shows l.fn.hand).search (turns_data l.turns);
 }
+
+abbrev pub decreases-loop-first : goal.decreases-loop-first
+decreases-loop-first g l = size (turns_data l.turns).left

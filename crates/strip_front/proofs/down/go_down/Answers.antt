@@ -1,10 +1,26 @@
-use Rattle.std.proofs.Common.{◌∙◌, ◌↔◌, IsSome, Vec, subst, Bool, length, sym, ap}
-use Rattle.strip_film.specs.Shown.{cursor_data}
+use Rattle.std.proofs.Common.{◌≡◌, ◌∙◌, ◌↔◌, IsSome, Vec, subst, Bool, false, length, map, sym, ap}
+use Rattle.std.proofs.lemmas.List.{length-replicate}
+use Rattle.strip_pay.specs.Film.{FilmData}
+use Rattle.strip_film.specs.declared.path.Path.{Path}
+use Rattle.strip_film.specs.Shown.{cursor_data, path_data}
+use Rattle.strip_lines.specs.Lines.{rules_of}
 use Rattle.strip_hand.specs.Hand.{HandData}
-use Rattle.strip_front.specs.Front.{FrontData}
+use Rattle.strip_hand.specs.Search.{search_rules}
+use Rattle.strip_front.specs.Front.{FrontData, IsFrontOf}
 use Rattle.strip_front.specs.Shown.{front_data}
 use Rattle.strip_front.proofs.Filled.{filled, root_own, whole_still}
 use Rattle.strip_front.proofs.down.go_down.Goals as goal
+
+pub mark_wanted-requires : goal.mark_wanted-requires
+mark_wanted-requires g c =
+    let search = (g.H.Hand.shows c.args.hand.now).search in
+    let same : (front_data c.enlist_paths.new.front).tasks ≡ (front_data c.args.front.now).tasks = ap (λ (v : Vec Path _). map path_data v.items) c.enlist_paths.ensures.tasks in
+    let own : IsFrontOf (search_rules search) (front_data c.enlist_paths.new.front) = record {
+      tasks = same ∙ c.requires.front.tasks;
+      wanted = ap (λ (v : Vec Bool _). length v.items) c.enlist_paths.ensures.wanted ∙ ap length c.requires.front.wanted
+          ∙ length-replicate (length (front_data c.args.front.now).tasks) false ∙ ap length (sym same);
+    } in
+    (search.kind, subst (λ (f : FilmData). IsFrontOf (rules_of search.kind f) (front_data c.enlist_paths.new.front)) (c.requires.film ∙ sym c.film.ensures) own)
 
 pub returns-clause-filled : goal.returns-clause-filled
 returns-clause-filled g c =

@@ -7,7 +7,9 @@ use Rattle.strip_film.specs.Film.{LiesIn, all_scenes}
 use Rattle.strip_bound.specs.Bounds.{bound}
 use Rattle.strip_rule.specs.Rule.{open_firsts}
 use Rattle.strip_rule.proofs.Firsts.{first_there}
+use Rattle.strip_lines.specs.Lines.{rules_of}
 use Rattle.strip_front.specs.Front.{IsFrontOf}
+use Rattle.strip_hand.specs.Search.{search_rules}
 use Rattle.strip_front.specs.Shown.{front_data}
 use Rattle.strip_front.proofs.Raised.{AllFor, LeastFor, MostFor, all_for, may_raise_first, reached_one, reached_raised, reached_static}
 use Rattle.strip_front.proofs.Tasks.{rest_lies}
@@ -43,8 +45,8 @@ member : (g : Over) (c : goal.After-without-rest g)
     → has (open_firsts (g.H.Hand.shows c.args.hand.now).search.film (all_scenes (g.H.Hand.shows c.args.hand.now).search.film)) c.args.first ≡ true
 member g c = subst (λ (f : FilmData). has (open_firsts f (all_scenes f)) c.args.first ≡ true) (sym c.requires.film) c.requires.first
 
-front_of : (g : Over) (c : goal.After-without-rest g) → IsFrontOf (g.H.Hand.shows c.args.hand.now).search.film (front_data c.args.front.now)
-front_of g c = subst (λ (f : FilmData). IsFrontOf f (front_data c.args.front.now)) (sym c.requires.film) c.requires.front
+front_of : (g : Over) (c : goal.After-without-rest g) → IsFrontOf (search_rules (g.H.Hand.shows c.args.hand.now).search) (front_data c.args.front.now)
+front_of g c = c.requires.front
 
 lies : (g : Over) (c : goal.After-without-rest g) → LiesIn (g.H.Hand.shows c.args.hand.now).search.film c.without-rest.result.0
 lies g c = subst (LiesIn (g.H.Hand.shows c.args.hand.now).search.film) (sym (rest_is g c)) (rest_lies (g.H.Hand.shows c.args.hand.now).search.film c.keeps_limits-2.ensures.film c.args.first)
@@ -63,6 +65,18 @@ at-requires-clause-lies g c =
 pub at-requires-in-Some-clause-lies : goal.at-requires-in-Some-clause-lies
 at-requires-in-Some-clause-lies g c =
     subst (λ (f : FilmData). LiesIn f c.without-rest.result.0) c.requires.film (lies g (goal.at.at-requires-in-Some-clause-lies g c).After-without-rest)
+
+own_front : (g : Over) (c : goal.After-without-rest g) → (kind : Kind) × IsFrontOf (rules_of kind c.film-film.result.now) (front_data c.args.front.now)
+own_front g c = (
+  (g.H.Hand.shows c.args.hand.now).search.kind,
+  subst (λ (f : FilmData). IsFrontOf (rules_of (g.H.Hand.shows c.args.hand.now).search.kind f) (front_data c.args.front.now)) (film_is g c) c.requires.front,
+)
+
+pub found_for-requires-clause-front : goal.found_for-requires-clause-front
+found_for-requires-clause-front g c = own_front g (goal.at.found_for-requires-clause-front g c).After-without-rest
+
+pub least_over-requires-clause-front : goal.least_over-requires-clause-front
+least_over-requires-clause-front g c = own_front g (goal.at.least_over-requires-clause-front g c).After-without-rest
 
 pub least_over-requires-clause-lies : goal.least_over-requires-clause-lies
 least_over-requires-clause-lies g c =

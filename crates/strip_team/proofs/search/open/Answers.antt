@@ -1,6 +1,7 @@
 use Rattle.std.proofs.Common.{map, subst, sym, ap, ◌∙◌}
 use Rattle.strip_film.specs.Film.{IsFilm}
 use Rattle.strip_film.specs.Shown.{path_data}
+use Rattle.strip_lines.specs.Lines.{rules_of}
 use Rattle.strip_front.specs.Tasks.{tasks_of}
 use Rattle.strip_race.specs.Opened.{search_of}
 use Rattle.strip_team.proofs.search.open.Goals as goal
@@ -10,4 +11,4 @@ new-requires-clause-tasks g c =
     c.tasks_are_starts.ensures
     (search_of c.film-2.result.now c.kind.result (path_data c.args.start.now) (map path_data c.deref.result.now) c.args.limits.now)
     (subst IsFilm (c.film.ensures ∙ sym c.film-2.ensures) c.keeps_limits.ensures)
-    (ap (map path_data) c.deref.ensures.value ∙ c.requires.front ∙ ap tasks_of (sym c.film-2.ensures))
+    (ap (map path_data) c.deref.ensures.value ∙ c.requires.front ∙ (λ i. tasks_of (rules_of (sym c.kind.ensures i) (sym c.film-2.ensures i))))

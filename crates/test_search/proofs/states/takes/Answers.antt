@@ -1,4 +1,4 @@
-use Rattle.std.proofs.Common.{◌≡◌, ℕ, sym, subst}
+use Rattle.std.proofs.Common.{sym, subst}
 use Rattle.strip_film.specs.Film.{LiesIn}
 use Rattle.strip_film.specs.Shown.{running_data}
 use Rattle.test_search.proofs.states.takes.Goals as goal

@@ -1,5 +1,7 @@
-use Rattle.std.proofs.Common.{◌∙◌, map, ap}
+use Rattle.std.proofs.Common.{◌∙◌, map, ap, sym}
 use Rattle.strip_film.specs.Shown.{path_data}
+use Rattle.strip_lines.specs.Lines.{rules_of}
+use Rattle.strip_front.specs.Tasks.{tasks_of}
 use Rattle.test_search.proofs.worlds.world.Goals as goal
 
 pub new-requires-clause-tasks : goal.new-requires-clause-tasks
@@ -10,4 +12,5 @@ new-requires-clause-tasks g c =
       cap = c.args.cap;
       start = (path_data c.args.start.now).paid;
       tasks = map path_data c.deref.result.now;
-    }) c.keeps_limits.ensures (ap (map path_data) c.deref.ensures.value ∙ c.in_ok-front.ensures.tasks)
+    }) c.keeps_limits.ensures (ap (map path_data) c.deref.ensures.value ∙ c.in_ok-front.ensures.tasks
+    ∙ (λ i. tasks_of (rules_of (sym c.kind.ensures i) (sym c.film-film.ensures i))))

@@ -5,7 +5,7 @@ use Rattle.strip_film.specs.Film.{all_scenes}
 use Rattle.strip_film.specs.Shown.{path_data}
 use Rattle.strip_rule.specs.Rule.{open_firsts}
 use Rattle.strip_front.specs.Tasks.{paths_after, with_task}
-use Rattle.strip_front.proofs.front.tasks.Given as goal
+use Rattle.strip_front.proofs.front.arising_tasks.Given as goal
 
 -- the tasks of the first scenes so far; these and those to come are the open firsts
 abbrev pub invariant-loop-first : goal.invariant-loop-first

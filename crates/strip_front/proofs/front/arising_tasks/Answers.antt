@@ -8,7 +8,7 @@ use Rattle.strip_film.specs.Shown.{path_data}
 use Rattle.strip_rule.specs.Rule.{open_firsts}
 use Rattle.strip_front.proofs.Tasks.{first_ready, zero_first}
 use Rattle.strip_front.proofs.Extended.{tasks_by_first}
-use Rattle.strip_front.proofs.front.tasks.Goals as goal
+use Rattle.strip_front.proofs.front.arising_tasks.Goals as goal
 
 pub extend-requires-clause-ready : goal.extend-requires-clause-ready
 extend-requires-clause-ready c =
