@@ -1,0 +1,10 @@
+pub mod Views
+pub mod Claims
+pub mod Told
+pub mod Offered
+pub mod Drawn
+pub mod Settled
+pub mod Parted
+pub mod Joined
+pub mod Opened
+pub mod Cheaper

@@ -1,0 +1,163 @@
+// The least cost and the next part, as several workers use them.
+ghost use Rattle.std.specs.Prelude.{◌<◌, All, IfOk, IfSome};
+ghost use Rattle.strip_film.specs.Path.{IsComplete};
+ghost use Rattle.strip_film.specs.Shown.{path_data};
+ghost use Rattle.strip_least.specs.Pass.{IsPassOf, known};
+
+use std::alloc::{AllocError, Global};
+use std::test::Fail;
+use std::thread;
+use std::thread::Threads;
+use strip_film::{Film, Path, laws, ready};
+use strip_least::{Least, LeastPass};
+use strip_pay::Pair;
+
+/// A film of three scenes, a day each, the first and the second with an actor of their own, the third
+/// with both.
+fn film(alloc: Global, pairs: &[Pair]) -> Result<Film, Fail> {
+    let casts = Vec::from_slice(alloc, &[0b01, 0b10, 0b11])?;
+    let days = Vec::from_slice(alloc, &[1, 1, 1])?;
+    let rates = Vec::from_slice(alloc, &[10, 20])?;
+    let holds = Vec::from_slice(alloc, &[10, 20])?;
+    let pairs = Vec::from_slice(alloc, pairs)?;
+    let film = Film::of(casts, days, rates, holds, pairs).ok_or("within the limits")?;
+    Ok(film)
+}
+
+/// The path of these scenes, if it is complete.
+fn complete(film: &Film, scenes: &[u32]) -> Option<Path>
+    ensures { IfSome result (λ path. IsComplete film.now (path_data path)) }
+{
+    laws::what_remains_lies_in_the_film();
+    let mut path = Path::start(film);
+    for scene in scenes {
+        if *scene >= 64 || !ready(film, path.rest()).has(*scene) {
+            return None;
+        }
+        path = path.extend(film, *scene);
+    }
+    path.rest().is_empty().then_some(path)
+}
+
+fn path(film: &Film, scenes: &[u32]) -> Result<Path, Fail>
+    ensures { IfOk result (λ path. IsComplete film.now (path_data path)) }
+{
+    let path = complete(film, scenes).ok_or("a complete path")?;
+    Ok(path)
+}
+
+// The second pass is told of the first one's path before anything is joined.
+#[test]
+fn passes_are_told_of_a_cheaper_path(rt: HostRuntime) -> Result<(), Fail> {
+    let alloc = rt.alloc();
+    let film = film(alloc, &[])?;
+    let start = path(&film, &[0, 1, 2])?;
+    let (least, mut first) = Least::new(alloc, &film, &start, 2)?;
+    let mut second = first.split(&least);
+    assert!(&rt; second.look(&least) == 70);
+    assert!(&rt; first.offer(&least, &path(&film, &[0, 2, 1])?) == 60);
+    assert!(&rt; second.look(&least) == 60);
+    assert!(&rt; second.offer(&least, &start) == 60);
+    assert!(&rt; second.best().paid() == 70);
+    second.join(&least, first.split(&least));
+    assert!(&rt; second.look(&least) == 60);
+    assert!(&rt; second.best().paid() == 60);
+    Ok(())
+}
+
+#[test]
+fn parts_are_claimed_in_turn(rt: HostRuntime) -> Result<(), Fail> {
+    let alloc = rt.alloc();
+    let film = film(alloc, &[])?;
+    let (least, mut first) = Least::new(alloc, &film, &path(&film, &[0, 2, 1])?, 2)?;
+    let mut second = first.split(&least);
+    assert!(&rt; first.claim(&least) == Some(0));
+    assert!(&rt; second.claim(&least) == Some(1));
+    assert!(&rt; first.claim(&least).is_none());
+    assert!(&rt; first.claim(&least).is_none());
+    first.join(&least, second);
+    first.settle(&least);
+    assert!(&rt; first.best().paid() == 60);
+    Ok(())
+}
+
+// No path that breaks a pair can be offered.
+#[test]
+fn a_path_that_breaks_a_pair_is_not_complete(rt: HostRuntime) -> Result<(), Fail> {
+    let alloc = rt.alloc();
+    let film = film(alloc, &[Pair { first: 2, then: 1 }])?;
+    assert!(&rt; complete(&film, &[0, 1, 2]).is_none());
+    let (least, mut pass) = Least::new(alloc, &film, &path(&film, &[0, 2, 1])?, 1)?;
+    assert!(&rt; pass.offer(&least, &path(&film, &[2, 1, 0])?) == 60);
+    Ok(())
+}
+
+/// Claims until no part is left.
+fn claim_all(alloc: Global, least: &Least, pass: LeastPass) -> Result<Vec<u32>, AllocError>
+    requires { IsPassOf least.now pass }
+{
+    let mut pass = pass;
+    let mut claims = Vec::new(alloc);
+    for _turn in 0..u64::MAX {
+        let Some(part) = pass.claim(least) else {
+            return Ok(claims);
+        };
+        claims.push(part)?;
+    }
+    Err(AllocError)
+}
+
+/// So many new passes.
+fn deal(
+    alloc: Global,
+    least: &Least,
+    pass: &mut LeastPass,
+    count: u64,
+) -> Result<Vec<LeastPass>, AllocError>
+    requires pass { IsPassOf least.now pass.old }
+    requires weight { count < (known pass.old).weight }
+    ensures { IfOk result (λ passes. All (IsPassOf least.now) passes.items) }
+{
+    let mut passes = Vec::new(alloc);
+    for _turn in 0..count {
+        passes.push(pass.split(least))?;
+    }
+    Ok(passes)
+}
+
+/// What each pass claims in a thread of its own, beside the others.
+fn claim_beside<R: Threads + Sync>(
+    rt: &R,
+    alloc: Global,
+    least: &Least,
+    passes: Vec<LeastPass>,
+) -> Result<Vec<Result<Vec<u32>, AllocError>>, AllocError>
+    requires { All (IsPassOf least.now) passes.items }
+{
+    thread::map_vec(
+        rt,
+        passes,
+        &|pass: LeastPass| -> Result<Vec<u32>, AllocError>
+            requires { IsPassOf least.now pass }
+        { claim_all(alloc, least, pass) },
+    )
+}
+
+fn are_numbers_below(count: u32, claims: &[u32]) -> bool {
+    claims.len() == count as usize && (0..count).zip(claims).all(|(part, claim)| part == *claim)
+}
+
+#[test]
+fn four_workers_claim_each_part_once(rt: HostRuntime) -> Result<(), Fail> {
+    let alloc = rt.alloc();
+    let film = film(alloc, &[])?;
+    let (least, mut pass) = Least::new(alloc, &film, &path(&film, &[0, 1, 2])?, 1000)?;
+    let passes = deal(alloc, &least, &mut pass, 4)?;
+    let mut claims = Vec::new(alloc);
+    for claimed in claim_beside(&rt, alloc, &least, passes)? {
+        claims.append(&mut claimed?)?;
+    }
+    claims.sort_unstable();
+    assert!(&rt; are_numbers_below(1000, claims.as_slice()));
+    Ok(())
+}

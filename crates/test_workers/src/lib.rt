@@ -1,0 +1,5 @@
+//! Tests: what several workers are told who act at once, by calls that no command makes.
+#![tactic(auto)]
+
+#[cfg(test)]
+mod least;
