@@ -18,3 +18,4 @@ pub mod Started
 pub mod Rows
 pub mod Ranks
 pub mod Soonest
+pub mod Placed

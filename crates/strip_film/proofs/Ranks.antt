@@ -34,6 +34,11 @@ module _ (ranks : ℕ → ℕ) where
     ]
   ]
 
+-- what goes first by some ranks does so by others that are the same of both scenes
+pub sooner_by : (ranks due : ℕ → ℕ) (s t : ℕ) → ranks s ≡ due s → ranks t ≡ due t → IsSooner ranks s t → IsSooner due s t
+sooner_by ranks due s t here there (inl less) = inl (omega (arith, here, there, less))
+sooner_by ranks due s t here there (inr (same, less)) = inr (sym here ∙ same ∙ there, less)
+
 module _ (rules : Rules) where
   pub earlier-itself : (set : ℕ) (xs : List ℕ) → IsEarlier rules set xs xs → ⊥
   earlier-itself set [] earlier = earlier

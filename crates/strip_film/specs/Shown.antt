@@ -31,6 +31,6 @@ running_data running = record {
   before = running.before;
 }
 
--- turns: the scenes that wait, and their ranks
+-- turns: the scenes that wait, and how many had a lesser rank than each
 abbrev pub turns_data : Turns → TurnsData
-turns_data turns = record { left = turns.left.0; ranks = slice_index turns.ranks }
+turns_data turns = record { left = turns.left.0; ranks = slice_index turns.places }

@@ -1,21 +1,18 @@
 -- A turn over the first scenes: the path of one of them may be tried, and what it tells.
-use Rattle.std.proofs.Common.{◌≡◌, ◌≢◌, ℕ, ◌<◌, ◌⊎◌, Bool, true, Option, Some, None, Result, Ok, List, [], ◌∷◌, ◌++◌, length, get_or, slice_set, Contains, false, inl, inr, refl, sym, ap, ◌∙◌, subst, arith}
-use Rattle.std.proofs.lemmas.Bool.{cases_eq, lt-ltb}
+use Rattle.std.proofs.Common.{◌≡◌, ◌≢◌, ℕ, ◌<◌, ◌⊎◌, Bool, true, Option, Some, None, Result, Ok, List, [], ◌∷◌, length, get_or, slice_set, inl, inr, refl, sym, ap, ◌∙◌, subst, arith}
+use Rattle.std.proofs.lemmas.Bool.{lt-ltb}
 use Rattle.std.proofs.lemmas.List.{get_or-set_same, get_or-set_other}
-use Rattle.std.proofs.lemmas.List.Elements.{Contains-append_left, Contains-push, Contains-push_cases}
-use Rattle.strip_mask.specs.Set.{IsSet, has, members, size, with, without}
+use Rattle.strip_mask.specs.Set.{IsSet, has, size, without}
 use Rattle.strip_mask.proofs.Below.{LiesBelow-full, size-full}
-use Rattle.strip_mask.proofs.ByMembers.{has-empty, has-with_other, has-with_same, has_from_without, same_has}
-use Rattle.strip_mask.proofs.Members.{Contains-members, has_from_members}
+use Rattle.strip_mask.proofs.ByMembers.{has_from_without}
 use Rattle.strip_mask.proofs.Sizes.{size-empty, size-without}
-use Rattle.strip_pay.proofs.Lists.{contains_none}
 use Rattle.strip_pay.specs.Film.{FilmData}
 use Rattle.strip_film.specs.Film.{IsFilm, all_scenes}
 use Rattle.strip_film.specs.Path.{PathData}
-use Rattle.strip_film.specs.Ranks.{IsEarlier}
-use Rattle.strip_film.specs.Rules.{IsOpen, Rules, rank}
+use Rattle.strip_film.specs.Ranks.{IsEarlier, IsSooner}
+use Rattle.strip_film.specs.Rules.{IsOpen, rank}
 use Rattle.strip_film.specs.Shown.{CursorData}
-use Rattle.strip_film.specs.Turns.{Adds, TakesNext, TurnsData}
+use Rattle.strip_film.specs.Turns.{GoBy, TakesNext, TurnsData}
 use Rattle.strip_io.specs.declared.files.Memory.{Memory}
 use Rattle.strip_rule.specs.Rule.{open_firsts}
 use Rattle.strip_rule.proofs.Firsts.{first_there}
@@ -43,64 +40,12 @@ later search last left scene path is waits old at (inr (s, before, along)) =
     (subst (λ (xs : List ℕ). IsEarlier (search_rules search) (all_scenes search.film) xs path.scenes) (sym along)
     (subst (IsEarlier (search_rules search) (all_scenes search.film) (s ∷ [])) (sym is) (inl (before scene waits))))
 
--- ---- the open firsts are added one after the other
-
-same_test : (a b : Bool) → (a ≡ true → b ≡ true) → (b ≡ true → a ≡ true) → a ≡ b
-same_test true b one two = sym (one refl)
-same_test false true one two = two refl
-same_test false false one two = refl
-
--- just these scenes wait, each by its rank
-pub record AreWaiting (rules : Rules) (scenes : List ℕ) (turns : TurnsData) : Type 0 where
-  pub only : (scene : ℕ) → has turns.left scene ≡ true → Contains scenes scene
-  pub each : (scene : ℕ) → Contains scenes scene → has turns.left scene ≡ true
-  pub ranks : (scene : ℕ) → Contains scenes scene → turns.ranks scene ≡ rank rules (all_scenes rules.film) scene
-
-pub none_wait : (rules : Rules) (turns : TurnsData) → turns.left ≡ 0 → AreWaiting rules [] turns
-none_wait rules turns none = record {
-  only = λ scene waits. absurd (let e : has turns.left scene ≡ false = ap (λ (q : ℕ). has q scene) none ∙ has-empty scene in cc);
-  each = λ scene there. absurd (contains_none scene there);
-  ranks = λ scene there. absurd (contains_none scene there);
-}
-
-pub one_waits : (rules : Rules) (scenes : List ℕ) (turns next : TurnsData) (scene number : ℕ) → AreWaiting rules scenes turns → Adds turns next scene number
-    → number ≡ rank rules (all_scenes rules.film) scene → AreWaiting rules (scenes ++ scene ∷ []) next
-one_waits rules scenes turns next scene number are adds is = record {
-  only = λ other waits. elim (cases_eq scene other) [
-    | inl same ↦ subst (λ (s : ℕ). Contains (scenes ++ scene ∷ []) s) same (Contains-push scenes scene)
-    | inr apart ↦ Contains-append_left scenes (scene ∷ []) other (are.only other (sym (has-with_other turns.left scene other apart) ∙ sym (left other) ∙ waits))
-  ];
-  each = λ other there. left other ∙ elim (cases_eq scene other) [
-    | inl same ↦ subst (λ (s : ℕ). has (with turns.left scene) s ≡ true) same (has-with_same turns.left scene)
-    | inr apart ↦ has-with_other turns.left scene other apart ∙ are.each other (earlier other there apart)
-  ];
-  ranks = λ other there. elim (cases_eq scene other) [
-    | inl same ↦ subst (λ (s : ℕ). next.ranks s ≡ rank rules (all_scenes rules.film) s) same (adds.its_rank ∙ is)
-    | inr apart ↦ adds.others other (λ same. apart (sym same)) ∙ are.ranks other (earlier other there apart)
-  ];
-}
-  where
-    left : (other : ℕ) → has next.left other ≡ has (with turns.left scene) other
-    left other = ap (λ (q : ℕ). has q other) adds.left
-
-    earlier : (other : ℕ) → Contains (scenes ++ scene ∷ []) other → scene ≢ other → Contains scenes other
-    earlier other there apart = elim (Contains-push_cases scenes scene other there) [ inl old ↦ old | inr new ↦ absurd (apart new) ]
-
-pub all_wait : (rules : Rules) (scenes : List ℕ) (turns : TurnsData) → AreWaiting rules scenes turns → IsSet (rules.firsts (all_scenes rules.film))
-    → scenes ≡ members (rules.firsts (all_scenes rules.film)) → AreFirstTurns rules turns
-all_wait rules scenes turns are is_set all = record {
-  left = same_has turns.left (rules.firsts (all_scenes rules.film)) (λ scene. same_test (has turns.left scene) (has (rules.firsts (all_scenes rules.film)) scene)
-      (λ waits. has_from_members (rules.firsts (all_scenes rules.film)) scene (subst (λ (xs : List ℕ). Contains xs scene) all (are.only scene waits)))
-      (λ member. are.each scene (subst (λ (xs : List ℕ). Contains xs scene) (sym all) (Contains-members (rules.firsts (all_scenes rules.film)) scene is_set member))));
-  ranks = λ scene waits. are.ranks scene (are.only scene waits);
-}
-
 -- ---- a turn
 
--- the scenes that wait are open firsts, each by its rank
+-- the scenes that wait are open firsts, by their ranks
 pub record FirstsWait (search : SearchData) (turns : TurnsData) : Type 0 where
   pub among : (scene : ℕ) → has turns.left scene ≡ true → has (open_firsts search.film (all_scenes search.film)) scene ≡ true
-  pub ranks : (scene : ℕ) → has turns.left scene ≡ true → turns.ranks scene ≡ rank (search_rules search) (all_scenes search.film) scene
+  pub ranks : GoBy (rank (search_rules search) (all_scenes search.film)) turns
 
 -- so it is at first, and when one has had its turn
 pub wait_first : (search : SearchData) (turns : TurnsData) → AreFirstTurns (search_rules search) turns → FirstsWait search turns
@@ -122,18 +67,14 @@ module _ (search : SearchData) (turns next : TurnsData) (scene : ℕ) (wait : Fi
   pub wait_still : FirstsWait search next
   wait_still = record {
     among = λ other waits. wait.among other (waited other waits).1;
-    ranks = λ other waits. ap (λ (f : ℕ → ℕ). f other) takes.2 ∙ wait.ranks other (waited other waits).1;
+    ranks = λ one other here there sooner. wait.ranks one other (waited one here).1 (waited other there).1
+        (subst (λ (ranks : ℕ → ℕ). IsSooner ranks one other) takes.2 sooner);
   }
 
   pub goes_before : GoesBefore search next.left scene
   goes_before other waits =
       let was = waited other waits in
-      let one = wait.ranks scene takes.0.waits in
-      let two = wait.ranks other was.1 in
-      elim (takes.0.first other was.1 (λ same. was.0 (sym same))) [
-        | inl less ↦ inl (omega (arith, less, one, two))
-        | inr (same, less) ↦ inr (sym one ∙ same ∙ two, less)
-      ]
+      wait.ranks scene other takes.0.waits was.1 (takes.0.first other was.1 (λ same. was.0 (sym same)))
 
 -- while all scenes of a film remain some do, and so after one of two or more
 pub some_remain : (film : FilmData) → IsFilm film → all_scenes film ≢ 0

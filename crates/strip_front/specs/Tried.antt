@@ -9,7 +9,7 @@ use Rattle.strip_film.specs.Path.{PathData}
 use Rattle.strip_film.specs.Ranks.{IsSooner}
 use Rattle.strip_film.specs.Rules.{Rules, rank}
 use Rattle.strip_film.specs.Shown.{CursorData}
-use Rattle.strip_film.specs.Turns.{TurnsData}
+use Rattle.strip_film.specs.Turns.{GoBy, TurnsData}
 use Rattle.strip_io.specs.declared.files.Memory.{Memory}
 use Rattle.strip_hand.specs.Calls.{IsSpent, MakesLine, Refuses}
 use Rattle.strip_hand.specs.Hand.{HandData}
@@ -47,10 +47,10 @@ pub record IsEnlisted (hand : HandData) (cursor : CursorData) (front : FrontData
   pub cut : spent ≡ true → IsCutShort hand cursor
   pub root : IsSome front.root ↔ IsSome cursor.last
 
--- the open firsts of all scenes wait for their turn, each by its rank
+-- the open firsts of all scenes wait for their turn, by their ranks
 pub record AreFirstTurns (rules : Rules) (turns : TurnsData) : Type 0 where
   pub left : turns.left ≡ rules.firsts (all_scenes rules.film)
-  pub ranks : (scene : ℕ) → has turns.left scene ≡ true → turns.ranks scene ≡ rank rules (all_scenes rules.film) scene
+  pub ranks : GoBy (rank rules (all_scenes rules.film)) turns
 
 -- the scene is an open first of all scenes that has had its turn, while these still wait
 abbrev pub HadTurn : SearchData → ℕ → ℕ → Type 0

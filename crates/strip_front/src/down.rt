@@ -25,7 +25,7 @@ ghost use Rattle.strip_front.specs.Tried.{AreFirstTurns, AreTried, IsEnlisted, T
 use crate::front::Front;
 use crate::marks::mark_wanted;
 use strip_bound::Kept;
-use strip_film::{Cursor, Film, Listed, Path, Turns};
+use strip_film::{Cursor, Film, Listed, MAX_COUNT, Path, Turns};
 use strip_hand::Hand;
 use strip_io::Memory;
 use strip_mask::Mask;
@@ -204,9 +204,10 @@ fn first_turns<F: Fn(u64, u64) -> u64>(kept: &Kept<F>) -> Turns
     let film = kept.film();
     film.keeps_limits();
     let all = film.all();
-    let mut turns = Turns::none();
-    for first in open_firsts(film, all).iter() {
-        turns.add(first, kept.rank(all, first));
+    let firsts = open_firsts(film, all);
+    let mut ranks = [0; MAX_COUNT];
+    for first in firsts.iter() {
+        ranks[first as usize] = kept.rank(all, first);
     }
-    turns
+    Turns::of(firsts, &ranks)
 }

@@ -1,5 +1,5 @@
 -- One turn of a walk: a scene is shot, what then remains is walked, and the scene is taken back.
-use Rattle.std.proofs.Common.{◌≡◌, ℕ, ◌+◌, ◌-◌, ◌^◌, ◌<◌, ◌≤◌, inl, inr, true, false, Result, Ok, Err, IfOk, [], ◌∷◌, ◌++◌, length, sym, ap, ◌∙◌, subst, arith}
+use Rattle.std.proofs.Common.{◌≡◌, ℕ, ◌+◌, ◌-◌, ◌^◌, ◌<◌, ◌≤◌, true, false, Result, Ok, Err, IfOk, [], ◌∷◌, ◌++◌, length, sym, ap, ◌∙◌, subst, arith}
 use Rattle.std.specs.Result.{IsErr}
 use Rattle.strip_io.specs.declared.files.Memory.{Memory}
 use Rattle.strip_mask.specs.Set.{IsSet, has, size, without}
@@ -12,7 +12,7 @@ use Rattle.strip_film.specs.Ranks.{IsSooner}
 use Rattle.strip_film.specs.Rules.{rank}
 use Rattle.strip_film.specs.Shoot.{ready, step_cost}
 use Rattle.strip_film.specs.Shown.{CursorData}
-use Rattle.strip_film.specs.Turns.{IsSoonest, TurnsData}
+use Rattle.strip_film.specs.Turns.{GoBy, IsSoonest, TurnsData}
 use Rattle.strip_film.proofs.Costs.{step_limit}
 use Rattle.strip_film.proofs.Lists.{ready_there}
 use Rattle.strip_film.proofs.Paths.{rest_lies}
@@ -91,27 +91,22 @@ module _ (before now after : HandData) (cursor cursor_now cursor_after : CursorD
 
 -- ---- the turns
 
--- by these ranks the scene is the next one
-pub next_is : (search : SearchData) (path : PathData) (turns : TurnsData) (s : ℕ)
-    → ((scene : ℕ) → has turns.left scene ≡ true → turns.ranks scene ≡ rank (search_rules search) path.rest scene)
+-- the soonest of those that go by their ranks is the next one
+pub next_is : (search : SearchData) (path : PathData) (turns : TurnsData) (s : ℕ) → GoBy (rank (search_rules search) path.rest) turns
     → IsSoonest turns s → IsNext search path turns.left s
-next_is search path turns s ranked soonest = record {
+next_is search path turns s goes soonest = record {
   waits = soonest.waits;
-  first = λ other waits apart. sooner_by (ranked s soonest.waits) (ranked other waits) (soonest.first other waits apart);
+  first = λ other waits apart. goes s other soonest.waits waits (soonest.first other waits apart);
 }
-  where
-    sooner_by : {t : ℕ} → turns.ranks s ≡ rank (search_rules search) path.rest s → turns.ranks t ≡ rank (search_rules search) path.rest t
-        → IsSooner turns.ranks s t → IsSooner (rank (search_rules search) path.rest) s t
-    sooner_by here there (inl less) = inl (omega (arith, here, there, less))
-    sooner_by here there (inr (same, less)) = inr (sym here ∙ same ∙ there, less)
 
--- those that are left keep their ranks
+-- those that are left go on by their ranks
 pub still_ranked : (search : SearchData) (path : PathData) (turns later : TurnsData) (s : ℕ) → later.left ≡ without turns.left s → later.ranks ≡ turns.ranks
-    → ((scene : ℕ) → has turns.left scene ≡ true → turns.ranks scene ≡ rank (search_rules search) path.rest scene)
-    → (scene : ℕ) → has later.left scene ≡ true → later.ranks scene ≡ rank (search_rules search) path.rest scene
-still_ranked search path turns later s fewer_wait same ranked scene waits =
-    ap (λ (ranks : ℕ → ℕ). ranks scene) same
-    ∙ ranked scene (has_from_without turns.left s scene (subst (λ (left : ℕ). has left scene ≡ true) fewer_wait waits)).1
+    → GoBy (rank (search_rules search) path.rest) turns → GoBy (rank (search_rules search) path.rest) later
+still_ranked search path turns later s fewer_wait same goes a b here there sooner =
+    goes a b (waits a here) (waits b there) (subst (λ (ranks : ℕ → ℕ). IsSooner ranks a b) same sooner)
+  where
+    waits : (scene : ℕ) → has later.left scene ≡ true → has turns.left scene ≡ true
+    waits scene is = (has_from_without turns.left s scene (subst (λ (left : ℕ). has left scene ≡ true) fewer_wait is)).1
 
 pub if_ok_holds : {X E : Type 0} (P : Type 0) (result : Result X E) → P → IfOk result (λ _. P)
 if_ok_holds P (Ok x) holds = holds

@@ -1,36 +1,44 @@
 -- The children of a path that are walked, and what the others reach.
-use Rattle.std.specs.Prelude.{◌≡◌, ℕ, ◌+◌, ◌≤◌, true, false, List, Contains}
-use Rattle.strip_mask.specs.Set.{has, without}
+use Rattle.std.specs.Prelude.{◌≡◌, ◌≢◌, ℕ, ◌+◌, ◌≤◌, true, false, List, Contains, slice_index}
+use Rattle.strip_mask.specs.Set.{has, with, without}
 use Rattle.strip_kind.specs.declared.kind.Kind.{Kind}
 use Rattle.strip_pay.specs.Film.{FilmData}
 use Rattle.strip_film.specs.Path.{PathData}
 use Rattle.strip_film.specs.Rules.{rank}
 use Rattle.strip_film.specs.Shoot.{step_cost}
 use Rattle.strip_film.specs.Shown.{turns_data}
+use Rattle.strip_film.specs.Turns.{GoBy}
 use Rattle.strip_bound.specs.Bounds.{bound}
 use Rattle.strip_lines.specs.Lines.{rules_of}
 use Rattle.strip_rule.specs.Rule.{open_firsts}
 use Rattle.strip_walk.specs.declared.found.Sifted.{Sifted}
+use Rattle.strip_walk.specs.declared.found.Weighed.{Weighed}
+
+-- a child more has to be walked, by this rank; the ranks of the others stay
+pub record Adds (weighed next : Weighed) (scene rank : ℕ) : Type 0 where
+  pub visit : next.visit.0 ≡ with weighed.visit.0 scene
+  pub its_rank : slice_index next.ranks scene ≡ rank
+  pub others : (other : ℕ) → other ≢ scene → slice_index next.ranks other ≡ slice_index weighed.ranks other
+  pub least : next.least ≡ weighed.least
+
+-- of the scenes of a list: those to be walked are among them, each by its rank; the least reaches no further than any other, and takes
+-- all of the room
+pub record AreWeighed (kind : Kind) (film : FilmData) (set room : ℕ) (scenes : List ℕ) (weighed : Weighed) : Type 0 where
+  pub within : (scene : ℕ) → has weighed.visit.0 scene ≡ true → Contains scenes scene
+  pub ranks : (scene : ℕ) → has weighed.visit.0 scene ≡ true → slice_index weighed.ranks scene ≡ rank (rules_of kind film) set scene
+  pub passed : (scene : ℕ) → Contains scenes scene → has weighed.visit.0 scene ≡ false
+      → weighed.least ≤ step_cost film set scene + bound kind film (without set scene)
+  pub enough : room ≤ weighed.least
 
 -- the scenes that are still to be walked
 abbrev pub to_walk : Sifted → ℕ
 to_walk sifted = (turns_data sifted.visit).left
 
--- each scene that is to be walked waits by its rank in the set
+-- they go by their ranks in the set
 abbrev pub AreRanked : Kind → FilmData → ℕ → Sifted → Type 0
-AreRanked kind film set sifted =
-    (scene : ℕ) → has (to_walk sifted) scene ≡ true → (turns_data sifted.visit).ranks scene ≡ rank (rules_of kind film) set scene
+AreRanked kind film set sifted = GoBy (rank (rules_of kind film) set) (turns_data sifted.visit)
 
--- of the scenes of a list: those to be walked are among them, each by its rank; the least reaches no further than any other, and takes
--- all of the room
-pub record AreWeighed (kind : Kind) (film : FilmData) (set room : ℕ) (scenes : List ℕ) (sifted : Sifted) : Type 0 where
-  pub within : (scene : ℕ) → has (to_walk sifted) scene ≡ true → Contains scenes scene
-  pub ranks : AreRanked kind film set sifted
-  pub passed : (scene : ℕ) → Contains scenes scene → has (to_walk sifted) scene ≡ false
-      → sifted.least ≤ step_cost film set scene + bound kind film (without set scene)
-  pub enough : room ≤ sifted.least
-
--- those to be walked are open firsts, each by its rank; the least reaches no further than the step and the static bound of each other;
+-- those to be walked are open firsts, by their ranks; the least reaches no further than the step and the static bound of each other;
 -- and the path with it is no cheaper than the least cost told
 pub record AreSifted (kind : Kind) (film : FilmData) (path : PathData) (told : ℕ) (sifted : Sifted) : Type 0 where
   pub within : (scene : ℕ) → has (to_walk sifted) scene ≡ true → has (open_firsts film path.rest) scene ≡ true

@@ -1,6 +1,7 @@
 // What a walk finds, and how it begins.
 
-use strip_film::{Probe, Turns};
+use strip_film::{MAX_COUNT, Probe, Turns};
+use strip_mask::Mask;
 
 /// What a walk found of what remains after a path: a bound, in units of money, that is at most the cost of
 /// finishing; the line that has it, where it is no static bound; and whether there were as many lines as
@@ -43,8 +44,17 @@ pub(crate) enum Begun {
     Enlisted(Opened),
 }
 
+/// Children of a path that were weighed: those that have to be walked, the rank of each of these, and the
+/// least of the others' steps with their static bounds; `u64::MAX` where there is no other.
+#[derive(Clone, Copy, Debug)]
+pub(crate) struct Weighed {
+    pub visit: Mask,
+    pub ranks: [u64; MAX_COUNT],
+    pub least: u64,
+}
+
 /// The children of a path that have to be walked, by rank, and the least of the others' steps with their
-/// static bounds; `u64::MAX` where there is no other.
+/// static bounds.
 #[derive(Debug, Drop)]
 pub(crate) struct Sifted {
     pub visit: Turns,

@@ -1,16 +1,16 @@
-use Rattle.std.proofs.Common.{◌≡◌, ◌++◌}
+use Rattle.std.proofs.Common.{◌≡◌, ◌++◌, ℕ, Contains, length, slice_index}
 use Rattle.strip_mask.specs.Set.{members}
 use Rattle.strip_mask.specs.Iter.{rest_of}
 use Rattle.strip_film.specs.Film.{all_scenes}
-use Rattle.strip_film.specs.Shown.{turns_data}
+use Rattle.strip_film.specs.Rules.{rank}
 use Rattle.strip_rule.specs.Rule.{open_firsts}
 use Rattle.strip_lines.specs.Lines.{rules_of}
-use Rattle.strip_front.proofs.Turns.{AreWaiting}
 use Rattle.strip_front.proofs.down.first_turns.Given as goal
 
--- the scenes so far wait; these and those to come are the open firsts
+-- the scenes so far have their ranks; these and those to come are the open firsts
 abbrev pub invariant-loop-first : goal.invariant-loop-first
 invariant-loop-first g l = record {
-  wait : AreWaiting (rules_of l.kept.kind l.kept.film.now) l.yielded (turns_data l.turns);
+  ranked : (scene : ℕ) → Contains l.yielded scene → slice_index l.ranks scene ≡ rank (rules_of l.kept.kind l.kept.film.now) (all_scenes l.kept.film.now) scene;
+  long : length l.ranks ≡ 64;
   turns : l.yielded ++ rest_of l.first-iterator ≡ members (open_firsts l.kept.film.now (all_scenes l.kept.film.now));
 }
