@@ -1,51 +1,18 @@
--- A search begins: the next part is claimed, and the front gone down.
-use Rattle.std.proofs.Common.{◌≡◌, ℕ, ◌+◌, ◌<◌, ◌≤◌, Bool, true, false, ltb, Option, Some, None, List, length, replicate, sym, ap, ◌∙◌, subst, arith}
+-- A search begins: the front is gone down.
+use Rattle.std.proofs.Common.{◌≡◌, ℕ, suc, ◌<◌, ◌≤◌, Bool, true, false, Option, Some, None, List, length, replicate, refl, sym, ap, ◌∙◌, subst, arith}
 use Rattle.std.specs.Prelude.{IsSome, slice_index}
-use Rattle.std.proofs.lemmas.Bool.{cond-true, lt-ltb}
 use Rattle.std.proofs.lemmas.List.{get_or-replicate, length-replicate}
-use Rattle.strip_kind.specs.declared.kind.Kind.{Kind}
-use Rattle.strip_pay.specs.Film.{FilmData}
 use Rattle.strip_film.specs.Path.{PathData}
 use Rattle.strip_film.specs.Rules.{Rules}
 use Rattle.strip_film.specs.Shown.{CursorData}
-use Rattle.strip_lines.specs.Lines.{rules_of}
-use Rattle.strip_hand.specs.Calls.{Claims}
+use Rattle.strip_lines.proofs.Grown.{grow_self}
 use Rattle.strip_hand.specs.Hand.{HandData, RecordData}
-use Rattle.strip_hand.specs.Search.{SearchData}
-use Rattle.strip_race.specs.declared.event.Reply.TheVariants.{Task}
-use Rattle.strip_race.specs.Hand.{IsOwned, hand_data}
-use Rattle.strip_race.specs.Steps.{claim_reply, claimed}
-use Rattle.strip_race.specs.World.{WorldData}
+use Rattle.strip_hand.specs.Search.{SearchData, search_rules}
 use Rattle.strip_front.specs.Calls.{GoesDown, IsCutShort, count_in}
 use Rattle.strip_front.specs.Front.{FrontData, IsEmptyFront, IsFrontOf}
 use Rattle.strip_front.specs.Filled.{IsFilled, IsWhole}
-use Rattle.strip_team.specs.Team.{IsAlone, IsCut, IsUnbegun, IsUnderWay}
-use Rattle.strip_team.proofs.OneWorker.{front_has_all, next_stays, part_count, rules_alone}
-
--- a world with as many workers and the same search
-pub alone_after : (kind : Kind) (film : FilmData) (world after : WorldData) → IsAlone kind film world → IsOwned after
-    → length after.workers ≡ length world.workers → after.search ≡ world.search → IsAlone kind film after
-alone_after kind film world after is owned workers same = record {
-  owned = owned;
-  one_worker = workers ∙ is.one_worker;
-  same_film = ap (λ (search : SearchData). search.film) same ∙ is.same_film;
-  same_kind = ap (λ (search : SearchData). search.kind) same ∙ is.same_kind;
-  tasks = ap (λ (search : SearchData). search.tasks) same ∙ is.tasks;
-}
-
-task_of : (one other : Option ℕ) → Task one ≡ Task other → one ≡ other
-task_of one other same = cc
-
--- a claim takes the next part, where one is left
-pub claim_takes : (world after : WorldData) (reply : Option ℕ) → world.next < length world.parts → after ≡ claimed world 0
-    → Task reply ≡ Task (claim_reply world) → Claims (hand_data world) reply (hand_data after)
-    → (after.next ≡ world.next + 1) × Claims (hand_data world) (Some world.next) (hand_data after)
-claim_takes world after reply left step told claims =
-    let is : ltb world.next (length world.parts) ≡ true = lt-ltb world.next (length world.parts) left in (
-      ap (λ (w : WorldData). w.next) (step ∙ cond-true (ltb world.next (length world.parts)) _ world is),
-      subst (λ (r : Option ℕ). Claims (hand_data world) r (hand_data after))
-          (task_of reply (claim_reply world) told ∙ cond-true (ltb world.next (length world.parts)) (Some world.next) None is) claims,
-    )
+use Rattle.strip_team.specs.Team.{GoesOn, HasFront, HasWorked, IsCut, IsFresh, OwnsFront, beginning}
+use Rattle.strip_team.proofs.Moved.{carried, found_still}
 
 -- the front of a search stays one
 pub front_stays : (rules : Rules) (before after : FrontData) → IsEmptyFront rules before → after.tasks ≡ before.tasks
@@ -63,69 +30,87 @@ zeros found n count are same = (
   λ task within. ap (λ (xs : List ℕ). slice_index xs task) are ∙ get_or-replicate n task 0 0 (omega (arith, within, same)),
 )
 
--- a search begins, by a claim and the way down the front
-module _ (kind : Kind) (film : FilmData) (world taken after : WorldData) (reply : Option ℕ) (cursor : CursorData)
-    (alone : IsAlone kind film world) (unbegun : IsUnbegun world)
-    (owned_taken : IsOwned taken) (long_taken : length taken.workers ≡ length world.workers)
-    (step : (taken ≡ claimed world 0) × (Task reply ≡ Task (claim_reply world))) (claims : Claims (hand_data world) reply (hand_data taken))
-    (owned : IsOwned after) (long : length after.workers ≡ length taken.workers) (down : GoesDown (hand_data taken) (hand_data after) cursor) where
-  takes : (taken.next ≡ world.next + 1) × Claims (hand_data world) (Some world.next) (hand_data taken)
-  takes = claim_takes world taken reply (omega (arith, unbegun.next, part_count kind film world alone)) step.0 step.1 claims
+-- a part of which there is no record
+no_record : (entry : Option RecordData) → entry ≡ None → ¬ IsSome entry
+no_record entry free some = (let both : false ≡ true = subst IsSome free some in cc)
 
-  search_taken : taken.search ≡ world.search
-  search_taken = ap (λ (h : HandData). h.search) takes.1.0
+-- nobody has gone down yet
+pub not_yet_down : (hand : HandData) → HasFront hand → GoesDown hand hand (beginning 0)
+not_yet_down hand claimed = record {
+  only = refl;
+  no_more = omega arith;
+  grow = grow_self hand.lines;
+  no_fewer = omega arith;
+  others = λ part apart. refl;
+  task = refl;
+  stands = (0, claimed.front);
+}
 
-  search_then : after.search ≡ taken.search
-  search_then = ap (λ (h : HandData). h.search) down.only
+-- the front was gone down, and nothing was found of any task
+module _ (before after : HandData) (cursor : CursorData) (front : FrontData) (found : List ℕ) (spent : Bool) (claimed : HasFront before)
+    (down : GoesDown before after cursor) (front_of : IsFrontOf (search_rules before.search) front)
+    (none : (length found ≡ length front.tasks) × ((task : ℕ) → task < length front.tasks → slice_index found task ≡ 0))
+    (filled : IsFilled after front) (whole : spent ≡ false → IsWhole after.search front after.told) (short : spent ≡ true → IsCutShort after cursor)
+    (root : spent ≡ true → 1 ≤ after.search.cap → length after.lines ≤ count_in after 0 → IsSome front.root) (some_lines : 1 ≤ before.search.cap) where
+  same_search : after.search ≡ before.search
+  same_search = ap (λ (h : HandData). h.search) down.only
 
-  alone_taken : IsAlone kind film taken
-  alone_taken = alone_after kind film world taken alone owned_taken long_taken search_taken
+  cut : IsCutShort after cursor → IsCut after
+  cut is = record {
+    full = is.full;
+    part = cursor.task;
+    entry = record { last = cursor.last; number = down.stands.0 };
+    recorded = down.stands.1;
+    path = is.later.0;
+    is_open = is.later.1;
+    lies = is.later.2;
+    later = is.later.3;
+    some = is.later.4;
+    below = is.later.5;
+  }
 
-  alone_then : IsAlone kind film after
-  alone_then = alone_after kind film taken after alone_taken owned long search_then
+  pub begins : OwnsFront after → HasWorked after front found spent
+  begins owns = record {
+    front_of = subst (λ (search : SearchData). IsFrontOf (search_rules search) front) (sym same_search) front_of;
+    filled = filled;
+    long = none.0;
+    known = λ task within wanted. omega (arith, none.1 task within);
+    whole = whole;
+    reach = λ not task within wanted recorded.
+        absurd (no_record (after.records (suc task)) (down.others (suc task) (λ zero_is. omega (arith, zero_is)) ∙ claimed.others (suc task) (λ zero_is. omega (arith, zero_is))) recorded);
+    root = λ is. root is (omega (arith, some_lines, ap (λ (search : SearchData). search.cap) same_search)) owns;
+    cut = λ is. cut (short is);
+  }
 
-  here : (entry : RecordData) × ((hand_data after).records 0 ≡ Some entry)
-  here = (
-    record { last = cursor.last; number = down.stands.0 },
-    subst (λ (part : ℕ). (hand_data after).records part ≡ Some (record { last = cursor.last; number = down.stands.0 })) down.task down.stands.1,
-  )
+-- a hand that has claimed nothing has found nothing, by a front that another hand went down
+module _ (hand fresh : HandData) (front : FrontData) (found none : List ℕ) (was : HasWorked hand front found false) (is : IsFresh hand fresh)
+    (zeroes : (length none ≡ length front.tasks) × ((task : ℕ) → task < length front.tasks → slice_index none task ≡ 0)) where
+  -- what was found, without the records
+  abbrev bare : HandData
+  bare = record hand { records = λ part. None }
 
-  next_then : after.next ≡ 1
-  next_then = next_stays kind film taken after 0 alone_taken alone_then (omega (arith, takes.0)) here down.others ∙ takes.0 ∙ ap (λ (n : ℕ). n + 1) unbegun.next
+  on : GoesOn bare fresh
+  on = record {
+    search = is.search;
+    told = is.told;
+    grow = is.grow;
+    records = λ part entry there. absurd (let both : None ≡ Some entry = there in cc);
+  }
 
-  module _ (front : FrontData) (found : List ℕ) (spent : Bool) (front_of : IsFrontOf (rules_of kind film) front)
-      (none : (length found ≡ length front.tasks) × ((task : ℕ) → task < length front.tasks → slice_index found task ≡ 0))
-      (filled : IsFilled (hand_data after) front) (whole : spent ≡ false → IsWhole after.search front (hand_data after).told)
-      (short : spent ≡ true → IsCutShort (hand_data after) cursor)
-      (root : spent ≡ true → 1 ≤ after.search.cap → length after.lines ≤ count_in (hand_data after) 0 → IsSome front.root) where
-    cut : IsCutShort (hand_data after) cursor → IsSome front.root → IsCut (hand_data after) front 1
-    cut is rooted = record {
-      full = is.full;
-      root = rooted;
-      part = cursor.task;
-      first = omega (arith, down.task);
-      entry = record { last = cursor.last; number = down.stands.0 };
-      recorded = down.stands.1;
-      path = is.later.0;
-      is_open = is.later.1;
-      lies = is.later.2;
-      later = is.later.3;
-      some = is.later.4;
-      below = is.later.5;
-    }
+  nothing_bare : HasWorked bare front none false
+  nothing_bare = record {
+    front_of = was.front_of;
+    filled = record { lines = record { root = was.filled.lines.root; firsts = was.filled.lines.firsts }; wanted = was.filled.wanted };
+    long = zeroes.0;
+    known = λ task within wanted. omega (arith, zeroes.1 task within);
+    whole = was.whole;
+    reach = λ not task within wanted recorded. absurd (let both : false ≡ true = recorded in cc);
+    root = was.root;
+    cut = λ so. absurd (let both : false ≡ true = so in cc);
+  }
 
-    pub begins : IsUnderWay kind film after front found 1 spent
-    begins = record {
-      alone = alone_then;
-      next = next_then;
-      walked = record {
-        front_of = subst (λ (rules : Rules). IsFrontOf rules front) (sym (rules_alone kind film after alone_then)) front_of;
-        filled = filled;
-        long = none.0;
-        known = λ task within wanted. omega (arith, none.1 task within);
-        whole = whole;
-        reach = λ not task first within wanted. absurd (omega (arith, first));
-        cut = λ is. cut (short is) (root is (omega (arith, unbegun.cap, ap (λ (search : SearchData). search.cap) (search_then ∙ search_taken)))
-            (front_has_all kind film after alone_then next_then));
-      };
-    }
+  pub nothing : HasWorked fresh front none false
+  nothing =
+      carried bare fresh on front none none false false nothing_bare zeroes.0 (found_still bare fresh on front none nothing_bare.known) (λ not. not)
+      (λ not task within wanted recorded. absurd (no_record (fresh.records (suc task)) (is.none (suc task)) recorded)) was.root
+      (λ so. absurd (let both : false ≡ true = so in cc))

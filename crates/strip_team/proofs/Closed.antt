@@ -1,67 +1,93 @@
 -- A search ends: its front is closed up, and what is known of all scenes is the bound.
-use Rattle.std.proofs.Common.{◌≡◌, ℕ, suc, ◌<◌, ◌≤◌, Bool, false, Some, Result, Ok, Err, IfOk, List, length, count_by, eqb, refl, sym, ap, ◌∙◌, subst, arith}
+use Rattle.std.proofs.Common.{◌≡◌, ℕ, suc, ◌<◌, ◌≤◌, Bool, true, false, Some, Result, Ok, Err, IfOk, List, length, count_by, eqb, inl, inr, refl, sym, ap, ◌∙◌, subst, arith}
+use Rattle.std.proofs.lemmas.Bool.{cases_Bool}
 use Rattle.strip_io.specs.declared.files.Memory.{Memory}
 use Rattle.strip_mask.proofs.Below.{LiesBelow-full}
 use Rattle.strip_kind.specs.declared.kind.Kind.{Kind}
 use Rattle.strip_pay.specs.Film.{FilmData}
 use Rattle.strip_pay.specs.Order.{IsKeptOrder}
 use Rattle.strip_pay.specs.Pay.{IsLeast, pay_of}
+use Rattle.strip_film.specs.declared.shared.Line.{Line}
 use Rattle.strip_film.specs.Film.{IsFilm, all_scenes}
 use Rattle.strip_film.specs.Finish.{IsAtMostFinish, steps_cost}
 use Rattle.strip_film.specs.Path.{PathData, IsComplete}
 use Rattle.strip_film.specs.Rules.{BeginLeast, BoundsFinish}
+use Rattle.strip_film.specs.Shown.{CursorData}
 use Rattle.strip_film.proofs.Orders.{AllOnce-from_order, kept_from_ready, ready_from_order}
 use Rattle.strip_film.proofs.StepSum.{steps_are_pay}
-use Rattle.strip_lines.specs.Lines.{ahead, known, line_at}
+use Rattle.strip_lines.specs.Lines.{ahead, known, line_at, rules_of}
+use Rattle.strip_lines.proofs.Grown.{known-grows}
 use Rattle.strip_lines.proofs.Justified.{known_is_true}
 use Rattle.strip_count.specs.Paths.{few, ways}
-use Rattle.strip_hand.specs.Hand.{HandData}
-use Rattle.strip_hand.specs.Search.{search_rules}
-use Rattle.strip_race.specs.Hand.{hand_data}
-use Rattle.strip_race.specs.Sound.{IsWorker}
-use Rattle.strip_race.specs.World.{WorldData, no_worker, worker_at}
-use Rattle.strip_race.proofs.True.{most_lines, most_of_set}
-use Rattle.strip_front.specs.Calls.{AllReach, Learns}
+use Rattle.strip_count.proofs.Shares.{lines_few, lines_ways}
+use Rattle.strip_hand.specs.Hand.{HandData, IsHand}
+use Rattle.strip_hand.specs.Search.{SearchData, depth_of, search_rules}
+use Rattle.strip_race.proofs.True.{tasks_apart}
+use Rattle.strip_front.specs.Calls.{AllReach, GoesDown, Learns}
 use Rattle.strip_front.specs.Front.{FrontData}
-use Rattle.strip_front.specs.Tasks.{tasks_of}
 use Rattle.strip_front.specs.Filled.{IsWhole}
-use Rattle.strip_team.specs.Closed.{EndsFrom, IsClosed, known_of_all}
+use Rattle.strip_team.specs.Closed.{EndsFrom, HasAll, IsClosed, IsSettled, known_of_all, record_in}
 use Rattle.strip_team.specs.declared.ended.Ended.{Ended}
 use Rattle.strip_team.specs.Ended.{EndedData, IsEnded}
 use Rattle.strip_team.specs.Shown.{ended_data}
-use Rattle.strip_team.specs.Team.{HasWalked, IsAlone}
-use Rattle.strip_team.proofs.Moved.{moved}
+use Rattle.strip_team.specs.Team.{GoesOn, HasWorked, IsSearchBy}
+use Rattle.strip_team.proofs.Counted.{cut_has_more}
+use Rattle.strip_team.proofs.Moved.{moved_same}
 use Rattle.strip_team.proofs.Settled.{some_of}
-use Rattle.strip_team.proofs.OneWorker.{best_is_least, cut_has_more, rules_alone}
 
--- what closing up answered is known of all scenes
-pub closed : (kind : Kind) (film : FilmData) (world after : WorldData) (front : FrontData) (found : List ℕ) (spent : Bool) (bound : ℕ)
-    → IsAlone kind film after → Learns (hand_data world) (hand_data after)
-    → HasWalked (hand_data world) front found (suc (length front.tasks)) spent
-    → bound ≤ known (search_rules after.search) after.lines (all_scenes after.search.film)
-    → ((line : ℕ) → front.root ≡ Some line
-    → (bound ≤ (line_at after.lines line).bound) × (ahead (search_rules after.search) (all_scenes film) ≤ bound))
-    → (IsWhole after.search front (hand_data after).told → AllReach front found (hand_data after).told → (hand_data after).told ≤ bound)
-    → IsClosed kind film after spent bound
-closed kind film world after front found spent bound is learns was most root reaches = record {
-  alone = is;
-  most = most;
-  whole = λ not. reaches (held.whole not) (λ task within wanted. held.reach not task (omega (arith, within)) within wanted);
-  full = λ so. (held.cut so).full;
-  fewer = λ so. cut_has_more kind film after front (suc (length front.tasks)) is (held.cut so) (omega (arith, count, is.owned.sound.part_count));
-  reaches = λ so. (
-      let line = some_of front.root (held.cut so).root in
-      subst (λ (f : FilmData). ahead (search_rules after.search) (all_scenes f) ≤ bound) (sym is.same_film) (root line.0 line.1).1);
+-- ---- the front is closed up
+
+-- a hand that learns goes on
+pub goes_learning : (before after : HandData) → Learns before after → GoesOn before after
+goes_learning before after learns = record {
+  search = ap (λ (h : HandData). h.search) learns.only;
+  told = omega (arith, ap (λ (h : HandData). h.told) learns.only);
+  grow = learns.grow;
+  records = λ part entry is. (λ i. (learns.only i).records part) ∙ is;
 }
-  where
-    held : HasWalked (hand_data after) front found (suc (length front.tasks)) spent
-    held =
-        moved (hand_data world) (hand_data after) front found (suc (length front.tasks)) spent (ap (λ (h : HandData). h.search) learns.only)
-        (omega (arith, ap (λ (h : HandData). h.told) learns.only)) learns.grow is.owned.sound.few
-        (λ part first i. (learns.only i).records part) was
 
-    count : length front.tasks ≡ length after.search.tasks
-    count = ap (λ (tasks : List PathData). length tasks) (held.front_of.tasks ∙ ap tasks_of (rules_alone kind film after is) ∙ sym is.tasks)
+module _ (kind : Kind) (film : FilmData) (before after : HandData) (front : FrontData) (found : List ℕ) (spent : Bool) (bound : ℕ)
+    (by : IsSearchBy kind film before.search) (was : HasWorked before front found spent) (all : HasAll before) (learns : Learns before after) (limits : IsHand after) where
+  on : GoesOn before after
+  on = goes_learning before after learns
+
+  held : HasWorked after front found spent
+  held = moved_same before after on front found spent was (λ so. limits.few) (λ part i. (learns.only i).records part)
+
+  by_then : IsSearchBy kind film after.search
+  by_then = subst (IsSearchBy kind film) (sym on.search) by
+
+  -- each task that is asked for reaches, as each part has a record
+  reach : spent ≡ false → AllReach front found after.told
+  reach not task within wanted =
+      let count : length front.tasks ≡ length before.search.tasks
+      = ap (λ (tasks : List PathData). length tasks) (was.front_of.tasks ∙ sym by.tasks) in
+      let most = was.reach not task within wanted (all (suc task) (omega (arith, within, count))) in
+      omega (arith, most, on.told)
+
+  -- what closing up answered is known of all scenes
+  pub closed : bound ≤ known_of_all after after.lines
+      → ((line : ℕ) → front.root ≡ Some line → (bound ≤ (line_at after.lines line).bound) × (ahead (search_rules after.search) (all_scenes film) ≤ bound))
+      → (IsWhole after.search front after.told → AllReach front found after.told → after.told ≤ bound)
+      → IsClosed kind film after spent bound
+  closed most root reaches = record {
+    search = by_then;
+    limits = limits;
+    most = most;
+    whole = λ not. reaches (held.whole not) (reach not);
+    cut = held.cut;
+    reaches = λ so. (
+        let line = some_of front.root (held.root so) in
+        subst (λ (f : FilmData). ahead (search_rules after.search) (all_scenes f) ≤ bound) (sym by_then.same_film) (root line.0 line.1).1);
+  }
+
+-- the search stays from the way down the front to the end
+pub search_stays : (search : SearchData) (front down worked shut : HandData) (cursor : CursorData) → front.search ≡ search → GoesDown front down cursor
+    → GoesOn down worked → Learns worked shut → shut.search ≡ search
+search_stays search front down worked shut cursor same goes on learns =
+    ap (λ (h : HandData). h.search) learns.only ∙ on.search ∙ ap (λ (h : HandData). h.search) goes.only ∙ same
+
+-- ---- the end is told
 
 module _ (film : FilmData) (is : IsFilm film) where
   -- a bound on finishing all scenes is one on what any order pays
@@ -80,73 +106,108 @@ module _ (film : FilmData) (is : IsFilm film) where
       complete.0.steps
       ∙ steps_are_pay film is path.scenes (AllOnce-from_order (length film.casts) path.scenes is.scene_count.1 (complete_kept path complete).is_order)
 
--- what a world has at the end
-abbrev pub end_of : WorldData → Bool → EndedData
-end_of world spent = record {
-  order = (worker_at world 0).best.scenes;
-  cost = (worker_at world 0).best.paid;
-  bound = known_of_all world;
-  held = length world.lines;
-  lines = world.lines;
+-- what is known of all scenes, by the rules of the film and the kind
+known_by : (kind : Kind) (film : FilmData) (hand : HandData) (lines : List Line) → IsSearchBy kind film hand.search
+    → known (rules_of kind film) lines (all_scenes film) ≡ known_of_all hand lines
+known_by kind film hand lines by = λ i. known (rules_of (sym by.same_kind i) (sym by.same_film i)) lines (all_scenes (sym by.same_film i))
+
+-- what is told of a path and lines, with this bound
+abbrev pub end_of : PathData → List Line → ℕ → Bool → EndedData
+end_of best lines bound spent = record {
+  order = best.scenes;
+  cost = best.paid;
+  bound = bound;
+  held = length lines;
+  lines = lines;
   spent = spent;
 }
 
-module _ (kind : Kind) (film : FilmData) (world : WorldData) (spent : Bool) (number : ℕ) (shut : IsClosed kind film world spent number)
-    (bounds : BoundsFinish (search_rules world.search)) (begin : BeginLeast (search_rules world.search)) where
-  abbrev best : PathData
-  best = (worker_at world 0).best
+module _ (kind : Kind) (film : FilmData) (hand : HandData) (best : PathData) (lines : List Line) (spent : Bool) (number bound : ℕ)
+    (shut : IsClosed kind film hand spent number) (left : IsSettled hand best lines)
+    (bounds : BoundsFinish (search_rules hand.search)) (begin : BeginLeast (search_rules hand.search))
+    (whole_is : spent ≡ false → bound ≡ number) (read : List Line) (same : read ≡ lines)
+    (cut_is : spent ≡ true → bound ≡ known (rules_of kind film) read (all_scenes film)) where
+  abbrev is_film : IsFilm hand.search.film
+  is_film = shut.limits.film
 
-  abbrev is_film : IsFilm world.search.film
-  is_film = shut.alone.owned.sound.film
+  kept : IsKeptOrder hand.search.film best.scenes
+  kept = complete_kept hand.search.film is_film best left.complete
 
-  worker : IsWorker world.search world.least (worker_at world 0)
-  worker = shut.alone.owned.sound.workers 0 no_worker shut.alone.owned.one
+  pays : best.paid ≡ pay_of hand.search.film best.scenes
+  pays = complete_pays hand.search.film is_film best left.complete
 
-  least : best.paid ≡ world.least
-  least = best_is_least kind film world shut.alone
-
-  kept : IsKeptOrder world.search.film best.scenes
-  kept = complete_kept world.search.film is_film best worker.complete
-
-  pays : best.paid ≡ pay_of world.search.film best.scenes
-  pays = complete_pays world.search.film is_film best worker.complete
-
-  true_bound : IsLeast world.search.film (known_of_all world)
+  true_bound : IsLeast hand.search.film (known_of_all hand lines)
   true_bound =
-      least_from_finish world.search.film is_film (known_of_all world)
-      (known_is_true (search_rules world.search) world.lines is_film bounds begin shut.alone.owned.sound.lines (all_scenes world.search.film)
-      (LiesBelow-full (length world.search.film.casts)))
+      least_from_finish hand.search.film is_film (known_of_all hand lines)
+      (known_is_true (search_rules hand.search) lines is_film bounds begin left.justified (all_scenes hand.search.film)
+      (LiesBelow-full (length hand.search.film.casts)))
 
-  -- unless the budget was spent, the number is what is known of all scenes
-  pub number_is_known : spent ≡ false → number ≡ known_of_all world
-  number_is_known not = omega (arith, shut.whole not, shut.most, least, worker.no_less, pays, true_bound best.scenes kept)
+  most : number ≤ known_of_all hand lines
+  most = omega (arith, shut.most, known-grows (search_rules hand.search) hand.lines lines (all_scenes hand.search.film) left.grow)
 
-  -- the end, over the world's own film and kind
-  ends : EndsFrom world.search.kind world.search.film world.search.start world.search.cap (end_of world spent)
+  -- unless the budget was spent, the number is what is known of all scenes, and the cost
+  number_is_known : spent ≡ false → number ≡ known_of_all hand lines
+  number_is_known not = omega (arith, shut.whole not, most, left.least, pays, true_bound best.scenes kept)
+
+  number_is_cost : spent ≡ false → number ≡ best.paid
+  number_is_cost not = omega (arith, shut.whole not, most, left.least, pays, true_bound best.scenes kept)
+
+  bound_is_known : bound ≡ known_of_all hand lines
+  bound_is_known = elim (cases_Bool spent) [
+    | inl so ↦ cut_is so ∙ ap (λ (xs : List Line). known (rules_of kind film) xs (all_scenes film)) same ∙ known_by kind film hand lines shut.search
+    | inr not ↦ whole_is not ∙ number_is_known not
+  ]
+
+  full : spent ≡ true → length lines ≡ hand.search.cap
+  full so = omega (arith, (shut.cut so).full, left.grow.count, left.few)
+
+  candidates : length lines ≤ few (search_rules hand.search) hand.search.start
+  candidates =
+      lines_few (search_rules hand.search) hand.search.start (depth_of hand.search) hand.search.tasks is_film (tasks_apart hand.search shut.limits.tasks) lines
+      (λ part. (record_in hand part).last) (λ part. (record_in hand part).number) left.counts
+
+  of_set : (set : ℕ) → count_by (λ line. eqb line.set set) lines ≤ ways (search_rules hand.search) hand.search.start set
+  of_set =
+      lines_ways (search_rules hand.search) hand.search.start (depth_of hand.search) hand.search.tasks is_film (tasks_apart hand.search shut.limits.tasks) lines
+      (λ part. (record_in hand part).last) (λ part. (record_in hand part).number) left.counts
+
+  more : spent ≡ true → hand.search.cap < few (search_rules hand.search) hand.search.start
+  more so = omega (arith, full so, cut_has_more hand lines shut.limits left.counts (shut.cut so))
+
+  -- the end, over the search's own film and kind
+  ends : EndsFrom hand.search.kind hand.search.film hand.search.start hand.search.cap (end_of best lines bound spent)
   ends start paid = record {
     order = kept;
     cost = pays;
-    no_dearer = omega (arith, paid, least, worker.no_less, worker.no_more);
-    lines = shut.alone.owned.sound.lines;
-    bound = refl;
-    true_bound = true_bound;
+    no_dearer = omega (arith, paid, left.least, shut.limits.told);
+    lines = left.justified;
+    bound = bound_is_known;
+    true_bound = subst (IsLeast hand.search.film) (sym bound_is_known) true_bound;
     held = refl;
-    most = shut.alone.owned.sound.few;
-    candidates = subst (λ (cost : ℕ). length world.lines ≤ few (search_rules world.search) cost) (sym paid) (most_lines world shut.alone.owned.sound);
-    sets = λ set. subst (λ (cost : ℕ). count_by (λ line. eqb line.set set) world.lines ≤ ways (search_rules world.search) cost set) (sym paid)
-        (most_of_set world shut.alone.owned.sound set);
+    most = left.few;
+    candidates = subst (λ (cost : ℕ). length lines ≤ few (search_rules hand.search) cost) (sym paid) candidates;
+    sets = λ set. subst (λ (cost : ℕ). count_by (λ line. eqb line.set set) lines ≤ ways (search_rules hand.search) cost set) (sym paid) (of_set set);
     spent = λ so. record {
-      full = shut.full so;
-      fewer = subst (λ (cost : ℕ). world.search.cap < few (search_rules world.search) cost) (sym paid) (shut.fewer so);
-      reaches = (let up = shut.reaches so in omega (arith, up, shut.most));
+      full = full so;
+      fewer = subst (λ (cost : ℕ). hand.search.cap < few (search_rules hand.search) cost) (sym paid) (more so);
+      reaches = omega (arith, shut.reaches so, most, bound_is_known);
     };
-    closed = λ not. omega (arith, shut.whole not, shut.most, least, worker.no_less, pays, true_bound best.scenes kept);
+    closed = λ not. whole_is not ∙ number_is_cost not;
   }
 
-  pub tells : EndsFrom kind film world.search.start world.search.cap (end_of world spent)
+  pub tells : EndsFrom kind film hand.search.start hand.search.cap (end_of best lines bound spent)
   tells =
-      subst (λ (k : Kind). EndsFrom k film world.search.start world.search.cap (end_of world spent)) shut.alone.same_kind
-      (subst (λ (f : FilmData). EndsFrom world.search.kind f world.search.start world.search.cap (end_of world spent)) shut.alone.same_film ends)
+      subst (λ (k : Kind). EndsFrom k film hand.search.start hand.search.cap (end_of best lines bound spent)) shut.search.same_kind
+      (subst (λ (f : FilmData). EndsFrom hand.search.kind f hand.search.start hand.search.cap (end_of best lines bound spent)) shut.search.same_film ends)
+
+-- the end that was told is one of this hand
+pub told_by : (kind : Kind) (film : FilmData) (hand : HandData) (best : PathData) (lines : List Line) (spent : Bool) (number : ℕ) (result : Result Ended Memory)
+    → IfOk result (λ ended. (any : HandData) → IsClosed kind film any spent number → IsSettled any best lines
+    → EndsFrom kind film any.search.start any.search.cap (ended_data ended))
+    → IsClosed kind film hand spent number → IsSettled hand best lines
+    → IfOk result (λ ended. EndsFrom kind film hand.search.start hand.search.cap (ended_data ended))
+told_by kind film hand best lines spent number (Ok ended) every shut left = every hand shut left
+told_by kind film hand best lines spent number (Err memory) every shut left = tt
 
 -- the end that was told is one from the start path
 pub ended_from : (kind : Kind) (film : FilmData) (start : PathData) (cap : ℕ) (result : Result Ended Memory)

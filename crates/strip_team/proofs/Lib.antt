@@ -1,7 +1,10 @@
-pub mod OneWorker
 pub mod Moved
 pub mod Settled
 pub mod Begun
 pub mod Tasks
 pub mod Taken
+pub mod Unclaimed
+pub mod Merged
+pub mod Counted
 pub mod Closed
+pub mod OneWorker

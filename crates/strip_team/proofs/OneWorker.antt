@@ -1,129 +1,131 @@
--- Worlds of one worker: the parts that were claimed are those that have a record.
-use Rattle.std.proofs.Common.{◌≡◌, ◌≢◌, ℕ, zero, suc, ◌+◌, ◌<◌, ◌≤◌, Option, Some, None, List, length, inl, inr, sym, ap, ◌∙◌, subst, arith}
-use Rattle.std.proofs.lemmas.Bool.{cases_eq, cases_lt}
-use Rattle.std.specs.Option.{option_map, unwrap_or}
-use Rattle.strip_mask.specs.Sums.{sum_below}
-use Rattle.strip_mask.proofs.Sums.{sum_below-suc, sum_below-zero}
+-- Worlds of one worker: its hand has all records, and they count all lines.
+use Rattle.std.proofs.Common.{◌≡◌, ℕ, suc, ◌<◌, ◌≤◌, true, ltb, Option, Some, None, List, length, replicate, inl, inr, refl, sym, ap, ◌∙◌, subst, arith}
+use Rattle.std.specs.Prelude.{IsSome}
+use Rattle.std.proofs.lemmas.Bool.{cases_lt, cond-true, leb-true, lt-ltb}
+use Rattle.std.proofs.lemmas.List.{get_or-replicate, get_or_past, length-replicate}
+use Rattle.std.specs.Option.{unwrap_or}
 use Rattle.strip_kind.specs.declared.kind.Kind.{Kind}
 use Rattle.strip_pay.specs.Film.{FilmData}
 use Rattle.strip_film.specs.Path.{PathData}
 use Rattle.strip_lines.specs.Lines.{rules_of}
-use Rattle.strip_count.specs.Paths.{ComesAfter, few}
-use Rattle.strip_count.proofs.Shares.{is_candidate_from, lines_room}
-use Rattle.strip_hand.specs.Hand.{RecordData}
-use Rattle.strip_hand.specs.Search.{depth_of, search_rules}
-use Rattle.strip_race.specs.Hand.{hand_data, own_record, record_by}
-use Rattle.strip_race.specs.Sound.{IsSound}
-use Rattle.strip_race.specs.World.{PartData, WorldData, part_at, worker_at}
-use Rattle.strip_race.proofs.True.{tasks_apart}
-use Rattle.strip_front.specs.Calls.{count_in}
-use Rattle.strip_front.specs.Front.{FrontData}
+use Rattle.strip_lines.proofs.Grown.{grow_self}
+use Rattle.strip_count.specs.Parts.{AreCounted}
+use Rattle.strip_hand.specs.Calls.{Claims}
+use Rattle.strip_hand.specs.Hand.{RecordData, no_path_yet}
+use Rattle.strip_hand.specs.Search.{SearchData, depth_of, search_rules}
+use Rattle.strip_race.specs.declared.event.Limits.{Limits}
+use Rattle.strip_race.specs.declared.event.Reply.TheVariants.{Task}
+use Rattle.strip_race.specs.Hand.{IsOwned, hand_data, own_record, record_by}
+use Rattle.strip_race.specs.Opened.{opened}
+use Rattle.strip_race.specs.Sound.{IsWorker}
+use Rattle.strip_race.specs.Steps.{claim_reply, claimed}
+use Rattle.strip_race.specs.World.{PartData, WorldData, no_part, no_worker, part_at, worker_at}
 use Rattle.strip_front.specs.Tasks.{tasks_of}
-use Rattle.strip_team.specs.Team.{IsAlone, IsCut}
+use Rattle.strip_team.specs.Closed.{AreCountedBy, HasAll, IsSettled, record_in}
+use Rattle.strip_team.specs.Team.{HasFront, IsSearchBy}
 
 -- ---- records
 
-record_of_first : (part : PartData) → part.claimer ≡ Some 0 → own_record part ≡ Some (record { last = part.last; number = part.number })
+abbrev of_part : PartData → RecordData
+of_part part = record { last = part.last; number = part.number }
+
+record_of_first : (part : PartData) → part.claimer ≡ Some 0 → own_record part ≡ Some (of_part part)
 record_of_first part claimed = ap (λ (claimer : Option ℕ). record_by claimer part) claimed
 
 record_of_nobody : (part : PartData) → part.claimer ≡ None → own_record part ≡ None
 record_of_nobody part free = ap (λ (claimer : Option ℕ). record_by claimer part) free
 
--- a record has its part's last path
-record_last : (claimer : Option ℕ) (part : PartData) (entry : RecordData) → record_by claimer part ≡ Some entry → entry.last ≡ part.last
-record_last None part entry is = absurd (let e : None ≡ Some entry = is in cc)
-record_last (Some zero) part entry is = (let e : Some (record { last = part.last; number = part.number }) ≡ Some entry = is in cc)
-record_last (Some (suc who)) part entry is = absurd (let e : None ≡ Some entry = is in cc)
-
--- where all values but the first are 0, the sum is the first at most
-only_first : (n : ℕ) (f : ℕ → ℕ) → ((i : ℕ) → 0 < i → i < suc n → f i ≡ 0) → sum_below (suc n) f ≤ f 0
-only_first zero f none = omega (arith, sum_below-suc 0 f, sum_below-zero f)
-only_first (suc n) f none =
-    omega (arith, sum_below-suc (suc n) f, none (suc n) (omega arith) (omega arith), only_first n f (λ i some within. none i some (omega (arith, within))))
-
-module _ (kind : Kind) (film : FilmData) (world : WorldData) (is : IsAlone kind film world) where
-  abbrev sound : IsSound world
-  sound = is.owned.sound
-
-  -- it goes by the rules of the film and the kind
-  pub rules_alone : search_rules world.search ≡ rules_of kind film
-  rules_alone = λ i. rules_of (is.same_kind i) (is.same_film i)
-
+module _ (world : WorldData) (owned : IsOwned world) (one_worker : length world.workers ≡ 1) where
   -- a part below the next one has a record
-  own_part : (part : ℕ) → part < world.next
-      → (hand_data world).records part ≡ Some (record { last = (part_at world part).last; number = (part_at world part).number })
+  own_part : (part : ℕ) → part < world.next → (hand_data world).records part ≡ Some (of_part (part_at world part))
   own_part part below =
-      let was = (sound.parts part (omega (arith, below, sound.next))).claimer below in
-      let first : was.0 ≡ 0 = omega (arith, was.1, is.one_worker) in
+      let was = (owned.sound.parts part (omega (arith, below, owned.sound.next))).claimer below in
+      let first : was.0 ≡ 0 = omega (arith, was.1, one_worker) in
       record_of_first (part_at world part) (was.2 ∙ ap Some first)
 
-  pub claimed_recorded : (part : ℕ) → part < world.next → (entry : RecordData) × ((hand_data world).records part ≡ Some entry)
-  claimed_recorded part below = (record { last = (part_at world part).last; number = (part_at world part).number }, own_part part below)
+  -- a part, whether claimed or not, and what stands past the last one, is as its record
+  as_part : (part : ℕ) → record_in (hand_data world) part ≡ of_part (part_at world part)
+  as_part part = elim (cases_lt part world.next) [
+    | inl below ↦ ap (λ (entry : Option RecordData). unwrap_or entry no_path_yet) (own_part part below)
+    | inr above ↦ elim (cases_lt part (length world.parts)) [
+      | inl within ↦ (
+          let free = (owned.sound.parts part within).free above in
+          ap (λ (entry : Option RecordData). unwrap_or entry no_path_yet) (record_of_nobody (part_at world part) free.0)
+          ∙ (λ i. record { last = sym free.1 i; number = sym free.2 i }))
+      | inr past ↦ (
+          let none : part_at world part ≡ no_part = get_or_past world.parts part no_part past in
+          ap (λ (p : PartData). unwrap_or (own_record p) no_path_yet) none ∙ ap of_part (sym none))
+    ]
+  ]
 
-  -- another part has none
-  pub free_unrecorded : (part : ℕ) → part < length world.parts → world.next ≤ part → (hand_data world).records part ≡ None
-  free_unrecorded part within above = record_of_nobody (part_at world part) ((sound.parts part within).free above).0
+  -- its records count all lines
+  pub owns_all : AreCountedBy (hand_data world) world.lines
+  owns_all =
+      subst (λ (records : ℕ → RecordData). AreCounted (search_rules world.search) world.search.start (depth_of world.search) world.search.tasks world.lines
+      (λ part. (records part).last) (λ part. (records part).number)) (λ i part. sym (as_part part) i) owned.sound.counts
 
-  pub part_count : length world.parts ≡ suc (length (tasks_of (rules_of kind film)))
-  part_count = sound.part_count ∙ ap (λ (tasks : List PathData). suc (length tasks)) is.tasks
+  -- where it found that no part is left, it has a record of each
+  pub has_all : (hand_data world).ended ≡ true → HasAll (hand_data world)
+  has_all ended part within =
+      let all : length world.parts ≤ world.next = leb-true (length world.parts) world.next ended in
+      subst IsSome (sym (own_part part (omega (arith, all, within, owned.sound.part_count)))) refl
 
-  -- where only the front was claimed, all lines are its own
-  pub front_has_all : world.next ≡ 1 → length world.lines ≤ count_in (hand_data world) 0
-  front_has_all one =
-      let own : count_in (hand_data world) 0 ≡ (part_at world 0).number
-      = ap (λ (entry : Option RecordData). unwrap_or (option_map (λ (e : RecordData). e.number) entry) 0) (own_part 0 (omega (arith, one))) in
-      let most : sum_below (suc (length world.search.tasks)) (λ part. (part_at world part).number) ≤ (part_at world 0).number
-      = only_first (length world.search.tasks) (λ part. (part_at world part).number)
-      (λ part some within. ((sound.parts part (omega (arith, within, sound.part_count))).free (omega (arith, one, some))).2) in
-      omega (arith, own, most, sound.counts.total)
+  worker : IsWorker world.search world.least (worker_at world 0)
+  worker = owned.sound.workers 0 no_worker owned.one
 
   -- the least cost is that of the worker's best path
-  pub best_is_least : (worker_at world 0).best.paid ≡ world.least
+  best_is_least : (worker_at world 0).best.paid ≡ world.least
   best_is_least =
-      let first : sound.least.who ≡ 0 = omega (arith, sound.least.one, is.one_worker) in
-      ap (λ (who : ℕ). (worker_at world who).best.paid) (sym first) ∙ sound.least.best
+      let first : owned.sound.least.who ≡ 0 = omega (arith, owned.sound.least.one, one_worker) in
+      ap (λ (who : ℕ). (worker_at world who).best.paid) (sym first) ∙ owned.sound.least.best
 
--- where each part that has a record keeps one, no less is claimed
-next_no_less : (kind : Kind) (film : FilmData) (world after : WorldData) → IsAlone kind film world → IsAlone kind film after
-    → ((part : ℕ) → part < world.next → (entry : RecordData) × ((hand_data after).records part ≡ Some entry)) → world.next ≤ after.next
-next_no_less kind film world after was is keep = elim (cases_lt after.next world.next) [
-  | inr up ↦ up
-  | inl less ↦ absurd (
-      let within : after.next < length after.parts
-      = omega (arith, less, was.owned.sound.next, part_count kind film world was, part_count kind film after is) in
-      let some = keep after.next less in
-      let none : (hand_data after).records after.next ≡ None = free_unrecorded kind film after is after.next within (omega arith) in
-      let both : None ≡ Some some.0 = sym none ∙ some.1 in
-      cc)
-]
+  pub settled_alone : IsSettled (hand_data world) (worker_at world 0).best world.lines
+  settled_alone = record {
+    complete = worker.complete;
+    least = omega (arith, best_is_least, worker.no_less);
+    grow = grow_self world.lines;
+    justified = owned.sound.lines;
+    few = owned.sound.few;
+    counts = owns_all;
+  }
 
--- where a claimed part keeps a record, and the records of the others stay, no further part is claimed
-pub next_stays : (kind : Kind) (film : FilmData) (world after : WorldData) (part : ℕ) → IsAlone kind film world → IsAlone kind film after
-    → part < world.next → ((entry : RecordData) × ((hand_data after).records part ≡ Some entry))
-    → ((other : ℕ) → other ≢ part → (hand_data after).records other ≡ (hand_data world).records other) → after.next ≡ world.next
-next_stays kind film world after part was is claimed kept others =
-    let up : world.next ≤ after.next = next_no_less kind film world after was is (λ other below. elim (cases_eq other part) [
-      | inl same ↦ (kept.0, ap (hand_data after).records same ∙ kept.1)
-      | inr apart ↦ (let some = claimed_recorded kind film world was other below in (some.0, others other apart ∙ some.1))
-    ]) in
-    let down : after.next ≤ world.next = next_no_less kind film after world is was (λ other below. elim (cases_eq other part) [
-      | inl same ↦ claimed_recorded kind film world was other (omega (arith, same, claimed))
-      | inr apart ↦ (let some = claimed_recorded kind film after is other below in (some.0, sym (others other apart) ∙ some.1))
-    ]) in
-    omega (arith, up, down)
+-- ---- the world that a search opens with
 
--- ---- counts
+task_of : (one other : Option ℕ) → Task one ≡ Task other → one ≡ other
+task_of one other same = cc
 
--- where the budget was spent, there are more candidates than lines
-pub cut_has_more : (kind : Kind) (film : FilmData) (world : WorldData) (front : FrontData) (parts : ℕ) → IsAlone kind film world
-    → IsCut (hand_data world) front parts → parts ≤ length world.parts → world.search.cap < few (search_rules world.search) world.search.start
-cut_has_more kind film world front parts is cut most =
-    let last : cut.entry.last ≡ (part_at world cut.part).last = record_last (part_at world cut.part).claimer (part_at world cut.part) cut.entry cut.recorded in
-    let room : length world.lines + 1 ≤ few (search_rules world.search) world.search.start
-    = lines_room (search_rules world.search) world.search.start (depth_of world.search) world.search.tasks is.owned.sound.film
-    (tasks_apart world.search is.owned.sound.tasks) world.lines
-    (λ p. (part_at world p).last) (λ p. (part_at world p).number) is.owned.sound.counts cut.part cut.path
-    (omega (arith, cut.first, most, is.owned.sound.part_count)) (cut.is_open.0, cut.some)
-    (subst (λ (path : Option PathData). ComesAfter (search_rules world.search) path cut.path) last cut.later) cut.lies
-    (is_candidate_from (search_rules world.search) world.search.start cut.path (cut.is_open, cut.below)) in
-    omega (arith, room, cut.full)
+-- nobody has claimed a part of it
+nobody_there : (film : FilmData) (kind : Kind) (start : PathData) (tasks : List PathData) (limits : Limits) (part : ℕ)
+    → (hand_data (opened film kind start tasks limits)).records part ≡ None
+nobody_there film kind start tasks limits part =
+    let free : part_at (opened film kind start tasks limits) part ≡ no_part = elim (cases_lt part (suc (length tasks))) [
+      | inl within ↦ get_or-replicate (suc (length tasks)) part no_part no_part within
+      | inr past ↦ get_or_past (replicate (suc (length tasks)) no_part) part no_part (omega (arith, past, length-replicate (suc (length tasks)) no_part))
+    ] in
+    ap own_record free
+
+-- a claim takes the front first
+pub front_claimed : (film : FilmData) (kind : Kind) (start : PathData) (tasks : List PathData) (limits : Limits) (world after : WorldData) (reply : Option ℕ)
+    → world ≡ opened film kind start tasks limits → (after ≡ claimed world 0) × (Task reply ≡ Task (claim_reply world))
+    → Claims (hand_data world) reply (hand_data after) → HasFront (hand_data after)
+front_claimed film kind start tasks limits world after reply is step claims =
+    let count : length (replicate (suc (length tasks)) no_part) ≡ suc (length tasks) = length-replicate (suc (length tasks)) no_part in
+    let first : claim_reply world ≡ Some 0
+    = ap claim_reply is
+    ∙ cond-true (ltb 0 (length (replicate (suc (length tasks)) no_part))) (Some 0) None
+    (lt-ltb 0 (length (replicate (suc (length tasks)) no_part)) (omega (arith, count))) in
+    let takes : Claims (hand_data world) (Some 0) (hand_data after)
+    = subst (λ (r : Option ℕ). Claims (hand_data world) r (hand_data after)) (task_of reply (claim_reply world) step.1 ∙ first) claims in
+    record {
+      front = takes.3;
+      others = λ part apart. takes.4 part apart ∙ ap (λ (w : WorldData). (hand_data w).records part) is ∙ nobody_there film kind start tasks limits part;
+    }
+
+-- its search is one of the film by its tasks
+pub search_by : (film : FilmData) (kind : Kind) (search : SearchData) (cap start : ℕ)
+    → search ≡ record { film = film; kind = kind; cap = cap; start = start; tasks = tasks_of (rules_of kind film) } → IsSearchBy kind film search
+search_by film kind search cap start is = record {
+  same_film = ap (λ (s : SearchData). s.film) is;
+  same_kind = ap (λ (s : SearchData). s.kind) is;
+  tasks = ap (λ (s : SearchData). s.tasks) is ∙ (λ i. tasks_of (search_rules (sym is i)));
+}

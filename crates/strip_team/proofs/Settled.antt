@@ -1,10 +1,11 @@
--- A further task is walked, or passed over where it isn't asked for.
-use Rattle.std.proofs.Common.{◌≡◌, ◌≢◌, ℕ, suc, ◌+◌, ◌<◌, ◌≤◌, Bool, true, false, ◌||◌, ◌⊎◌, Option, Some, None, List, length, slice_set, slice_index, inl, inr, refl, sym, ap, ◌∙◌, subst, arith}
+-- A part was claimed, and its task is walked, or passed over where it isn't asked for.
+use Rattle.std.proofs.Common.{◌≡◌, ◌≢◌, ℕ, suc, ◌+◌, ◌<◌, ◌≤◌, Bool, true, false, ◌||◌, ◌⊎◌, Option, Some, None, Ok, List, length, slice_set, slice_index, inl, inr, refl, sym, ap, ◌∙◌, subst, arith}
 use Rattle.std.specs.Prelude.{IsSome}
 use Rattle.std.proofs.lemmas.Bool.{cases_eq}
 use Rattle.std.proofs.lemmas.List.{length-set, get_or-set_same, get_or-set_other}
 use Rattle.strip_film.specs.Shown.{CursorData}
 use Rattle.strip_lines.specs.Lines.{known}
+use Rattle.strip_hand.specs.Calls.{Claims}
 use Rattle.strip_hand.specs.Hand.{HandData}
 use Rattle.strip_hand.specs.Search.{search_rules}
 use Rattle.strip_front.specs.Calls.{AreFound}
@@ -13,8 +14,8 @@ use Rattle.strip_front.specs.Filled.{IsFilled}
 use Rattle.strip_walk.specs.declared.found.Found.{Found}
 use Rattle.strip_walk.specs.Found.{IsCutShort, IsFound}
 use Rattle.strip_walk.proofs.Bounds.{bound_known}
-use Rattle.strip_team.specs.Team.{HasWalked, IsCut, ReachFound, WalksTask}
-use Rattle.strip_team.proofs.Moved.{moved}
+use Rattle.strip_team.specs.Team.{GoesOn, HasWorked, IsCut, ReachFound, WalksTask}
+use Rattle.strip_team.proofs.Moved.{carried, cut_still, found_still, goes_claimed, goes_walked, moved}
 
 -- what is there is some number
 pub some_of : (x : Option ℕ) → IsSome x → (n : ℕ) × (x ≡ Some n)
@@ -39,108 +40,88 @@ wanted_root hand front task filled within wanted = elim ((filled.wanted task wit
   | inr one ↦ one.1
 ]
 
-both_false : (a b c : Bool) → c ≡ (a || b) → c ≡ false → (a ≡ false) × (b ≡ false)
+pub both_false : (a b c : Bool) → c ≡ (a || b) → c ≡ false → (a ≡ false) × (b ≡ false)
 both_false false b c is not = (refl, sym is ∙ not)
 both_false true b c is not = absurd (let e : true ≡ false = sym is ∙ not in cc)
 
-one_true : (a b c : Bool) → c ≡ (a || b) → c ≡ true → (a ≡ true) ⊎ (b ≡ true)
+pub one_true : (a b c : Bool) → c ≡ (a || b) → c ≡ true → (a ≡ true) ⊎ (b ≡ true)
 one_true false b c is so = inr (sym is ∙ so)
 one_true true b c is so = inl refl
 
-module _ (hand : HandData) (front : FrontData) (found : List ℕ) (task : ℕ) (spent : Bool)
-    (was : HasWalked hand front found (suc task) spent) where
-  more_parts : (most : ℕ) → suc task ≤ most → IsCut hand front (suc task) → IsCut hand front most
-  more_parts most up cut = record {
-    full = cut.full;
-    root = cut.root;
-    part = cut.part;
-    first = omega (arith, up, cut.first);
-    entry = cut.entry;
-    recorded = cut.recorded;
-    path = cut.path;
-    is_open = cut.is_open;
-    lies = cut.lies;
-    later = cut.later;
-    some = cut.some;
-    below = cut.below;
+next_apart : (other task : ℕ) → other ≢ task → suc other ≢ suc task
+next_apart other task apart same = apart (omega (arith, same))
+
+-- a part is passed over that is the front, or whose task isn't asked for
+pub passed : (before claimed : HandData) (front : FrontData) (found : List ℕ) (part : ℕ) (spent : Bool) → HasWorked before front found spent
+    → Claims before (Some part) claimed → length claimed.lines ≤ claimed.search.cap → ((task : ℕ) → part ≡ suc task → is_wanted front task ≡ false)
+    → HasWorked claimed front found spent
+passed before claimed front found part spent was claims few unwanted =
+    moved before claimed (goes_claimed before claimed part claims) front found spent was (λ so. few)
+    (λ not task within wanted recorded. elim (cases_eq (suc task) part) [
+      | inl same ↦ absurd (let e : true ≡ false = sym wanted ∙ unwanted task (sym same) in cc)
+      | inr apart ↦ omega (arith, ap (λ (h : HandData). h.told) claims.0, was.reach not task within wanted (subst IsSome (claims.4 (suc task) apart) recorded))
+    ])
+
+module _ (before claimed after : HandData) (front : FrontData) (found : List ℕ) (task : ℕ) (spent : Bool) (answer : Found)
+    (was : HasWorked before front found spent) (claims : Claims before (Some (suc task)) claimed)
+    (walks : WalksTask claimed (suc task) (task_at front task) (Ok answer) after) (few : length after.lines ≤ after.search.cap)
+    (within : task < length front.tasks) (wanted : is_wanted front task ≡ true) where
+  abbrev cursor : CursorData
+  cursor = walks.0
+
+  abbrev is : IsFound after cursor (task_at front task) answer
+  is = walks.1.1
+
+  on : GoesOn before after
+  on = goes_walked before claimed after (suc task) claims (task_at front task, cursor, walks.1.0)
+
+  others : (other : ℕ) → other ≢ task → after.records (suc other) ≡ before.records (suc other)
+  others other apart =
+      walks.1.0.others (suc other) (next_apart other task apart) ∙ claims.4 (suc other) (next_apart other task apart)
+
+  abbrev more : List ℕ
+  more = slice_set found task answer.bound
+
+  found_here : slice_index more task ≡ answer.bound
+  found_here = get_or-set_same found task answer.bound 0 (omega (arith, within, was.long))
+
+  found_there : (other : ℕ) → other ≢ task → slice_index more other ≡ slice_index found other
+  found_there other apart = get_or-set_other found task other answer.bound 0 apart
+
+  known_then : AreFound after front more
+  known_then =
+      found_with after front found task answer.bound (omega (arith, within, was.long))
+      (bound_known (search_rules after.search) after.lines (task_at front task) answer.line answer.bound (λ n line. (is.line n line).0) is.none)
+      (found_still before after on front found was.known)
+
+  reach_then : spent ≡ false → answer.spent ≡ false → ReachFound after front more
+  reach_then not not_now other inside asked recorded = elim (cases_eq other task) [
+    | inl same ↦ subst (λ (t : ℕ). after.told ≤ (task_at front t).paid + slice_index more t) (sym same) (omega (arith, is.enough not_now, found_here))
+    | inr apart ↦ omega (arith, on.told, was.reach not other inside asked (subst IsSome (others other apart) recorded), found_there other apart)
+  ]
+
+  cut_then : IsCutShort after cursor → IsCut after
+  cut_then short = record {
+    full = short.full;
+    part = cursor.task;
+    entry = record { last = cursor.last; number = walks.1.0.stands.0 };
+    recorded = walks.1.0.stands.1;
+    path = short.path;
+    is_open = short.is_open;
+    lies = short.lies;
+    later = short.later;
+    some = short.some;
+    below = short.below;
   }
 
-  -- a task that isn't asked for is passed over
-  pub passed : is_wanted front task ≡ false → HasWalked hand front found (suc (suc task)) spent
-  passed unwanted = record {
-    front_of = was.front_of;
-    filled = was.filled;
-    long = was.long;
-    known = was.known;
-    whole = was.whole;
-    reach = λ not other first within wanted. elim (cases_eq other task) [
-      | inl same ↦ absurd (let e : true ≡ false = sym wanted ∙ ap (is_wanted front) same ∙ unwanted in cc)
-      | inr apart ↦ was.reach not other (omega (arith, first, apart)) within wanted
-    ];
-    cut = λ is. more_parts (suc (suc task)) (omega arith) (was.cut is);
-  }
-
-  module _ (cursor : CursorData) (answer : Found) (within : task < length front.tasks) (wanted : is_wanted front task ≡ true)
-      (at : cursor.task ≡ suc task) (stands : (number : ℕ) × (hand.records cursor.task ≡ Some (record { last = cursor.last; number = number })))
-      (is : IsFound hand cursor (task_at front task) answer) where
-    abbrev more : List ℕ
-    more = slice_set found task answer.bound
-
-    found_here : slice_index more task ≡ answer.bound
-    found_here = get_or-set_same found task answer.bound 0 (omega (arith, within, was.long))
-
-    found_there : (other : ℕ) → other ≢ task → slice_index more other ≡ slice_index found other
-    found_there other apart = get_or-set_other found task other answer.bound 0 apart
-
-    known_then : AreFound hand front more
-    known_then =
-        found_with hand front found task answer.bound (omega (arith, within, was.long))
-        (bound_known (search_rules hand.search) hand.lines (task_at front task) answer.line answer.bound (λ n line. (is.line n line).0) is.none)
-        was.known
-
-    reach_then : spent ≡ false → answer.spent ≡ false → ReachFound hand front more (suc (suc task))
-    reach_then not not_now other first inside asked = elim (cases_eq other task) [
-      | inl same ↦ subst (λ (t : ℕ). hand.told ≤ (task_at front t).paid + slice_index more t) (sym same) (omega (arith, is.enough not_now, found_here))
-      | inr apart ↦ omega (arith, was.reach not other (omega (arith, first, apart)) inside asked, found_there other apart)
-    ]
-
-    cut_then : IsCutShort hand cursor → IsCut hand front (suc (suc task))
-    cut_then short = record {
-      full = short.full;
-      root = wanted_root hand front task was.filled within wanted;
-      part = cursor.task;
-      first = omega (arith, at);
-      entry = record { last = cursor.last; number = stands.0 };
-      recorded = stands.1;
-      path = short.path;
-      is_open = short.is_open;
-      lies = short.lies;
-      later = short.later;
-      some = short.some;
-      below = short.below;
-    }
-
-    settled : (after : Bool) → after ≡ (spent || answer.spent) → HasWalked hand front more (suc (suc task)) after
-    settled after by = record {
-      front_of = was.front_of;
-      filled = was.filled;
-      long = length-set found task answer.bound ∙ was.long;
-      known = known_then;
-      whole = λ not. was.whole (both_false spent answer.spent after by not).0;
-      reach = λ not. (let each = both_false spent answer.spent after by not in reach_then each.0 each.1);
-      cut = λ so. elim (one_true spent answer.spent after by so) [
-        | inl before ↦ more_parts (suc (suc task)) (omega arith) (was.cut before)
+  -- a task that is asked for was walked
+  pub settled : (short : Bool) → short ≡ (spent || answer.spent) → HasWorked after front more short
+  settled short by =
+      carried before after on front found more spent short was (length-set found task answer.bound ∙ was.long) known_then
+      (λ not. (both_false spent answer.spent short by not).0)
+      (λ not. (let each = both_false spent answer.spent short by not in reach_then each.0 each.1))
+      (λ so. wanted_root before front task was.filled within wanted)
+      (λ so. elim (one_true spent answer.spent short by so) [
+        | inl earlier ↦ cut_still before after on few (was.cut earlier)
         | inr now ↦ cut_then (is.spent now)
-      ];
-    }
-
--- a task that is asked for was walked
-pub walked : (before after : HandData) (front : FrontData) (found : List ℕ) (task : ℕ) (spent : Bool) (answer : Found) (spent_then : Bool)
-    → length after.lines ≤ after.search.cap → task < length front.tasks → is_wanted front task ≡ true
-    → WalksTask before (suc task) (task_at front task) answer after → HasWalked before front found (suc task) spent
-    → spent_then ≡ (spent || answer.spent) → HasWalked after front (slice_set found task answer.bound) (suc (suc task)) spent_then
-walked before after front found task spent answer spent_then few within wanted walks was by =
-    settled after front found task spent
-    (moved before after front found (suc task) spent walks.1.search walks.1.told walks.1.grow few
-    (λ part first. walks.1.others part (λ same. absurd (omega (arith, first, same)))) was)
-    walks.0 answer within wanted walks.1.task walks.1.stands walks.2 spent_then by
+      ])

@@ -1,5 +1,5 @@
--- The next task is claimed, and may be walked.
-use Rattle.std.proofs.Common.{◌≡◌, ℕ, suc, ◌+◌, ◌<◌, Bool, true, Option, Some, Result, Ok, Err, IfOk, List, length, slice_index_or, slice_set, ◌||◌, false, sym, ap, ◌∙◌, subst, arith}
+-- A part was claimed: what may be walked, and what a walk leaves.
+use Rattle.std.proofs.Common.{◌≡◌, ℕ, suc, ◌<◌, Bool, true, Some, Result, Ok, List, length, slice_index_or, slice_set, false, ◌||◌, inl, refl, sym, ap, ◌∙◌, subst, arith}
 use Rattle.std.proofs.lemmas.List.{get_or-map, get_or_default}
 use Rattle.strip_kind.specs.declared.kind.Kind.{Kind}
 use Rattle.strip_pay.specs.Film.{FilmData}
@@ -8,41 +8,52 @@ use Rattle.strip_film.specs.declared.path.Path.{Path}
 use Rattle.strip_film.specs.Film.{IsFilm}
 use Rattle.strip_film.specs.Path.{PathData}
 use Rattle.strip_film.specs.Shown.{CursorData, path_data}
-use Rattle.strip_lines.specs.Lines.{GrowTo}
+use Rattle.strip_lines.specs.Lines.{rules_of}
 use Rattle.strip_lines.proofs.Grown.{grow_self}
 use Rattle.strip_count.specs.Parts.{no_task}
 use Rattle.strip_hand.specs.Calls.{Claims}
-use Rattle.strip_hand.specs.Hand.{HandData, no_path_yet}
-use Rattle.strip_race.specs.declared.event.Reply.TheVariants.{Task}
-use Rattle.strip_race.specs.Hand.{IsOwned, hand_data}
-use Rattle.strip_race.specs.Steps.{claim_reply, claimed}
-use Rattle.strip_race.specs.World.{WorldData}
+use Rattle.strip_hand.specs.Hand.{HandData, IsHand, no_path_yet}
+use Rattle.strip_hand.specs.Search.{SearchData, search_rules}
 use Rattle.strip_front.specs.declared.front.Front.{Front}
 use Rattle.strip_front.specs.Shown.{front_data}
 use Rattle.strip_front.specs.Front.{FrontData, is_wanted, task_at}
 use Rattle.strip_front.specs.Tasks.{tasks_of}
 use Rattle.strip_front.proofs.Tasks.{tasks_open}
 use Rattle.strip_walk.specs.declared.found.Found.{Found}
-use Rattle.strip_walk.specs.Found.{IsFound, MayExplore}
-use Rattle.strip_walk.specs.Walked.{Explores, Walks}
-use Rattle.strip_team.specs.Team.{HasWalked, IsAlone, IsUnderWay, WalksTask, beginning}
-use Rattle.strip_team.proofs.OneWorker.{next_stays, rules_alone}
-use Rattle.strip_team.proofs.Begun.{alone_after, claim_takes}
-use Rattle.strip_team.proofs.Moved.{moved}
-use Rattle.strip_team.proofs.Settled.{passed, walked}
+use Rattle.strip_walk.specs.Found.{MayExplore}
+use Rattle.strip_walk.specs.Walked.{Explores}
+use Rattle.strip_team.specs.Team.{HasClaimed, HasWorked, IsSearchBy, WalksPart, WalksTask, beginning}
+use Rattle.strip_team.proofs.Settled.{passed, settled}
 use Rattle.strip_team.proofs.Tasks.{may_walk_task}
 
 -- a walk from where a part begins
 pub explores_task : (before : HandData) (part : ℕ) (path : PathData) (result : Result Found Memory) (after : HandData)
     (start cursor : CursorData) (running : PathData) → start ≡ beginning part → running ≡ path
-    → Explores before start running result after cursor → IfOk result (λ found. WalksTask before part path found after)
-explores_task before part path (Ok found) after start cursor running from same explores = (
+    → Explores before start running result after cursor → WalksTask before part path result after
+explores_task before part path result after start cursor running from same explores = (
   cursor,
-  subst (λ (s : CursorData). Walks before s path after cursor) from
-      (subst (λ (p : PathData). Walks before start p after cursor) same explores.0),
-  subst (λ (p : PathData). IsFound after cursor p found) same explores.1,
+  subst (λ (p : PathData). Explores before (beginning part) p result after cursor) same
+      (subst (λ (s : CursorData). Explores before s running result after cursor) from explores),
 )
-explores_task before part path (Err memory) after start cursor running from same explores = tt
+
+-- nothing is walked of a part
+pub stands_still : (hand : HandData) (part : ℕ) → hand.records part ≡ Some no_path_yet → WalksPart hand part hand
+stands_still hand part recorded = (
+  no_task,
+  beginning part,
+  record {
+    search = refl;
+    ended = refl;
+    told = omega arith;
+    grow = grow_self hand.lines;
+    refusals = omega arith;
+    task = refl;
+    stands = (0, recorded);
+    others = λ other apart. refl;
+    last = inl refl;
+    full = λ so. refl;
+  },
+)
 
 -- the path and the flag that stand at a place of a front
 pub task_read : (front : Front) (task : ℕ) (path : Path) → task < length front.tasks.items → path ≡ slice_index_or front.tasks.items task path
@@ -53,62 +64,46 @@ pub wanted_read : (front : Front) (task : ℕ) (flag : Bool) → task < length f
     → is_wanted (front_data front) task ≡ flag
 wanted_read front task flag within read = get_or_default front.wanted.items task false flag within ∙ sym read
 
-module _ (kind : Kind) (film : FilmData) (world taken : WorldData) (reply : Option ℕ) (front : FrontData) (found : List ℕ) (task : ℕ) (spent : Bool)
-    (way : IsUnderWay kind film world front found (suc task) spent) (within : task < length front.tasks)
-    (owned : IsOwned taken) (workers : length taken.workers ≡ length world.workers)
-    (step : (taken ≡ claimed world 0) × (Task reply ≡ Task (claim_reply world))) (claims : Claims (hand_data world) reply (hand_data taken)) where
-  tasks_same : world.search.tasks ≡ front.tasks
-  tasks_same = way.alone.tasks ∙ sym (ap tasks_of (rules_alone kind film world way.alone)) ∙ sym way.walked.front_of.tasks
+-- a part that was claimed, and its task
+module _ (kind : Kind) (film : FilmData) (hand : HandData) (front : FrontData) (found : List ℕ) (spent : Bool) (part task : ℕ) (is : part ≡ suc task)
+    (by : IsSearchBy kind film hand.search) (limits : IsHand hand) (taken : HasClaimed hand front found spent part) where
+  abbrev claims : Claims taken.0 (Some (suc task)) hand
+  claims = subst (λ (p : ℕ). Claims taken.0 (Some p) hand) is taken.2
 
-  takes : (taken.next ≡ world.next + 1) × Claims (hand_data world) (Some world.next) (hand_data taken)
-  takes =
-      claim_takes world taken reply
-      (omega (arith, way.next, within, ap (λ (tasks : List PathData). length tasks) tasks_same, way.alone.owned.sound.part_count)) step.0 step.1 claims
+  same_search : hand.search ≡ taken.0.search
+  same_search = ap (λ (h : HandData). h.search) claims.0
 
-  search_taken : taken.search ≡ world.search
-  search_taken = ap (λ (h : HandData). h.search) takes.1.0
+  rules_same : search_rules hand.search ≡ rules_of kind film
+  rules_same = λ i. rules_of (by.same_kind i) (by.same_film i)
 
-  pub alone_taken : IsAlone kind film taken
-  alone_taken = alone_after kind film world taken way.alone owned workers search_taken
+  of_film : front.tasks ≡ tasks_of (rules_of kind film)
+  of_film =
+      taken.1.front_of.tasks ∙ ap (λ (search : SearchData). tasks_of (search_rules search)) (sym same_search)
+      ∙ ap tasks_of rules_same
 
-  pub next_taken : taken.next ≡ suc (suc task)
-  next_taken = takes.0 ∙ omega (arith, way.next)
+  pub within : task < length front.tasks
+  within =
+      omega (
+        arith,
+        claims.1,
+        ap (λ (search : SearchData). length search.tasks) same_search,
+        ap (λ (tasks : List PathData). length tasks) (by.tasks ∙ ap tasks_of rules_same ∙ sym of_film),
+      )
 
-  -- the task has a record, and nothing in it yet
-  pub record_taken : (hand_data taken).records (suc task) ≡ Some no_path_yet
-  record_taken = subst (λ (part : ℕ). (hand_data taken).records part ≡ Some no_path_yet) way.next takes.1.3
+  pub may_walk : MayExplore hand (beginning part) (task_at front task)
+  may_walk =
+      subst (λ (p : ℕ). MayExplore hand (beginning p) (task_at front task)) (sym is)
+      (may_walk_task kind film front task of_film within (tasks_open film (subst IsFilm by.same_film limits.film) kind) hand (by.same_film, by.same_kind)
+      (by.tasks ∙ ap tasks_of rules_same) claims.3)
 
-  -- what holds of the parts before stays
-  pub walked_taken : HasWalked (hand_data taken) front found (suc task) spent
-  walked_taken =
-      moved (hand_data world) (hand_data taken) front found (suc task) spent search_taken
-      (omega (arith, ap (λ (h : HandData). h.told) takes.1.0)) (subst (GrowTo world.lines) (sym (ap (λ (h : HandData). h.lines) takes.1.0)) (grow_self world.lines))
-      owned.sound.few (λ part first. takes.1.4 part (λ same. absurd (omega (arith, first, same, way.next)))) way.walked
+  pub walked_task : (answer : Found) (after : HandData) (short : Bool) → is_wanted front task ≡ true → IsHand after
+      → WalksTask hand part (task_at front task) (Ok answer) after → short ≡ (spent || answer.spent)
+      → HasWorked after front (slice_set found task answer.bound) short
+  walked_task answer after short wanted limits_after walks =
+      settled taken.0 hand after front found task spent answer taken.1 claims
+      (subst (λ (p : ℕ). WalksTask hand p (task_at front task) (Ok answer) after) is walks) limits_after.few within wanted short
 
-  pub may_walk : MayExplore (hand_data taken) (beginning (suc task)) (task_at front task)
-  may_walk = may_walk_task kind film front task (way.walked.front_of.tasks ∙ ap tasks_of (rules_alone kind film world way.alone)) within
-      (tasks_open film (subst IsFilm way.alone.same_film way.alone.owned.sound.film) kind)
-      (hand_data taken) (alone_taken.same_film, alone_taken.same_kind) alone_taken.tasks record_taken
-
-  -- a task that isn't asked for is passed over
-  pub way_passed : is_wanted front task ≡ false → IsUnderWay kind film taken front found (suc (suc task)) spent
-  way_passed unwanted = record {
-    alone = alone_taken;
-    next = next_taken;
-    walked = passed (hand_data taken) front found task spent walked_taken unwanted;
-  }
-
-  -- a task that is asked for was walked
-  pub way_walked : (after : WorldData) (answer : Found) (spent_then : Bool) → is_wanted front task ≡ true → IsOwned after
-      → length after.workers ≡ length taken.workers → WalksTask (hand_data taken) (suc task) (task_at front task) answer (hand_data after)
-      → spent_then ≡ (spent || answer.spent)
-      → IsUnderWay kind film after front (slice_set found task answer.bound) (suc (suc task)) spent_then
-  way_walked after answer spent_then wanted owned_then workers_then walks by =
-      let alone_then : IsAlone kind film after = alone_after kind film taken after alone_taken owned_then workers_then walks.1.search in record {
-        alone = alone_then;
-        next = next_stays kind film taken after (suc task) alone_taken alone_then (omega (arith, next_taken)) (
-          record { last = walks.0.last; number = walks.1.stands.0 },
-          subst (λ (part : ℕ). (hand_data after).records part ≡ Some (record { last = walks.0.last; number = walks.1.stands.0 })) walks.1.task walks.1.stands.1,
-        ) walks.1.others ∙ next_taken;
-        walked = walked (hand_data taken) (hand_data after) front found task spent answer spent_then owned_then.sound.few within wanted walks walked_taken by;
-      }
+-- a part that is the front, or whose task isn't asked for
+pub passed_part : (hand : HandData) (front : FrontData) (found : List ℕ) (spent : Bool) (part : ℕ) → IsHand hand → HasClaimed hand front found spent part
+    → ((task : ℕ) → part ≡ suc task → is_wanted front task ≡ false) → HasWorked hand front found spent
+passed_part hand front found spent part limits taken unwanted = passed taken.0 hand front found part spent taken.1 taken.2 limits.few unwanted

@@ -1,45 +1,44 @@
--- A search by one worker, on its way from the front through the tasks.
-use Rattle.std.specs.Prelude.{◌≡◌, ◌≢◌, ℕ, suc, ◌+◌, ◌<◌, ◌≤◌, Bool, true, false, Some, None, List, length, IsSome, slice_index}
+-- A search over any hand, on its way from the front through the tasks.
+use Rattle.std.specs.Prelude.{◌≡◌, ◌≢◌, ℕ, suc, ◌+◌, ◌<◌, ◌≤◌, ◌⊎◌, Bool, true, false, Some, None, Result, List, length, IsSome, slice_index}
+use Rattle.strip_io.specs.declared.files.Memory.{Memory}
 use Rattle.strip_kind.specs.declared.kind.Kind.{Kind}
 use Rattle.strip_pay.specs.Film.{FilmData}
 use Rattle.strip_film.specs.Path.{PathData}
 use Rattle.strip_film.specs.Rules.{IsOpen}
 use Rattle.strip_film.specs.Shown.{CursorData}
-use Rattle.strip_lines.specs.Lines.{rules_of}
+use Rattle.strip_lines.specs.Lines.{GrowTo}
 use Rattle.strip_count.specs.Parts.{lies_in}
 use Rattle.strip_count.specs.Paths.{ComesAfter}
-use Rattle.strip_hand.specs.Hand.{HandData, RecordData}
-use Rattle.strip_hand.specs.Search.{depth_of, search_rules}
-use Rattle.strip_race.specs.Hand.{IsOwned, hand_data}
-use Rattle.strip_race.specs.World.{WorldData}
+use Rattle.strip_hand.specs.Calls.{Claims}
+use Rattle.strip_hand.specs.Hand.{HandData, RecordData, no_path_yet}
+use Rattle.strip_hand.specs.Search.{SearchData, depth_of, search_rules}
 use Rattle.strip_front.specs.Tasks.{tasks_of}
 use Rattle.strip_front.specs.Front.{FrontData, IsFrontOf, is_wanted, task_at}
 use Rattle.strip_front.specs.Filled.{IsFilled, IsWhole}
-use Rattle.strip_front.specs.Calls.{AreFound}
+use Rattle.strip_front.specs.Calls.{AreFound, count_in}
 use Rattle.strip_walk.specs.declared.found.Found.{Found}
-use Rattle.strip_walk.specs.Found.{IsFound}
-use Rattle.strip_walk.specs.Walked.{Walks}
+use Rattle.strip_walk.specs.Walked.{Explores, Walks}
 
--- the world has one worker, and its search is one of the film by its tasks, with static bounds of this kind
-pub record IsAlone (kind : Kind) (film : FilmData) (world : WorldData) : Type 0 where
-  pub owned : IsOwned world
-  pub one_worker : length world.workers ≡ 1
-  pub same_film : world.search.film ≡ film
-  pub same_kind : world.search.kind ≡ kind
-  pub tasks : world.search.tasks ≡ tasks_of (rules_of kind film)
+-- the search is one of the film by its tasks, with static bounds of this kind
+pub record IsSearchBy (kind : Kind) (film : FilmData) (search : SearchData) : Type 0 where
+  pub same_film : search.film ≡ film
+  pub same_kind : search.kind ≡ kind
+  pub tasks : search.tasks ≡ tasks_of (search_rules search)
 
--- nothing was claimed, and there may be a line
-pub record IsUnbegun (world : WorldData) : Type 0 where
-  pub next : world.next ≡ 0
-  pub cap : 1 ≤ world.search.cap
+-- the front was claimed and no other part, and nothing is enlisted in it yet
+pub record HasFront (hand : HandData) : Type 0 where
+  pub front : hand.records 0 ≡ Some no_path_yet
+  pub others : (part : ℕ) → part ≢ 0 → hand.records part ≡ None
 
--- the budget was spent: there are as many lines as there may be, one of them of the empty path; and in one of the first parts, so many of
--- them, a candidate of the start comes after the last path that was enlisted
-pub record IsCut (hand : HandData) (front : FrontData) (parts : ℕ) : Type 0 where
+-- the hand knows no more lines than it made itself in the front
+abbrev pub OwnsFront : HandData → Type 0
+OwnsFront hand = length hand.lines ≤ count_in hand 0
+
+-- the search was cut short: there are as many lines as there may be, and in a part that the hand has a record of, a candidate of the
+-- start comes after the last path that was enlisted
+pub record IsCut (hand : HandData) : Type 0 where
   pub full : length hand.lines ≡ hand.search.cap
-  pub root : IsSome front.root
   pub part : ℕ
-  pub first : part < parts
   pub entry : RecordData
   pub recorded : hand.records part ≡ Some entry
   pub path : PathData
@@ -49,35 +48,59 @@ pub record IsCut (hand : HandData) (front : FrontData) (parts : ℕ) : Type 0 wh
   pub some : path.rest ≢ 0
   pub below : path.paid + (search_rules hand.search).bound path.rest < hand.search.start
 
--- each task of the first parts that is asked for reaches the least cost told, by what it paid and what was found of it
-abbrev pub ReachFound : HandData → FrontData → List ℕ → ℕ → Type 0
-ReachFound hand front found parts =
-    (task : ℕ) → suc task < parts → task < length front.tasks → is_wanted front task ≡ true
+-- each task that is asked for, and that the hand has a record of, reaches the least cost told, by what it paid and what was found of it
+abbrev pub ReachFound : HandData → FrontData → List ℕ → Type 0
+ReachFound hand front found =
+    (task : ℕ) → task < length front.tasks → is_wanted front task ≡ true → IsSome (hand.records (suc task))
     → hand.told ≤ (task_at front task).paid + slice_index found task
 
--- the first parts were walked, so many of them, the front as one: what was found of each task is at most what is known of what remains
--- after it; and unless the budget was spent, nothing is left out of these parts that is below the least cost told
-pub record HasWalked (hand : HandData) (front : FrontData) (found : List ℕ) (parts : ℕ) (spent : Bool) : Type 0 where
+-- what a hand has found of the front and of the parts that it has records of: for each task a number, which is at most what is known of
+-- what remains after the task, if it is asked for. Unless the budget was spent, nothing is left out of these that is below the least
+-- cost told; and it was spent only where the search was cut short, once the empty path had its line
+pub record HasWorked (hand : HandData) (front : FrontData) (found : List ℕ) (spent : Bool) : Type 0 where
   pub front_of : IsFrontOf (search_rules hand.search) front
   pub filled : IsFilled hand front
   pub long : length found ≡ length front.tasks
   pub known : AreFound hand front found
   pub whole : spent ≡ false → IsWhole hand.search front hand.told
-  pub reach : spent ≡ false → ReachFound hand front found parts
-  pub cut : spent ≡ true → IsCut hand front parts
+  pub reach : spent ≡ false → ReachFound hand front found
+  pub root : spent ≡ true → IsSome front.root
+  pub cut : spent ≡ true → IsCut hand
 
--- the same of the world of one worker, who claimed no further part
-pub record IsUnderWay (kind : Kind) (film : FilmData) (world : WorldData) (front : FrontData) (found : List ℕ) (parts : ℕ)
-    (spent : Bool) : Type 0 where
-  pub alone : IsAlone kind film world
-  pub next : world.next ≡ parts
-  pub walked : HasWalked (hand_data world) front found parts spent
+-- the hand went on, or another one took over: the search is the same, no more was told, what was known is known, and each record stays
+pub record GoesOn (before after : HandData) : Type 0 where
+  pub search : after.search ≡ before.search
+  pub told : after.told ≤ before.told
+  pub grow : GrowTo before.lines after.lines
+  pub records : (part : ℕ) (entry : RecordData) → before.records part ≡ Some entry → after.records part ≡ Some entry
+
+-- one hand took over from two: it went on from each, and has no records but theirs
+pub record TakesOver (one other both : HandData) : Type 0 where
+  pub first : GoesOn one both
+  pub second : GoesOn other both
+  pub few : length both.lines ≤ both.search.cap
+  pub records : (part : ℕ) → IsSome (both.records part) → IsSome (one.records part) ⊎ IsSome (other.records part)
+
+-- another hand of the search took what one knows, and has claimed nothing
+pub record IsFresh (hand fresh : HandData) : Type 0 where
+  pub search : fresh.search ≡ hand.search
+  pub told : fresh.told ≤ hand.told
+  pub grow : GrowTo hand.lines fresh.lines
+  pub none : (part : ℕ) → fresh.records part ≡ None
 
 -- where a part begins
 abbrev pub beginning : ℕ → CursorData
 beginning part = record { task = part; last = None }
 
--- a task was walked from its path on
-abbrev pub WalksTask : HandData → ℕ → PathData → Found → HandData → Type 0
-WalksTask before part task found after =
-    (cursor : CursorData) × Walks before (beginning part) task after cursor × IsFound after cursor task found
+-- a task was walked from its path on, or memory was refused on the way
+abbrev pub WalksTask : HandData → ℕ → PathData → Result Found Memory → HandData → Type 0
+WalksTask before part task result after = (cursor : CursorData) × Explores before (beginning part) task result after cursor
+
+-- a hand that had worked so claimed a part
+abbrev pub HasClaimed : HandData → FrontData → List ℕ → Bool → ℕ → Type 0
+HasClaimed hand front found spent part =
+    (before : HandData) × HasWorked before front found spent × Claims before (Some part) hand
+
+-- the hand did nothing but walk in a part that it had claimed, if that
+abbrev pub WalksPart : HandData → ℕ → HandData → Type 0
+WalksPart before part after = (path : PathData) × (cursor : CursorData) × Walks before (beginning part) path after cursor

@@ -1,11 +1,15 @@
-//! The whole search of a film: its world, its front and the walks of its tasks, up to a bound that is true of
-//! every order.
+//! The whole search of a film: what a worker does in it by any hand, how it ends, with a bound that is true
+//! of every order, and the search by one worker.
 #![tactic(auto)]
 
 mod ended;
 mod ending;
 mod search;
 mod walked;
+mod working;
 
 pub use ended::Ended;
+pub use ending::{close, tell};
 pub use search::alone;
+pub use walked::{Walked, merge};
+pub use working::{go_down_front, work};

@@ -1,21 +1,22 @@
-use Rattle.std.proofs.Common.{rules, ◌∙◌, ap, List, length, subst, sym}
-use Rattle.strip_film.specs.declared.shared.Line.{Line}
-use Rattle.strip_film.specs.Path.{PathData}
+use Rattle.std.proofs.Common.{rules, ◌∙◌, subst, sym, arith}
+use Rattle.strip_film.specs.Shown.{path_data}
 use Rattle.strip_team.specs.Closed.{EndsFrom}
 use Rattle.strip_team.proofs.Closed.{tells}
 use Rattle.strip_team.proofs.ending.tell.Goals as goal
 
-pub returns : goal.returns
-returns g c =
+pub returns-clause-ended : goal.returns-clause-ended
+returns-clause-ended g c = λ hand shut left.
     let kind = c.args.kept.now.kind in
     let film = c.args.kept.now.film.now in
-    let order = sym (c.in_ok-order.ensures.items_if_clones_equal (search rules) ∙ c.scenes.ensures ∙ ap (λ (p : PathData). p.scenes) c.best-best.ensures) in
-    let cost = sym (c.paid-cost.ensures ∙ ap (λ (p : PathData). p.paid) c.best-best.ensures) in
-    let bound = sym c.whole_bound-bound.ensures in
-    let lines = sym c.into_lines-lines.ensures in
-    let held = sym (c.len.ensures ∙ c.into_lines-lines.result.ok.0 ∙ ap (λ (xs : List Line). length xs) c.into_lines-lines.ensures) in
-    subst (EndsFrom kind film c.args.world.search.start c.args.world.search.cap)
-    (λ i. record { order = order i; cost = cost i; bound = bound i; held = held i; lines = lines i; spent = c.args.spent })
-    (tells kind film c.args.world c.args.spent c.args.number c.requires.closed
-    (c.the_rules_are_true.ensures.bounds c.args.world.search.kind c.args.world.search.film c.requires.closed.alone.owned.sound.film)
-    (c.the_rules_are_true.ensures.begin c.args.world.search.kind c.args.world.search.film c.requires.closed.alone.owned.sound.film))
+    let lines = c.args.lines.items in
+    let order = sym (c.in_ok-order.ensures.items_if_clones_equal (search rules) ∙ c.scenes.ensures) in
+    let held = sym (c.len.ensures ∙ c.args.lines.ok.0) in
+    subst (EndsFrom kind film hand.search.start hand.search.cap)
+    (λ i. record { order = order i; cost = sym c.paid.ensures i; bound = c.whole_bound-bound.result; held = held i; lines = lines; spent = c.args.spent })
+    (tells kind film hand (path_data c.args.best.now) lines c.args.spent c.args.number c.whole_bound-bound.result shut left
+    (c.the_rules_are_true.ensures.bounds hand.search.kind hand.search.film shut.limits.film)
+    (c.the_rules_are_true.ensures.begin hand.search.kind hand.search.film shut.limits.film)
+    c.whole_bound-bound.ensures.whole c.deref.result.now c.deref.ensures.value c.whole_bound-bound.ensures.spent)
+
+pub returns-clause-cost : goal.returns-clause-cost
+returns-clause-cost g c = λ hand left. omega (arith, c.paid.ensures, left.least)
