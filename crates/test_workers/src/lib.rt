@@ -2,4 +2,8 @@
 #![tactic(auto)]
 
 #[cfg(test)]
+mod book;
+#[cfg(test)]
 mod least;
+#[cfg(test)]
+mod team;

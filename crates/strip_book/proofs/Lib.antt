@@ -1,0 +1,13 @@
+pub mod Views
+pub mod Entries
+pub mod Kept
+pub mod Told
+pub mod Drawn
+pub mod Written
+pub mod Raised
+pub mod Parted
+pub mod Joined
+pub mod Opened
+pub mod Closed
+pub mod Passed
+pub mod Counted

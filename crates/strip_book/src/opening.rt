@@ -1,0 +1,55 @@
+// How a book and its first pass are made.
+ghost use Rattle.std.specs.Prelude.{◌≤◌, IfOk, map};
+ghost use Rattle.strip_film.specs.Shown.{path_data};
+ghost use Rattle.strip_book.specs.Pass.{IsFirst};
+
+use crate::book::Book;
+use crate::pass::BookPass;
+use crate::search::Search;
+use crate::words::word_count;
+use atomic_table::Table;
+use std::alloc::Global;
+use strip_film::{Film, Path};
+use strip_io::Memory;
+use strip_kind::Kind;
+
+impl Book {
+    /// A book of the film with static bounds of this kind, for paths of these tasks that are below what
+    /// the start paid, in units of money, and for at most so many lines, up to 16,777,216; and its first
+    /// pass, which has the full weight, 2^32, and the first desk. It fails only where memory runs out.
+    pub fn new(
+        alloc: Global,
+        film: &Film,
+        kind: Kind,
+        start: u64,
+        tasks: &[Path],
+        cap: u32,
+    ) -> Result<(Book, BookPass), Memory>
+        requires { cap ≤ 16777216 }
+        ensures { IfOk result (λ made. IsFirst (record {
+          film = film.now;
+          kind = kind;
+          cap = cap;
+          start = start;
+          tasks = map path_data tasks.now;
+        }) made.0 made.1) }
+    {
+        film.keeps_limits();
+        // The rule names a film and tasks of its own, so that the book borrows none.
+        let search = Search {
+            film: film.copy()?,
+            kind,
+            cap,
+            start,
+            tasks: tasks.to_vec(alloc)?,
+        };
+        let words = vec![in alloc; 0u64; word_count(cap)]?;
+        let (table, seat) = Table::of_words(alloc, &words, &search)?;
+        let pass = BookPass {
+            seat,
+            desk: 0,
+            is_spent: false,
+        };
+        Ok((Book { table, cap }, pass))
+    }
+}

@@ -1,0 +1,25 @@
+// What a book is told of its search.
+use std::marker::Model;
+use strip_film::{Film, Path};
+use strip_kind::Kind;
+
+/// What a search goes by: the film, the kind of the static bounds, how many lines there may be, what the
+/// path that it starts with paid, in units of money, and its tasks.
+#[derive(Drop)]
+pub struct Search {
+    pub film: Film,
+    pub kind: Kind,
+    pub cap: u32,
+    pub start: u64,
+    pub tasks: Vec<Path>,
+}
+
+impl Model for Search {
+    ghost use Rattle.std.specs.Prelude.{map};
+    ghost use Rattle.strip_film.specs.Shown.{path_data};
+    ghost use Rattle.strip_hand.specs.Search.{SearchData};
+
+    ghost Value = { SearchData };
+
+    ghost view = { λ s. record { film = s.film; kind = s.kind; cap = s.cap; start = s.start; tasks = map path_data s.tasks.items } };
+}

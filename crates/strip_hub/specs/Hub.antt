@@ -1,0 +1,65 @@
+-- What a hub shows, what holds of it, and what it stands over.
+use Rattle.std.specs.Prelude.{◌≡◌, ℕ, suc, ◌≤◌, Option, length}
+use Rattle.std.specs.Option.{option_map}
+use Rattle.atomic_table.specs.Seated.{TableId}
+use Rattle.strip_film.specs.declared.shared.Known.{Known}
+use Rattle.strip_film.specs.Film.{IsFilm}
+use Rattle.strip_hand.specs.Hand.{HandData, ProbeData}
+use Rattle.strip_hand.specs.Search.{AreStarts}
+use Rattle.strip_least.specs.declared.least.Least.{Least}
+use Rattle.strip_least.specs.declared.pass.LeastPass.{LeastPass}
+use Rattle.strip_least.specs.declared.view.View.{View as LeastView}
+use Rattle.strip_least.specs.Pass.{IsPassOf as IsLeastPassOf, known as known_least}
+use Rattle.strip_book.specs.declared.book.Book.{Book}
+use Rattle.strip_book.specs.declared.pass.BookPass.{BookPass}
+use Rattle.strip_book.specs.View.{ViewData, parts_of, record_at}
+use Rattle.strip_book.specs.Pass.{IsPassOf as IsBookPassOf, known, table_of}
+use Rattle.strip_hub.specs.declared.asked.Asked.{Asked}
+
+abbrev pub probe_data : Asked → ProbeData
+probe_data asked = record { set = asked.set; answer = asked.answer }
+
+-- the hand that two passes are, with a last probe and a last note; it is never refused memory
+abbrev pub hand_of : LeastView → ViewData → Option Asked → Option Known → HandData
+hand_of told lines asked noted = record {
+  search = lines.search;
+  told = told.told;
+  lines = lines.lines;
+  records = λ part. record_at part lines.entries;
+  probe = option_map probe_data asked;
+  note = noted;
+  refusals = 0;
+  ended = told.ended;
+}
+
+-- a pass of the two words and a pass of the book go by the same film and start, with a part for the front and for each task, and the
+-- parts that the one began are those that the other claimed, in their order
+pub record GoTogether (told : LeastView) (lines : ViewData) : Type 0 where
+  pub film : told.film ≡ lines.search.film
+  pub start : told.start ≡ lines.search.start
+  pub parts : told.parts ≡ suc (length lines.search.tasks)
+  pub no_dearer : told.told ≤ told.start
+  pub begun : parts_of lines.entries ≡ told.claims
+
+-- the film and the tasks of a search are those of one
+pub record IsSearch (lines : ViewData) : Type 0 where
+  pub film : IsFilm lines.search.film
+  pub tasks : AreStarts lines.search
+
+-- the passes are of these two words and of this book, which is the one that the table's entries are of, and they go together
+pub record IsHub (table : TableId) (least : Least) (book : Book) (told : LeastPass) (lines : BookPass) : Type 0 where
+  pub least_pass : IsLeastPassOf least told
+  pub book_pass : IsBookPassOf book lines
+  pub named : table_of book ≡ table
+  pub together : GoTogether (known_least told) (known lines)
+  pub search : IsSearch (known lines)
+
+-- what a hub stands over: the words, the book, and how much its passes weigh
+pub record HubHome : Type 0 where
+  pub least : Least
+  pub book : Book
+  pub told_weight : ℕ
+  pub lines_weight : ℕ
+
+abbrev pub home_of : Least → Book → LeastView → ViewData → HubHome
+home_of least book told lines = record { least = least; book = book; told_weight = told.weight; lines_weight = lines.weight }

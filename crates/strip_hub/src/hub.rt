@@ -1,0 +1,77 @@
+// A hub, and how it is put together and taken apart.
+ghost use Rattle.std.specs.Prelude.{◌≡◌, Some, None};
+ghost use Rattle.strip_book.specs.Pass.{IsPassOf as IsBookPassOf, known, table_of};
+ghost use Rattle.strip_least.specs.Pass.{IsPassOf as IsLeastPassOf, known as known_least};
+ghost use Rattle.strip_hub.specs.Hub.{GoTogether, IsHub, IsSearch};
+
+use crate::asked::Asked;
+use std::sync::Wait;
+use strip_book::{Book, BookPass};
+use strip_film::Known;
+use strip_least::{Least, LeastPass};
+use strip_stripes::{Named, Stripes};
+
+/// The hand of one worker among several: a pass of the least cost and the next part, a pass of the book of
+/// lines, the table that all share, and the worker's last probe and note. It never answers want of memory.
+#[derive(Drop)]
+pub struct Hub<'a, R: Wait, N: Named> {
+    pub(crate) rt: &'a R,
+    pub(crate) least: &'a Least,
+    pub(crate) book: &'a Book,
+    pub(crate) stripes: &'a Stripes<N>,
+    pub(crate) told: LeastPass,
+    pub(crate) lines: BookPass,
+    pub(crate) asked: Option<Asked>,
+    pub(crate) noted: Option<Known>,
+}
+
+/// The passes of a hub.
+#[derive(Drop)]
+pub struct HubParts {
+    pub told: LeastPass,
+    pub lines: BookPass,
+}
+
+impl<'a, R: Wait, N: Named> Hub<'a, R, N> {
+    /// The hand of a worker with these passes, which go together. It has neither probed nor noted yet.
+    pub fn of(
+        rt: &'a R,
+        least: &'a Least,
+        book: &'a Book,
+        stripes: &'a Stripes<N>,
+        passes: HubParts,
+    ) -> Hub<'a, R, N>
+        requires told { IsLeastPassOf least.now passes.told }
+        requires lines { IsBookPassOf book.now passes.lines }
+        requires named { table_of book.now ≡ N.table }
+        requires together { GoTogether (known_least passes.told) (known passes.lines) }
+        requires search { IsSearch (known passes.lines) }
+        ensures hub { IsHub N.table result.least.now result.book.now result.told result.lines }
+        ensures least { result.least.now ≡ least.now }
+        ensures book { result.book.now ≡ book.now }
+        ensures passes { (result.told ≡ passes.told) × (result.lines ≡ passes.lines) }
+        ensures unasked { (result.asked ≡ None) × (result.noted ≡ None) }
+    {
+        let HubParts { told, lines } = passes;
+        Hub {
+            rt,
+            least,
+            book,
+            stripes,
+            told,
+            lines,
+            asked: None,
+            noted: None,
+        }
+    }
+
+    /// Gives the passes back.
+    pub fn parts(self) -> HubParts
+        ensures { (result.told ≡ self.entry.told) × (result.lines ≡ self.entry.lines) }
+    {
+        HubParts {
+            told: self.told,
+            lines: self.lines,
+        }
+    }
+}

@@ -1,0 +1,15 @@
+// Of which book the entries of a table are.
+use std::marker::Brand;
+
+/// Names a book by its words, so that a lock's contents can be told of them.
+pub trait Named {
+    ghost use Rattle.atomic_table.specs.Seated.{TableId};
+
+    ghost table: { TableId };
+}
+
+impl Named for Brand {
+    ghost use Rattle.strip_stripes.specs.Named.{no_table};
+
+    ghost table = { no_table };
+}

@@ -1,0 +1,161 @@
+// The book of the triangle, a film of three scenes of two of three actors each, by bounds of pairs. Its
+// orders cost 13 or 14. The bound of all scenes is 12, and each first step with the bound of what then
+// remains pays 13. All numbers are worked by hand.
+ghost use Rattle.std.specs.Prelude.{◌≡◌, ℕ, ◌+◌, ◌<◌, ◌≤◌, true, Some, IfOk, IfSome, IsTrue, length};
+ghost use Rattle.strip_mask.specs.Set.{has, without};
+ghost use Rattle.strip_film.specs.Film.{LiesIn, all_scenes};
+ghost use Rattle.strip_film.specs.Shoot.{step_cost};
+ghost use Rattle.strip_bound.specs.Bounds.{bound};
+ghost use Rattle.strip_bound.specs.Kept.{Keeps};
+ghost use Rattle.strip_rule.specs.Rule.{open_firsts};
+ghost use Rattle.strip_lines.specs.Lines.{line_at};
+ghost use Rattle.strip_hand.specs.Hand.{no_path_yet};
+ghost use Rattle.strip_hand.specs.Search.{GoesBy};
+ghost use Rattle.strip_book.specs.Pass.{IsPassOf, known};
+ghost use Rattle.strip_book.specs.View.{record_at};
+
+use std::alloc::Global;
+use std::test::Fail;
+use strip_book::{Book, BookPass};
+use strip_bound::{BoundTables, Kept, static_reach};
+use strip_film::{Film, Line, Listed, Path, ready, step};
+use strip_kind::Kind;
+use strip_mask::Mask;
+use strip_rule::open_firsts;
+
+pub(crate) fn triangle(alloc: Global) -> Result<Film, Fail> {
+    let casts = Vec::from_slice(alloc, &[0b011, 0b110, 0b101])?;
+    let days = Vec::from_slice(alloc, &[1, 1, 1])?;
+    let rates = Vec::from_slice(alloc, &[1, 2, 3])?;
+    let holds = Vec::from_slice(alloc, &[1, 2, 3])?;
+    let film = Film::of(casts, days, rates, holds, Vec::new(alloc)).ok_or("within the limits")?;
+    Ok(film)
+}
+
+/// What became of two paths.
+#[derive(Debug, Drop)]
+struct Enlisted {
+    line: u32,
+    then: Listed,
+}
+
+/// Enlists the path without a scene in the front, and then that of one scene, where they may be and the
+/// first gets a line.
+fn enlist_two<F: Fn(u64, u64) -> u64>(
+    kept: &Kept<F>,
+    book: &Book,
+    pass: &mut BookPass,
+    first: u32,
+) -> Option<Enlisted>
+    requires keeps { Keeps (F.pre kept.now.f) (F.post kept.now.f) kept.now.kind kept.now.film.now }
+    requires pass { IsPassOf book.now pass.old }
+    requires goes_by { GoesBy kept.now.kind kept.now.film.now (known pass.old).search }
+    requires start { (known pass.old).search.start ≡ 14 }
+    requires stands { record_at 0 (known pass.old).entries ≡ Some no_path_yet }
+    ensures pass { IsPassOf book.now pass.new }
+    ensures weight { (known pass.new).weight ≡ (known pass.old).weight }
+    ensures search { (known pass.new).search ≡ (known pass.old).search }
+    ensures there { IfSome result (λ two. two.line < length (known pass.new).lines) }
+    ensures made { IfSome result (λ two. (line_at (known pass.new).lines two.line).set ≡ all_scenes kept.now.film.now) }
+{
+    let film = kept.film();
+    film.keeps_limits();
+    let whole = Path::start(film);
+    let all = whole.rest();
+    let bound = kept.at(all);
+    if all.is_empty() || bound >= 14 || film.scenes() < 2 || first >= 64 {
+        return None;
+    }
+    let firsts = open_firsts(film, all);
+    if !firsts.has(first) || !ready(film, all).has(first) {
+        return None;
+    }
+    let Listed::Line(line) = pass.enlist(book, 0, &whole, bound) else {
+        return None;
+    };
+    let path = whole.extend(film, first);
+    let rest = path.rest();
+    let later = kept.at(rest);
+    if rest.is_empty() || path.paid() >= 14 || later >= 14 - path.paid() {
+        return None;
+    }
+    let then = pass.enlist(book, 0, &path, later);
+    Some(Enlisted { line, then })
+}
+
+/// Whether each step to an open first of all scenes reaches the bound with that of what then remains.
+fn each_first_reaches<F: Fn(u64, u64) -> u64>(kept: &Kept<F>, number: u64) -> bool
+    requires keeps { Keeps (F.pre kept.now.f) (F.post kept.now.f) kept.now.kind kept.now.film.now }
+    ensures { IsTrue result → (scene : ℕ) → has (open_firsts kept.now.film.now (all_scenes kept.now.film.now)) scene ≡ true
+        → number ≤ step_cost kept.now.film.now (all_scenes kept.now.film.now) scene
+        + bound kept.now.kind kept.now.film.now (without (all_scenes kept.now.film.now) scene) }
+{
+    let film = kept.film();
+    film.keeps_limits();
+    let all = film.all();
+    for scene in open_firsts(film, all).iter() {
+        let rest = kept.at(all.without(scene));
+        if number.saturating_sub(step(film, all, scene)) > rest {
+            return false;
+        }
+    }
+    true
+}
+
+/// Raises the line of all scenes, where each first step reaches the bound.
+pub(crate) fn raise_whole<F: Fn(u64, u64) -> u64>(
+    kept: &Kept<F>,
+    book: &Book,
+    pass: &mut BookPass,
+    line: u32,
+    number: u64,
+) -> bool
+    requires keeps { Keeps (F.pre kept.now.f) (F.post kept.now.f) kept.now.kind kept.now.film.now }
+    requires pass { IsPassOf book.now pass.old }
+    requires goes_by { GoesBy kept.now.kind kept.now.film.now (known pass.old).search }
+    requires there { line < length (known pass.old).lines }
+    requires made { (line_at (known pass.old).lines line).set ≡ all_scenes kept.now.film.now }
+    ensures pass { IsPassOf book.now pass.new }
+    ensures weight { (known pass.new).weight ≡ (known pass.old).weight }
+    ensures search { (known pass.new).search ≡ (known pass.old).search }
+    ensures entries { (known pass.new).entries ≡ (known pass.old).entries }
+{
+    if kept.film().all().is_empty() || !each_first_reaches(kept, number) {
+        return false;
+    }
+    pass.raise(book, line, number);
+    true
+}
+
+/// The lines of a book with room for one, in which two paths are enlisted and the first one's line is
+/// raised to 13; and whether the second was told that the lines are spent.
+fn lines_of_one<F: Fn(u64, u64) -> u64>(alloc: Global, kept: &Kept<F>) -> Result<Vec<Line>, Fail>
+    requires { Keeps (F.pre kept.now.f) (F.post kept.now.f) kept.now.kind kept.now.film.now }
+{
+    let (book, mut pass) = Book::new(alloc, kept.film(), kept.kind(), 14, &[], 1)?;
+    pass.begin(&book, 0);
+    let two = enlist_two(kept, &book, &mut pass, 0).ok_or("a candidate")?;
+    if two.line != 0 || two.then != (Listed::Spent { lines: 1 }) {
+        return Err("one line".into());
+    }
+    if !raise_whole(kept, &book, &mut pass, two.line, 13) {
+        return Err("each first step reaches 13".into());
+    }
+    let lines = book.into_lines(alloc, pass)?;
+    Ok(lines)
+}
+
+#[test]
+fn a_book_of_one_line(rt: HostRuntime) -> Result<(), Fail> {
+    let alloc = rt.alloc();
+    let film = triangle(alloc)?;
+    let tables = BoundTables::of(alloc, &film)?;
+    let kept = Kept::new(
+        &film,
+        Kind::Pairs,
+        |q, need| static_reach(&film, &tables, Kind::Pairs, Mask(q), need),
+    );
+    let lines = lines_of_one(alloc, &kept)?;
+    assert!(&rt; lines.as_slice() == [Line { set: 7, bound: 13 }].as_slice());
+    Ok(())
+}

@@ -1,0 +1,171 @@
+// Four workers that make and raise ten thousand lines of one book: each begins 2,500 parts, whose tasks
+// are the path without a scene, and enlists that path in each. A book doesn't ask that the parts of two
+// passes differ.
+ghost use Rattle.std.specs.Prelude.{◌≡◌, ℕ, suc, ◌+◌, ◌<◌, ◌≤◌, All, IfOk, IfSome, length, vec_len};
+ghost use Rattle.strip_bound.specs.Kept.{Keeps};
+ghost use Rattle.strip_book.specs.Pass.{IsPassOf, known};
+ghost use Rattle.strip_book.specs.Rule.{full_weight};
+ghost use Rattle.test_workers.specs.Team.{AreFreshFrom, IsNew, IsOfWholes, IsOne, IsWorker};
+
+use crate::book::{raise_whole, triangle};
+use std::alloc::{AllocError, Global};
+use std::test::Fail;
+use std::thread;
+use std::thread::Threads;
+use strip_book::{Book, BookPass};
+use strip_bound::{BoundTables, Kept, static_reach};
+use strip_film::{Line, Listed, Path};
+use strip_kind::Kind;
+use strip_mask::Mask;
+
+const WORKERS: u32 = 4;
+
+const SHARE: u32 = 2500;
+
+/// Begins a part, makes a line of the path without a scene, and raises it to 13; whether that went so.
+fn make_line<F: Fn(u64, u64) -> u64>(
+    kept: &Kept<F>,
+    book: &Book,
+    pass: &mut BookPass,
+    part: u32,
+) -> bool
+    requires keeps { Keeps (F.pre kept.now.f) (F.post kept.now.f) kept.now.kind kept.now.film.now }
+    requires pass { IsPassOf book.now pass.old }
+    requires search { IsOfWholes kept.now.kind kept.now.film.now 2500 (known pass.old).search }
+    requires part { (0 < part) × (part ≤ 2500) }
+    requires fresh { AreFreshFrom part (known pass.old).entries }
+    ensures pass { IsPassOf book.now pass.new }
+    ensures weight { (known pass.new).weight ≡ (known pass.old).weight }
+    ensures search { (known pass.new).search ≡ (known pass.old).search }
+    ensures fresh { AreFreshFrom (part + 1) (known pass.new).entries }
+{
+    let film = kept.film();
+    film.keeps_limits();
+    pass.begin(book, part);
+    let whole = Path::start(film);
+    let all = whole.rest();
+    let bound = kept.at(all);
+    if all.is_empty() || bound >= 14 {
+        return false;
+    }
+    let Listed::Line(line) = pass.enlist(book, part, &whole, bound) else {
+        return false;
+    };
+    raise_whole(kept, book, pass, line, 13)
+}
+
+/// Makes a line in each part, and answers the pass where all went so.
+fn make_lines<F: Fn(u64, u64) -> u64>(
+    kept: &Kept<F>,
+    book: &Book,
+    pass: BookPass,
+) -> Option<BookPass>
+    requires keeps { Keeps (F.pre kept.now.f) (F.post kept.now.f) kept.now.kind kept.now.film.now }
+    requires worker { IsWorker kept.now.kind kept.now.film.now 2500 book.now pass }
+    ensures { IfSome result (IsOne book.now) }
+{
+    let mut pass = pass;
+    for part in 0..SHARE {
+        if !make_line(kept, book, &mut pass, part + 1) {
+            return None;
+        }
+    }
+    Some(pass)
+}
+
+/// Each pass makes its lines in a thread of its own, beside the others.
+fn make_beside<R: Threads + Sync, F: Fn(u64, u64) -> u64 + Sync>(
+    rt: &R,
+    kept: &Kept<F>,
+    book: &Book,
+    passes: Vec<BookPass>,
+) -> Result<Vec<Option<BookPass>>, AllocError>
+    requires keeps { Keeps (F.pre kept.now.f) (F.post kept.now.f) kept.now.kind kept.now.film.now }
+    requires workers { All (IsWorker kept.now.kind kept.now.film.now 2500 book.now) passes.items }
+    ensures count { IfOk result (λ all. vec_len all ≡ vec_len passes) }
+    ensures each { IfOk result (λ all. All (λ one. IfSome one (IsOne book.now)) all.items) }
+{
+    thread::map_vec(
+        rt,
+        passes,
+        &|pass: BookPass| -> Option<BookPass>
+            requires { Keeps (F.pre kept.now.f) (F.post kept.now.f) kept.now.kind kept.now.film.now
+                × IsWorker kept.now.kind kept.now.film.now 2500 book.now pass }
+            ensures { IfSome result (IsOne book.entry.now) }
+        { make_lines(kept, book, pass) },
+    )
+}
+
+/// The passes of four workers, each with a desk of its own, behind their work.
+fn make_all<R: Threads + Sync, F: Fn(u64, u64) -> u64 + Sync>(
+    rt: &R,
+    alloc: Global,
+    kept: &Kept<F>,
+    book: &Book,
+    pass: &mut BookPass,
+) -> Result<Vec<Option<BookPass>>, AllocError>
+    requires keeps { Keeps (F.pre kept.now.f) (F.post kept.now.f) kept.now.kind kept.now.film.now }
+    requires pass { IsNew kept.now.kind kept.now.film.now 2500 book.now pass.old }
+    requires full { (known pass.old).weight ≡ full_weight }
+    ensures pass { IfOk result (λ _. IsPassOf book.now pass.new) }
+    ensures weight { IfOk result (λ all. (known pass.new).weight + vec_len all ≡ full_weight) }
+    ensures each { IfOk result (λ all. All (λ one. IfSome one (IsOne book.now)) all.items) }
+{
+    let mut passes = Vec::new(alloc);
+    for desk in 0..WORKERS {
+        passes.push(pass.split(book, desk))?;
+    }
+    make_beside(rt, kept, book, passes)
+}
+
+/// Takes in the passes of all workers, where each made its lines.
+fn gather(book: &Book, pass: BookPass, passes: Vec<Option<BookPass>>) -> Option<BookPass>
+    requires pass { IsPassOf book.now pass }
+    requires weight { (known pass).weight + vec_len passes ≡ full_weight }
+    requires each { All (λ one. IfSome one (IsOne book.now)) passes.items }
+    ensures pass { IfSome result (IsPassOf book.now) }
+    ensures full { IfSome result (λ pass. (known pass).weight ≡ full_weight) }
+{
+    let mut pass = pass;
+    let mut passes = passes;
+    while let Some(one) = passes.pop() {
+        pass.join(book, one?);
+    }
+    Some(pass)
+}
+
+fn lines_of_four<R: Threads + Sync, F: Fn(u64, u64) -> u64 + Sync>(
+    rt: &R,
+    alloc: Global,
+    kept: &Kept<F>,
+) -> Result<Vec<Line>, Fail>
+    requires { Keeps (F.pre kept.now.f) (F.post kept.now.f) kept.now.kind kept.now.film.now }
+{
+    let film = kept.film();
+    let tasks = vec![in alloc; Path::start(film); SHARE as usize]?;
+    let (book, mut pass) = Book::new(alloc, film, kept.kind(), 14, &tasks, WORKERS * SHARE)?;
+    let passes = make_all(rt, alloc, kept, &book, &mut pass)?;
+    let pass = gather(&book, pass, passes).ok_or("all lines")?;
+    let lines = book.into_lines(alloc, pass)?;
+    Ok(lines)
+}
+
+fn are_all_raised(lines: &[Line]) -> bool {
+    lines.len() == (WORKERS * SHARE) as usize
+        && lines.iter().all(|line| line.set == 7 && line.bound == 13)
+}
+
+#[test]
+fn four_workers_make_ten_thousand_lines(rt: HostRuntime) -> Result<(), Fail> {
+    let alloc = rt.alloc();
+    let film = triangle(alloc)?;
+    let tables = BoundTables::of(alloc, &film)?;
+    let kept = Kept::new(
+        &film,
+        Kind::Pairs,
+        |q, need| static_reach(&film, &tables, Kind::Pairs, Mask(q), need),
+    );
+    let lines = lines_of_four(&rt, alloc, &kept)?;
+    assert!(&rt; are_all_raised(lines.as_slice()));
+    Ok(())
+}
