@@ -10,6 +10,7 @@ use Rattle.strip_least.specs.declared.least.Least.{Least}
 use Rattle.strip_least.specs.declared.pass.LeastPass.{LeastPass}
 use Rattle.strip_least.specs.declared.view.View.{View as LeastView}
 use Rattle.strip_least.specs.Pass.{IsPassOf as IsLeastPassOf, known as known_least}
+use Rattle.strip_least.specs.Steps.{AreOnce}
 use Rattle.strip_book.specs.declared.book.Book.{Book}
 use Rattle.strip_book.specs.declared.pass.BookPass.{BookPass}
 use Rattle.strip_book.specs.View.{ViewData, parts_of, record_at}
@@ -33,13 +34,14 @@ hand_of told lines asked noted = record {
 }
 
 -- a pass of the two words and a pass of the book go by the same film and start, with a part for the front and for each task, and the
--- parts that the one began are those that the other claimed, in their order
+-- parts that the one began are those that the other claimed, in their order, none twice
 pub record GoTogether (told : LeastView) (lines : ViewData) : Type 0 where
   pub film : told.film ≡ lines.search.film
   pub start : told.start ≡ lines.search.start
   pub parts : told.parts ≡ suc (length lines.search.tasks)
   pub no_dearer : told.told ≤ told.start
   pub begun : parts_of lines.entries ≡ told.claims
+  pub once : AreOnce told.claims
 
 -- the film and the tasks of a search are those of one
 pub record IsSearch (lines : ViewData) : Type 0 where
