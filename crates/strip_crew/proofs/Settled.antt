@@ -1,0 +1,86 @@
+-- Passes that are settled.
+use Rattle.std.proofs.Common.{◌≡◌, ℕ, suc, ◌+◌, ◌<◌, ◌≤◌, Bool, true, false, cond, eqb, Option, Some, None, List, [], ◌∷◌, length, inl, inr, refl, sym, ap, ◌∙◌, subst, arith}
+use Rattle.std.specs.Prelude.{All, IsSome}
+use Rattle.std.specs.Option.{unwrap_or}
+use Rattle.std.proofs.lemmas.Bool.{cases_Bool, cond-true, lt-ltb}
+use Rattle.strip_mask.proofs.Lists.{count, count-cons}
+use Rattle.strip_film.specs.Film.{IsFilm}
+use Rattle.strip_film.specs.Path.{PathData}
+use Rattle.strip_film.specs.declared.shared.Line.{Line}
+use Rattle.strip_count.specs.Parts.{AreCounted}
+use Rattle.strip_hand.specs.Hand.{RecordData, no_path_yet}
+use Rattle.strip_hand.specs.Search.{SearchData, depth_of, search_rules}
+use Rattle.strip_least.specs.declared.view.View.{View as LeastView}
+use Rattle.strip_least.specs.Rule.{once_below}
+use Rattle.strip_least.specs.Steps.{HasSettled}
+use Rattle.strip_book.specs.View.{AreApart, EntryData, ViewData, last_in, last_of, number_in, number_of_record, parts_of, record_at}
+use Rattle.strip_book.specs.Rule.{IsEntry, candidates_at, lines_of, number_of, total}
+use Rattle.strip_book.specs.Pass.{Settles}
+use Rattle.strip_book.specs.Steps.{OwnsAll}
+use Rattle.strip_hub.specs.Hub.{GoTogether, hand_of}
+use Rattle.strip_team.specs.Closed.{AreCountedBy, HasAll}
+use Rattle.strip_team.specs.Team.{GoesOn}
+
+-- a part that stands among those of the entries has a record
+some_at : (part : ℕ) (entries : List EntryData) → 0 < count part (parts_of entries) → IsSome (record_at part entries)
+some_at part [] some_ = absurd (omega (arith, some_))
+some_at part (entry ∷ entries) some_ =
+    let more = count-cons part entry.part (parts_of entries) in
+    let kept : RecordData = record { last = entry.last; number = entry.number } in
+    elim (cases_Bool (eqb entry.part part)) [
+      | inl here ↦ subst IsSome (sym (ap (λ (b : Bool). cond b (Some kept) (record_at part entries)) here)) refl
+      | inr apart ↦ (
+          let nothing : cond {A = ℕ} (eqb entry.part part) 1 0 ≡ 0 = ap (λ (b : Bool). cond {A = ℕ} b 1 0) apart in
+          subst IsSome (sym (ap (λ (b : Bool). cond b (Some kept) (record_at part entries)) apart))
+          (some_at part entries (omega (arith, more, some_, nothing))))
+    ]
+
+last_is : (kept : Option RecordData) → last_of kept ≡ (unwrap_or kept no_path_yet).last
+last_is None = refl
+last_is (Some kept) = refl
+
+number_is : (kept : Option RecordData) → number_of_record kept ≡ (unwrap_or kept no_path_yet).number
+number_is None = refl
+number_is (Some kept) = refl
+
+module _ (told after : LeastView) (lines more : ViewData) (together : GoTogether told lines) (settled : HasSettled told after.told after) (settles : Settles lines more) where
+  pub settled_together : GoTogether after more
+  settled_together = record {
+    film = ap (λ (v : LeastView). v.film) settled.only ∙ together.film ∙ ap (λ (search : SearchData). search.film) (sym settles.stays.search);
+    start = ap (λ (v : LeastView). v.start) settled.only ∙ together.start ∙ ap (λ (search : SearchData). search.start) (sym settles.stays.search);
+    parts = ap (λ (v : LeastView). v.parts) settled.only ∙ together.parts ∙ ap (λ (search : SearchData). suc (length search.tasks)) (sym settles.stays.search);
+    no_dearer = subst (λ (start : ℕ). after.told ≤ start) (sym (ap (λ (v : LeastView). v.start) settled.only)) settled.tells.no_dearer;
+    begun = ap parts_of settles.entries ∙ together.begun ∙ ap (λ (v : LeastView). v.claims) (sym settled.only);
+    once = λ part. subst (λ (v : LeastView). count part v.claims ≤ 1) (sym settled.only) (together.once part);
+  }
+
+  pub goes_on : GoesOn (hand_of told lines None None) (hand_of after more None None)
+  goes_on = record {
+    search = settles.stays.search;
+    told = settled.tells.no_more;
+    grow = settles.stays.grow;
+    records = λ part entry is. ap (record_at part) settles.entries ∙ is;
+  }
+
+  -- where they ended, they have a record of each part
+  pub has_all : ((part : ℕ) → count part told.claims ≡ once_below part told.parts) → HasAll (hand_of after more None None)
+  has_all each part within =
+      let within_parts : part < told.parts
+      = subst (λ (n : ℕ). part < n) (sym (together.parts ∙ ap (λ (search : SearchData). suc (length search.tasks)) (sym settles.stays.search))) within in
+      let one : once_below part told.parts ≡ 1 = cond-true (Rattle.std.proofs.Common.ltb part told.parts) 1 0 (lt-ltb part told.parts within_parts) in
+      let here : count part (parts_of more.entries) ≡ count part told.claims = ap (λ (entries : List EntryData). count part (parts_of entries)) settles.entries ∙ ap (count part) together.begun in
+      some_at part more.entries (omega (arith, here, each part, one))
+
+  pub counts : ((search : SearchData) (entries : List EntryData) (known : List Line) → IsFilm search.film → All (IsEntry search) entries → AreApart entries
+      → total number_of entries ≡ length known → ((set : ℕ) → lines_of set known ≤ total (candidates_at search set) entries)
+      → AreCounted (search_rules search) search.start (depth_of search) search.tasks known (last_in entries) (number_in entries))
+      → IsFilm more.search.film → All (IsEntry more.search) more.entries → OwnsAll more → AreCountedBy (hand_of after more None None) more.lines
+  counts law film each owns =
+      let apart : AreApart more.entries
+      = λ part. (let here : count part (parts_of more.entries) ≡ count part told.claims = ap (λ (entries : List EntryData). count part (parts_of entries)) settles.entries ∙ ap (count part) together.begun in
+          omega (arith, here, together.once part)) in
+      let by_entries = law more.search more.entries more.lines film each apart owns.numbers owns.sets in
+      subst (λ (last : ℕ → Option PathData). AreCounted (search_rules more.search) more.search.start (depth_of more.search) more.search.tasks more.lines last
+      (λ part. (unwrap_or (record_at part more.entries) no_path_yet).number)) (λ i part. last_is (record_at part more.entries) i)
+      (subst (λ (number : ℕ → ℕ). AreCounted (search_rules more.search) more.search.start (depth_of more.search) more.search.tasks more.lines (last_in more.entries) number)
+      (λ i part. number_is (record_at part more.entries) i) by_entries)
