@@ -2,7 +2,7 @@
 use Rattle.std.proofs.Common.{◌≡◌, ℕ, ◌+◌, ◌<◌, ◌≤◌, ◌⊎◌, Bool, true, false, cond, eqb, min, Option, Some, None, List, [], ◌∷◌, ◌++◌, inl, inr, refl, sym, ap, ◌∙◌, subst, arith}
 use Rattle.std.specs.Prelude.{IsSome}
 use Rattle.std.proofs.lemmas.Bool.{cases_Bool, cases_lt}
-use Rattle.strip_mask.proofs.Lists.{count, count-append, count-cons}
+use Rattle.strip_mask.proofs.Lists.{count, count-append}
 use Rattle.strip_hand.specs.Hand.{RecordData}
 use Rattle.strip_least.specs.declared.view.View.{View as LeastView}
 use Rattle.strip_least.specs.Steps.{AreOnce, joined as least_joined, lightened as least_lightened}

@@ -1,2 +1,3 @@
 pub mod Joined
 pub mod Settled
+pub mod Done

@@ -78,7 +78,7 @@ module _ (told after : LeastView) (lines more : ViewData) (together : GoTogether
   counts law film each owns =
       let apart : AreApart more.entries
       = λ part. (let here : count part (parts_of more.entries) ≡ count part told.claims = ap (λ (entries : List EntryData). count part (parts_of entries)) settles.entries ∙ ap (count part) together.begun in
-          omega (arith, here, together.once part)) in
+      omega (arith, here, together.once part)) in
       let by_entries = law more.search more.entries more.lines film each apart owns.numbers owns.sets in
       subst (λ (last : ℕ → Option PathData). AreCounted (search_rules more.search) more.search.start (depth_of more.search) more.search.tasks more.lines last
       (λ part. (unwrap_or (record_at part more.entries) no_path_yet).number)) (λ i part. last_is (record_at part more.entries) i)

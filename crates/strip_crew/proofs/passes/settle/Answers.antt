@@ -1,4 +1,4 @@
-use Rattle.std.proofs.Common.{◌∙◌, sym, subst, ap}
+use Rattle.std.proofs.Common.{sym, subst, ap}
 use Rattle.strip_film.specs.Film.{IsFilm}
 use Rattle.strip_hand.specs.Search.{AreStarts, SearchData}
 use Rattle.strip_least.specs.declared.view.View.{View as LeastView}

@@ -1,0 +1,43 @@
+use Rattle.std.proofs.Common.{◌∙◌, ℕ, suc, ◌+◌, ◌-◌, ap, arith, subst, sym}
+use Rattle.std.proofs.lemmas.List.Elements.{All-push}
+use Rattle.strip_front.specs.Shown.{front_data}
+use Rattle.strip_hand.specs.Hand.{HandData}
+use Rattle.strip_team.specs.Team.{IsFresh, IsSearchBy}
+use Rattle.strip_crew.specs.Crew.{AreDealt, IsJob, Weigh, shown}
+use Rattle.strip_crew.proofs.working.deal.Goals as goal
+
+pub split-requires-clause-weight : goal.split-requires-clause-weight
+split-requires-clause-weight g c =
+    let rest : ℕ = c.requires.weight.0 + (c.args.workers - c.loop-desk.desk - 1) in (
+      rest,
+      c.loop-desk.invariant.weight (suc (suc rest))
+          (subst (λ (w : ℕ). Weigh w c.args.passes.now) (omega (arith, c.loop-desk-test.true)) c.requires.weight.1),
+    )
+
+pub loop-desk-preserved : goal.loop-desk-preserved
+loop-desk-preserved g c =
+    let was = c.loop-desk.invariant in
+    let kind = c.args.kept.now.kind in
+    let film = c.args.kept.now.film.now in
+    let front = front_data c.args.front.now in
+    record {
+      passes = c.split.ensures.passes;
+      same = c.split.ensures.same ∙ was.same;
+      weight = λ rest weigh. c.split.ensures.lighter rest
+          (was.weight (suc rest) (subst (λ (w : ℕ). Weigh w c.args.passes.now) (omega arith) weigh));
+      count = omega (arith, was.count, c.in_ok-push.ensures.len);
+      jobs_are = rw c.in_ok-push.ensures.items (All-push (IsJob kind film front c.args.least.now c.args.book.now) c.loop-desk.jobs.items
+          (record { passes = c.split.result; walked = c.in_ok-walked.walked; memo = c.in_ok-memo.memo }) was.jobs_are (record {
+            passes = c.split.ensures.new_passes;
+            light = c.split.ensures.light;
+            search = subst (IsSearchBy kind film) (sym (c.split.ensures.fresh.search ∙ ap (λ (h : HandData). h.search) was.same)) c.requires.search;
+            worked = c.in_ok-walked.ensures.worked (shown c.args.passes.now) (shown c.split.result) c.requires.worked.0 c.requires.worked.1
+                (subst (λ (h : HandData). IsFresh h (shown c.split.result)) was.same c.split.ensures.fresh);
+            memo = c.in_ok-memo.ensures;
+          }));
+    }
+
+pub returns : goal.returns
+returns g c =
+    subst (λ (n : ℕ). AreDealt c.args.kept.now.kind c.args.kept.now.film.now (front_data c.args.front.now) c.args.least.now c.args.book.now c.args.passes.now c.loop-desk.passes
+    c.loop-desk.jobs.items n) (omega (arith, c.loop-desk-test.false, c.loop-desk.auto.desk-end)) c.loop-desk.invariant

@@ -1,0 +1,6 @@
+use Rattle.strip_front.specs.Shown.{front_data}
+use Rattle.strip_crew.specs.Crew.{AreDealt}
+use Rattle.strip_crew.proofs.working.deal.Given as goal
+
+abbrev pub invariant-loop-desk : goal.invariant-loop-desk
+invariant-loop-desk g l = AreDealt l.fn.kept.kind l.fn.kept.film.now (front_data l.fn.front) l.fn.least l.fn.book l.fn.passes l.passes l.jobs.items l.desk

@@ -1,0 +1,18 @@
+use Rattle.std.proofs.Common.{◌≡◌, ◌+◌, ◌⊎◌, ℕ, All, IfOk, true, vec_len}
+use Rattle.strip_front.specs.Shown.{front_data}
+use Rattle.strip_team.specs.Team.{GoesOn, HasWorked}
+use Rattle.strip_crew.specs.Crew.{ArePassesOf, IsDone, Weigh, shown}
+use Rattle.strip_crew.proofs.working.work_beside.Given as goal
+
+abbrev pub invariant-loop-one : goal.invariant-loop-one
+invariant-loop-one g l = record {
+  passes : ArePassesOf l.fn.least l.fn.book l.passes;
+  goes_on : GoesOn (shown l.fn.passes) (shown l.passes);
+  weight : (total : ℕ) → Weigh total l.fn.passes → (rest : ℕ) × (rest + vec_len l.all ≡ total) × Weigh rest l.passes;
+  worked : HasWorked (shown l.passes) (front_data l.fn.front) l.walked.found.items l.walked.spent;
+  all : All (λ one. IfOk one (IsDone l.fn.kept.kind l.fn.kept.film.now (front_data l.fn.front) l.fn.least l.fn.book)) l.all.items;
+  ended : (vec_len l.all ≡ l.fn.workers) ⊎ ((shown l.passes).ended ≡ true);
+}
+
+abbrev pub decreases-loop-one : goal.decreases-loop-one
+decreases-loop-one g l = vec_len l.all
