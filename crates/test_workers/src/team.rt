@@ -14,9 +14,12 @@ use std::thread;
 use std::thread::Threads;
 use strip_book::{Book, BookPass};
 use strip_bound::{BoundTables, Kept, static_reach};
+use strip_check::{Verdict, check};
 use strip_film::{Line, Listed, Path};
+use strip_instance::read_instance;
 use strip_kind::Kind;
 use strip_mask::Mask;
+use strip_proof::{Plan, Status};
 
 const WORKERS: u32 = 4;
 
@@ -155,6 +158,25 @@ fn are_all_raised(lines: &[Line]) -> bool {
         && lines.iter().all(|line| line.set == 7 && line.bound == 13)
 }
 
+const TRIANGLE: &str = "scene,days,a,b,c\nrate,,1,2,3\ns1,1,x,x,.\ns2,1,.,x,x\ns3,1,x,.,x\n";
+
+/// Whether the checker accepts a plan of the triangle in the order of its rows, which costs 13, with
+/// these lines.
+fn is_accepted(alloc: Global, lines: Vec<Line>) -> Result<bool, Fail> {
+    let inst = read_instance(alloc, TRIANGLE.as_bytes())?;
+    let plan = Plan {
+        status: Status::Optimal,
+        kind: Kind::Pairs,
+        cost: 13,
+        bound: 13,
+        held: lines.len() as u64,
+        order: Vec::from_slice(alloc, &[0, 1, 2])?,
+        lines,
+    };
+    let verdict = check(alloc, &inst, &plan)?;
+    Ok(matches!(verdict, Verdict::Accepted))
+}
+
 #[test]
 fn four_workers_make_ten_thousand_lines(rt: HostRuntime) -> Result<(), Fail> {
     let alloc = rt.alloc();
@@ -167,5 +189,6 @@ fn four_workers_make_ten_thousand_lines(rt: HostRuntime) -> Result<(), Fail> {
     );
     let lines = lines_of_four(&rt, alloc, &kept)?;
     assert!(&rt; are_all_raised(lines.as_slice()));
+    assert!(&rt; is_accepted(alloc, lines)?);
     Ok(())
 }
