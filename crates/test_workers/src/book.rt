@@ -34,14 +34,14 @@ pub(crate) fn triangle(alloc: Global) -> Result<Film, Fail> {
 
 /// What became of two paths.
 #[derive(Debug, Drop)]
-struct Enlisted {
-    line: u32,
-    then: Listed,
+pub(crate) struct Enlisted {
+    pub(crate) line: u32,
+    pub(crate) then: Listed,
 }
 
 /// Enlists the path without a scene in the front, and then that of one scene, where they may be and the
 /// first gets a line.
-fn enlist_two<F: Fn(u64, u64) -> u64>(
+pub(crate) fn enlist_two<F: Fn(u64, u64) -> u64>(
     kept: &Kept<F>,
     book: &Book,
     pass: &mut BookPass,

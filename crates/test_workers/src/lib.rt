@@ -6,4 +6,6 @@ mod book;
 #[cfg(test)]
 mod least;
 #[cfg(test)]
+mod stripes;
+#[cfg(test)]
 mod team;
