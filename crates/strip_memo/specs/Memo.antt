@@ -1,5 +1,5 @@
 -- What a memo of static bounds holds.
-use Rattle.std.specs.Prelude.{◌≡◌, ℕ, ◌<◌, ◌≤◌, Bool, true, false, All, length, slice_index_or}
+use Rattle.std.specs.Prelude.{◌≡◌, ℕ, ◌*◌, ◌<◌, ◌≤◌, Bool, true, false, All, length, slice_index_or}
 use Rattle.strip_kind.specs.declared.kind.Kind.{Kind}
 use Rattle.strip_pay.specs.Film.{FilmData}
 use Rattle.strip_bound.specs.Bounds.{bound}
@@ -16,3 +16,7 @@ pub record IsMemo (kind : Kind) (film : FilmData) (memo : Memo) : Type 0 where
   pub entries : All (IsEntry kind film memo.is_whole) memo.entries.items
   pub marked : (place : ℕ) (entry : Entry) → place < length memo.entries.items → slice_index_or memo.marks.items place false ≡ true
       → IsEntry kind film true (slice_index_or memo.entries.items place entry)
+
+-- how many bytes a memo takes at most: 16 for each entry, and a mark
+abbrev pub bytes_of : Memo → ℕ
+bytes_of memo = 17 * length memo.entries.items

@@ -1,5 +1,5 @@
 // A memo of static bounds.
-ghost use Rattle.std.specs.Prelude.{◌≡◌, ◌-◌, ◌^◌, ◌<◌, ◌≤◌, false, vec_len};
+ghost use Rattle.std.specs.Prelude.{◌≡◌, ◌-◌, ◌*◌, ◌^◌, ◌<◌, ◌≤◌, false, vec_len};
 
 use std::alloc::Global;
 use strip_bound::Kept;
@@ -8,6 +8,12 @@ use strip_kind::Kind;
 use strip_mask::Mask;
 
 const MULTIPLIER: u64 = 0x9E37_79B9_7F4A_7C15;
+
+/// How many bytes the memos of all workers may take, 128 MB.
+const ROOM: u64 = 1 << 27;
+
+/// How many bytes an entry takes with its mark.
+const ENTRY_ROOM: u64 = 17;
 
 /// What is remembered of a set: a number that is at most its static bound.
 #[derive(Clone, Copy, Debug)]
@@ -31,12 +37,12 @@ pub struct Memo {
 }
 
 impl Memo {
-    ghost use Rattle.std.specs.Prelude.{◌≡◌, ℕ, ◌≤◌, ◌⊎◌, ◌<◌, ◌||◌, true, false, slice_index_or, IfOk, vec_len};
+    ghost use Rattle.std.specs.Prelude.{◌≡◌, ℕ, ◌*◌, ◌^◌, ◌≤◌, ◌⊎◌, ◌<◌, ◌||◌, true, false, slice_index_or, IfOk, vec_len};
     ghost use Rattle.strip_mask.specs.Set.{has};
     ghost use Rattle.strip_film.specs.Film.{LiesIn};
     ghost use Rattle.strip_bound.specs.Bounds.{bound};
     ghost use Rattle.strip_bound.specs.Kept.{Keeps};
-    ghost use Rattle.strip_memo.specs.Memo.{IsMemo};
+    ghost use Rattle.strip_memo.specs.Memo.{IsMemo, bytes_of};
 
     /// A memo that remembers the empty set alone: 2^18 entries of 16 bytes, 2^19 for groups, and for
     /// arrivals 2^20 of 17 bytes; fewer where the film has few sets of scenes.
@@ -44,7 +50,22 @@ impl Memo {
         requires { Keeps (F.pre kept.now.f) (F.post kept.now.f) kept.now.kind kept.now.film.now }
         ensures { IfOk result (IsMemo kept.now.kind kept.now.film.now) }
     {
-        let bits = bits_of(kept.kind(), kept.film().scenes());
+        Memo::among(alloc, kept, 1)
+    }
+
+    /// A memo as `new` makes it, for one of so many workers, 1 to 100, who have one each: the more there
+    /// are, the fewer entries, so that all memos together take at most 128 MB.
+    pub fn among<F: Fn(u64, u64) -> u64>(
+        alloc: Global,
+        kept: &Kept<F>,
+        workers: u32,
+    ) -> Result<Memo, Memory>
+        requires keeps { Keeps (F.pre kept.now.f) (F.post kept.now.f) kept.now.kind kept.now.film.now }
+        requires workers { (1 ≤ workers) × (workers ≤ 100) }
+        ensures memo { IfOk result (IsMemo kept.now.kind kept.now.film.now) }
+        ensures room { IfOk result (λ memo. bytes_of memo * workers ≤ 2 ^ 27) }
+    {
+        let bits = bits_of(kept.kind(), kept.film().scenes(), workers);
         let is_whole = is_answered_whole(kept.kind());
         let marks = if is_whole { 0 } else { 1 << bits };
         let empty = Entry {
@@ -119,20 +140,33 @@ impl Memo {
     }
 }
 
-/// How many bits of its hash tell a set's place: at most two more than there are scenes.
-fn bits_of(kind: Kind, scenes: usize) -> u32
+/// How many bits of its hash tell a set's place: at most two more than there are scenes, and no more than
+/// there is room for among so many workers.
+fn bits_of(kind: Kind, scenes: usize, workers: u32) -> u32
+    requires { (1 ≤ workers) × (workers ≤ 100) }
     ensures some { 0 < result }
     ensures few { result ≤ 20 }
+    ensures room { 17 * 2 ^ result * workers ≤ 2 ^ 27 }
 {
     let most = match kind {
         Kind::Plain | Kind::Pairs => 18,
         Kind::Groups => 19,
         Kind::Arrivals => 20,
     };
-    match scenes {
+    let enough = match scenes {
         0..18 => most.min(scenes as u32 + 2),
         _ => most,
-    }
+    };
+    enough.min(bits_among(workers))
+}
+
+/// For how many bits each of so many workers has room.
+fn bits_among(workers: u32) -> u32
+    requires { (1 ≤ workers) × (workers ≤ 100) }
+    ensures some { 0 < result }
+    ensures room { 17 * 2 ^ result * workers ≤ 2 ^ 27 }
+{
+    (ROOM / (ENTRY_ROOM * u64::from(workers))).ilog2()
 }
 
 /// Whether the whole bound is answered whatever is asked for, so that it costs nothing to ask for it.

@@ -3,4 +3,4 @@
 
 mod solve;
 
-pub use solve::solve_alone;
+pub use solve::{SearchOptions, solve_alone, solve_beside, solve_through};

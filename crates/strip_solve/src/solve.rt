@@ -1,22 +1,25 @@
-// A plan of an instance, by one worker.
-ghost use Rattle.std.specs.Prelude.{◌≡◌, ◌≤◌, ◌<◌, ℕ, Err, IfOk, OnOk, length};
+// A plan of an instance, by one worker or by several.
+ghost use Rattle.std.specs.Prelude.{◌≡◌, ◌+◌, ◌≤◌, ℕ, IfOk};
 ghost use Rattle.strip_pay.specs.Film.{FilmData};
 ghost use Rattle.strip_pay.specs.Order.{IsKeptOrder};
 ghost use Rattle.strip_pay.specs.Pay.{pay_of};
 ghost use Rattle.strip_film.specs.Path.{IsComplete};
 ghost use Rattle.strip_film.specs.Shown.{path_data};
-ghost use Rattle.strip_model.specs.Film.{film_of};
-ghost use Rattle.strip_reduce.specs.declared.fault.ReduceFault.TheVariants.{TooManyClasses};
 ghost use Rattle.strip_reduce.specs.Law.{StandsFor};
-ghost use Rattle.strip_reduce.specs.Reduction.{class_count, reduced as reduction};
+ghost use Rattle.strip_reduce.specs.Reduction.{reduced as reduction};
 ghost use Rattle.strip_reduce.specs.Shown.{reduced_data};
 ghost use Rattle.strip_bound.specs.Kept.{Keeps};
+ghost use Rattle.strip_lines.specs.Lines.{AreJustified, rules_of};
+ghost use Rattle.strip_memo.specs.Memo.{IsMemo};
+ghost use Rattle.strip_team.specs.Shown.{ended_data};
 ghost use Rattle.strip_proof.specs.Plan.{plan_data};
-ghost use Rattle.strip_proof.specs.Text.{IsReadablePlan};
-ghost use Rattle.strip_solve.specs.Searched.{IsProofOf, IsSearchedFrom};
+ghost use Rattle.strip_solve.specs.Answer.{IsAnswerFor, MayBe};
+ghost use Rattle.strip_solve.specs.Searched.{IsProofOf, IsSearchedFrom, IsTrimmed};
 ghost use Rattle.strip_solve.specs.Solved.{IsSolved, IsStart, IsVaried};
 
 use std::alloc::Global;
+use std::sync::Wait;
+use std::thread::Threads;
 use strip_bound::{BoundTables, Kept, static_reach};
 use strip_count::laws::paths_are_few;
 use strip_film::laws::{a_least_tail_exists, finishing_everything_is_the_optimum};
@@ -31,62 +34,120 @@ use strip_pay::laws::pays_stay_small;
 use strip_proof::{Plan, Status};
 use strip_reduce::{ReduceFault, Reduced, expand, orient, reduce};
 use strip_start::{greedy, improve, vary};
-use strip_team::{Ended, alone};
+use strip_team::{Ended, Gate, OpenGate, alone_through};
 use strip_trim::trim;
 
 /// How often the order that a search begins with is varied for each class, where nothing is said of it.
 const TRIES_A_CLASS: u32 = 5_000;
 
-/// A plan of the instance, found by one worker with static bounds of this kind, at most `nodes` lines, 1 to
-/// 16,777,216, and a table of `entries` entries, 64 to 4,194,304. The order that the search begins with is varied
-/// by so many tries before, 5,000 for each class where none are given. `TooManyClasses` where more than 64
-/// classes are left. It takes room for the lines and entries before it searches.
+/// What a search goes by.
+#[derive(Clone, Copy, Debug)]
+pub struct SearchOptions {
+    /// The kind of the static bounds.
+    pub kind: Kind,
+    /// How many lines there may be, 1 to 16,777,216.
+    pub nodes: u32,
+    /// How many entries the table has, 64 to 4,194,304.
+    pub entries: u32,
+    /// How often the order that the search begins with is varied before, 5,000 times for each class where
+    /// nothing is said.
+    pub tries: Option<u32>,
+}
+
+/// A plan of the instance, found by one worker. `TooManyClasses` where more than 64 classes are left. It
+/// takes room for the lines and entries before it searches.
 pub fn solve_alone(
     alloc: Global,
     inst: &Instance,
-    kind: Kind,
-    nodes: u32,
-    entries: u32,
-    tries: Option<u32>,
+    options: SearchOptions,
 ) -> Result<Plan, ReduceFault>
-    requires nodes { (1 ≤ nodes) × (nodes ≤ 16777216) }
-    requires entries { (64 ≤ entries) × (entries ≤ 4194304) }
-    ensures solved { IfOk result (λ plan. IsSolved kind (film_of inst.now) nodes (plan_data plan)) }
-    ensures readable { IfOk result (λ plan. IsReadablePlan inst.now (plan_data plan)) }
-    ensures few { OnOk result (class_count (film_of inst.now) ≤ 64) }
-    ensures too_many { (count : ℕ) → result ≡ Err (TooManyClasses count)
-        → (64 < count) × (count ≡ class_count (film_of inst.now)) }
+    requires { MayBe options }
+    ensures { IsAnswerFor options inst.now result }
+{
+    solve_through(alloc, inst, options, &OpenGate)
+}
+
+/// Solves as `solve_alone` does, where the gate is told how the worker gets on.
+pub fn solve_through<G: Gate>(
+    alloc: Global,
+    inst: &Instance,
+    options: SearchOptions,
+    gate: &G,
+) -> Result<Plan, ReduceFault>
+    requires { MayBe options }
+    ensures { IsAnswerFor options inst.now result }
 {
     inst.keeps_limits();
     the_rules_are_true();
     let reduced = reduce(alloc, inst)?;
     reduced.film.keeps_limits();
-    match solve_classes(alloc, &reduced, kind, nodes, entries, tries) {
+    match solve_classes(alloc, &reduced, options, gate) {
         Ok(plan) => Ok(plan),
         Err(Memory) => Err(ReduceFault::Memory),
     }
 }
 
-/// A plan of any film that the classes stand for.
-fn solve_classes(
+/// Solves as `solve_alone` does, by so many workers beside one another, 2 to 64. The gate is told how they
+/// get on.
+pub fn solve_beside<R: Threads + Wait + Sync, G: Gate>(
+    rt: &R,
+    alloc: Global,
+    inst: &Instance,
+    options: SearchOptions,
+    workers: u32,
+    gate: &G,
+) -> Result<Plan, ReduceFault>
+    requires options { MayBe options }
+    requires workers { (2 ≤ workers) × (workers ≤ 64) }
+    ensures { IsAnswerFor options inst.now result }
+{
+    inst.keeps_limits();
+    the_rules_are_true();
+    let reduced = reduce(alloc, inst)?;
+    reduced.film.keeps_limits();
+    match solve_classes_beside(rt, alloc, &reduced, options, workers, gate) {
+        Ok(plan) => Ok(plan),
+        Err(Memory) => Err(ReduceFault::Memory),
+    }
+}
+
+/// A plan of any film that the classes stand for, by one worker.
+fn solve_classes<G: Gate>(
     alloc: Global,
     reduced: &Reduced,
-    kind: Kind,
-    nodes: u32,
-    entries: u32,
-    tries: Option<u32>,
+    options: SearchOptions,
+    gate: &G,
 ) -> Result<Plan, Memory>
-    requires nodes { (1 ≤ nodes) × (nodes ≤ 16777216) }
-    requires entries { (64 ≤ entries) × (entries ≤ 4194304) }
+    requires { MayBe options }
     ensures { (film : FilmData) → reduced_data reduced.now ≡ reduction film → StandsFor film (reduced_data reduced.now)
-        → IfOk result (λ plan. IsSolved kind film nodes (plan_data plan)) }
+        → IfOk result (λ plan. IsSolved options.kind film options.nodes (plan_data plan)) }
 {
     let film = &reduced.film;
     film.keeps_limits();
     let start = improve(film, &greedy(film));
-    let tries = tries.unwrap_or(TRIES_A_CLASS * film.scenes() as u32);
-    let searched = search(alloc, film, kind, &start, tries, nodes, entries)?;
-    plan_of(alloc, reduced, kind, &start, nodes, searched)
+    let searched = search(alloc, film, &start, options, gate)?;
+    plan_of(alloc, reduced, &start, options, searched)
+}
+
+/// A plan of any film that the classes stand for, by several workers.
+fn solve_classes_beside<R: Threads + Wait + Sync, G: Gate>(
+    rt: &R,
+    alloc: Global,
+    reduced: &Reduced,
+    options: SearchOptions,
+    workers: u32,
+    gate: &G,
+) -> Result<Plan, Memory>
+    requires options { MayBe options }
+    requires workers { (2 ≤ workers) × (workers ≤ 64) }
+    ensures { (film : FilmData) → reduced_data reduced.now ≡ reduction film → StandsFor film (reduced_data reduced.now)
+        → IfOk result (λ plan. IsSolved options.kind film options.nodes (plan_data plan)) }
+{
+    let film = &reduced.film;
+    film.keeps_limits();
+    let start = improve(film, &greedy(film));
+    let searched = search_beside(rt, alloc, film, &start, options, workers, gate)?;
+    plan_of(alloc, reduced, &start, options, searched)
 }
 
 /// A search: the path that it began with, its end, and where its bound is its cost, those of its lines that the
@@ -98,33 +159,34 @@ struct Searched {
     trimmed: Option<Vec<Line>>,
 }
 
-/// The end of the search of a film that begins with what varying this path gives.
-fn search(
+/// The end of the search of a film that begins with what varying this path gives, by one worker.
+fn search<G: Gate>(
     alloc: Global,
     film: &Film,
-    kind: Kind,
     start: &Path,
-    tries: u32,
-    nodes: u32,
-    entries: u32,
+    options: SearchOptions,
+    gate: &G,
 ) -> Result<Searched, Memory>
     requires start { IsComplete film.now (path_data start.now) }
-    requires nodes { (1 ≤ nodes) × (nodes ≤ 16777216) }
-    requires entries { (64 ≤ entries) × (entries ≤ 4194304) }
-    ensures { IfOk result (IsSearchedFrom kind film.now (path_data start.now) nodes) }
+    requires options { MayBe options }
+    ensures { IfOk result (IsSearchedFrom options.kind film.now (path_data start.now) options.nodes) }
 {
     let tables = BoundTables::of(alloc, film)?;
-    let kept = Kept::new(film, kind, |q, need| {
-        static_reach(film, &tables, kind, Mask(q), need)
+    let kept = Kept::new(film, options.kind, |q, need| {
+        static_reach(film, &tables, options.kind, Mask(q), need)
     });
-    let begun = varied(&kept, start, tries);
+    let begun = varied(&kept, start, options.tries);
     let mut memo = Memo::new(alloc, &kept)?;
-    let ended = alone(alloc, &kept, &mut memo, &begun, nodes, entries)?;
-    let trimmed = if ended.bound == ended.cost {
-        Some(trim(alloc, &kept, &mut memo, &ended.lines)?)
-    } else {
-        None
-    };
+    let ended = alone_through(
+        alloc,
+        &kept,
+        &mut memo,
+        &begun,
+        options.nodes,
+        options.entries,
+        gate,
+    )?;
+    let trimmed = trimmed(alloc, &kept, &mut memo, &ended)?;
     Ok(Searched {
         begun,
         ended,
@@ -132,8 +194,45 @@ fn search(
     })
 }
 
+/// The end of such a search by several workers.
+fn search_beside<R: Threads + Wait + Sync, G: Gate>(
+    _rt: &R,
+    alloc: Global,
+    film: &Film,
+    start: &Path,
+    options: SearchOptions,
+    _workers: u32,
+    gate: &G,
+) -> Result<Searched, Memory>
+    requires start { IsComplete film.now (path_data start.now) }
+    requires options { MayBe options }
+    requires workers { (2 ≤ _workers) × (_workers ≤ 64) }
+    ensures { IfOk result (IsSearchedFrom options.kind film.now (path_data start.now) options.nodes) }
+{
+    search(alloc, film, start, options, gate)
+}
+
+/// The lines that the bound needs, where it is the cost.
+fn trimmed<F: Fn(u64, u64) -> u64>(
+    alloc: Global,
+    kept: &Kept<F>,
+    memo: &mut Memo,
+    ended: &Ended,
+) -> Result<Option<Vec<Line>>, Memory>
+    requires keeps { Keeps (F.pre kept.now.f) (F.post kept.now.f) kept.now.kind kept.now.film.now }
+    requires memo { IsMemo kept.now.kind kept.now.film.now memo.old }
+    requires lines { AreJustified (rules_of kept.now.kind kept.now.film.now) ended.now.lines.items }
+    ensures { IfOk result (IsTrimmed kept.now.kind kept.now.film.now (ended_data ended.now)) }
+{
+    if ended.bound == ended.cost {
+        Ok(Some(trim(alloc, kept, memo, &ended.lines)?))
+    } else {
+        Ok(None)
+    }
+}
+
 /// What varying the path gives; nothing is tried where the static bound of all scenes says that none is cheaper.
-fn varied<F: Fn(u64, u64) -> u64>(kept: &Kept<F>, start: &Path, tries: u32) -> Path
+fn varied<F: Fn(u64, u64) -> u64>(kept: &Kept<F>, start: &Path, tries: Option<u32>) -> Path
     requires keeps { Keeps (F.pre kept.now.f) (F.post kept.now.f) kept.now.kind kept.now.film.now }
     requires start { IsComplete kept.now.film.now (path_data start.now) }
     ensures { IsVaried kept.now.film.now (path_data start.now) (path_data result) }
@@ -143,6 +242,7 @@ fn varied<F: Fn(u64, u64) -> u64>(kept: &Kept<F>, start: &Path, tries: u32) -> P
     if kept.reach(film.all(), start.paid()) >= start.paid() {
         return *start;
     }
+    let tries = tries.unwrap_or(TRIES_A_CLASS * film.scenes() as u32);
     vary(film, start, tries)
 }
 
@@ -150,15 +250,16 @@ fn varied<F: Fn(u64, u64) -> u64>(kept: &Kept<F>, start: &Path, tries: u32) -> P
 fn plan_of(
     alloc: Global,
     reduced: &Reduced,
-    kind: Kind,
     start: &Path,
-    nodes: u32,
+    options: SearchOptions,
     searched: Searched,
 ) -> Result<Plan, Memory>
     requires start { IsStart reduced.now.film (path_data start.now) }
-    requires searched { IsSearchedFrom kind reduced.now.film (path_data start.now) nodes searched }
-    ensures { (film : FilmData) → reduced_data reduced.now ≡ reduction film → StandsFor film (reduced_data reduced.now)
-        → IfOk result (λ plan. IsSolved kind film nodes (plan_data plan)) }
+    requires searched { IsSearchedFrom options.kind reduced.now.film (path_data start.now) options.nodes searched }
+    ensures solved { (film : FilmData) → reduced_data reduced.now ≡ reduction film → StandsFor film (reduced_data reduced.now)
+        → IfOk result (λ plan. IsSolved options.kind film options.nodes (plan_data plan)) }
+    ensures cost { IfOk result (λ plan. plan.cost ≡ searched.ended.cost + reduced.now.apart) }
+    ensures held { IfOk result (λ plan. plan.held ≡ searched.ended.held) }
 {
     reduced.film.keeps_limits();
     pays_stay_small();
@@ -178,7 +279,7 @@ fn plan_of(
     let order = oriented(&reduced.film, order);
     Ok(Plan {
         status,
-        kind,
+        kind: options.kind,
         cost: cost + reduced.apart,
         bound: bound + reduced.apart,
         held,

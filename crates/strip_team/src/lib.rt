@@ -4,12 +4,14 @@
 
 mod ended;
 mod ending;
+mod gate;
 mod search;
 mod walked;
 mod working;
 
 pub use ended::Ended;
 pub use ending::{close, tell};
-pub use search::alone;
+pub use gate::{Gate, OpenGate, Worker};
+pub use search::{alone, alone_through, asked_for};
 pub use walked::{Walked, merge};
 pub use working::{go_down_front, work};

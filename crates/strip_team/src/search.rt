@@ -15,6 +15,7 @@ ghost use Rattle.strip_memo.specs.Memo.{IsMemo};
 
 use crate::ended::Ended;
 use crate::ending::{close, tell};
+use crate::gate::{Gate, OpenGate, Worker};
 use crate::working::{go_down_front, work};
 use std::alloc::Global;
 use strip_bound::Kept;
@@ -49,6 +50,29 @@ pub fn alone<F: Fn(u64, u64) -> u64>(
     ensures memo { IsMemo kept.now.kind kept.now.film.now memo.new }
     ensures ended { IfOk result (λ ended. IsEnded kept.now.kind kept.now.film.now (path_data start.now) cap (ended_data ended)) }
 {
+    alone_through(alloc, kept, memo, start, cap, entries, &OpenGate)
+}
+
+/// Searches as `alone` does, where the gate is told how the worker, whose number is 0, gets on.
+pub fn alone_through<F: Fn(u64, u64) -> u64, G: Gate>(
+    alloc: Global,
+    kept: &Kept<F>,
+    memo: &mut Memo,
+    start: &Path,
+    cap: u32,
+    entries: u32,
+    gate: &G,
+) -> Result<Ended, Memory>
+    requires keeps { Keeps (F.pre kept.now.f) (F.post kept.now.f) kept.now.kind kept.now.film.now }
+    requires memo { IsMemo kept.now.kind kept.now.film.now memo.old }
+    requires start { IsComplete kept.now.film.now (path_data start.now) }
+    requires some_lines { 1 ≤ cap }
+    requires few_lines { cap ≤ 16777216 }
+    requires some_entries { 64 ≤ entries }
+    requires few_entries { entries ≤ 4194304 }
+    ensures memo { IsMemo kept.now.kind kept.now.film.now memo.new }
+    ensures ended { IfOk result (λ ended. IsEnded kept.now.kind kept.now.film.now (path_data start.now) cap (ended_data ended)) }
+{
     let mut front = layers(alloc, kept)?;
     let limits = Limits {
         workers: 1,
@@ -57,10 +81,18 @@ pub fn alone<F: Fn(u64, u64) -> u64>(
     };
     let mut world = open(alloc, kept, start, &front, &limits)?;
     let mut walked = go_down_front(alloc, kept, &mut world, &mut front)?;
-    work(kept, &mut world, &front, memo, &mut walked)?;
+    gate.opened(asked_for(&front), 1);
+    let worker = Worker { gate, number: 0 };
+    work(kept, &mut world, &front, &worker, memo, &mut walked)?;
     let number = close(kept, &mut world, &front, &walked)?;
     let best = *world.best(0);
     tell(alloc, kept, &best, world.into_lines(), number, walked.spent)
+}
+
+/// How many tasks of the front are asked for.
+pub fn asked_for(front: &Front) -> u32 {
+    let wanted = front.wanted.iter().filter(|wanted| **wanted);
+    u32::try_from(wanted.count()).unwrap_or(u32::MAX)
 }
 
 /// The world that the search opens with, where the worker has claimed the front.

@@ -11,6 +11,7 @@ ghost use Rattle.strip_front.specs.Shown.{front_data};
 ghost use Rattle.strip_walk.specs.Found.{IsSearchOf, MayExplore};
 ghost use Rattle.strip_team.specs.Team.{GoesOn, HasClaimed, HasFront, HasWorked, IsSearchBy, OwnsFront, WalksPart, WalksTask, beginning};
 
+use crate::gate::{Gate, Worker};
 use crate::walked::Walked;
 use std::alloc::Global;
 use strip_bound::Kept;
@@ -48,14 +49,15 @@ pub fn go_down_front<H: Hand, F: Fn(u64, u64) -> u64>(
     Ok(walked)
 }
 
-/// Claims parts until none is left, and walks each task that is asked for; with the front, which the caller
-/// went down, it does nothing. `walked` is what the hand found before, and then what it has found. It
+/// Claims parts until none is left, and walks each task that is asked for, which the worker's gate is told
+/// of; with the front, which the caller went down, it does nothing. `walked` is what the hand found before, and then what it has found. It
 /// answers `Memory` only where the hand was refused it. The time may grow with the number of open paths
 /// that the start leaves.
-pub fn work<H: Hand, F: Fn(u64, u64) -> u64>(
+pub fn work<H: Hand, F: Fn(u64, u64) -> u64, G: Gate>(
     kept: &Kept<F>,
     hand: &mut H,
     front: &Front,
+    worker: &Worker<G>,
     memo: &mut Memo,
     walked: &mut Walked,
 ) -> Result<(), Memory>
@@ -74,16 +76,17 @@ pub fn work<H: Hand, F: Fn(u64, u64) -> u64>(
     ensures memory { IfErr result (λ _. Rose (H.shows hand.old).refusals (H.shows hand.new).refusals) }
 {
     while let Some(part) = hand.claim() {
-        walk_part(kept, hand, front, part, memo, walked)?;
+        walk_part(kept, hand, front, worker, part, memo, walked)?;
     }
     Ok(())
 }
 
 /// Walks the task of a part that was claimed, where it is asked for.
-fn walk_part<H: Hand, F: Fn(u64, u64) -> u64>(
+fn walk_part<H: Hand, F: Fn(u64, u64) -> u64, G: Gate>(
     kept: &Kept<F>,
     hand: &mut H,
     front: &Front,
+    worker: &Worker<G>,
     part: u32,
     memo: &mut Memo,
     walked: &mut Walked,
@@ -107,6 +110,7 @@ fn walk_part<H: Hand, F: Fn(u64, u64) -> u64>(
     }
     let task = part as usize - 1;
     if front.wanted[task] {
+        worker.begin(part);
         let found = walk(kept, hand, &front.tasks[task], part, memo)?;
         hand.keeps_limits();
         walked.found[task] = found.bound;

@@ -1,6 +1,6 @@
 -- The children of a path that are walked, and what the others reach.
-use Rattle.std.specs.Prelude.{◌≡◌, ◌≢◌, ℕ, ◌+◌, ◌≤◌, true, false, List, Contains, slice_index}
-use Rattle.strip_mask.specs.Set.{has, with, without}
+use Rattle.std.specs.Prelude.{◌≡◌, ℕ, ◌+◌, ◌≤◌, true, false, List, Contains}
+use Rattle.strip_mask.specs.Set.{has, without}
 use Rattle.strip_kind.specs.declared.kind.Kind.{Kind}
 use Rattle.strip_pay.specs.Film.{FilmData}
 use Rattle.strip_film.specs.Path.{PathData}
@@ -14,18 +14,9 @@ use Rattle.strip_rule.specs.Rule.{open_firsts}
 use Rattle.strip_walk.specs.declared.found.Sifted.{Sifted}
 use Rattle.strip_walk.specs.declared.found.Weighed.{Weighed}
 
--- a child more has to be walked, by this rank; the ranks of the others stay
-pub record Adds (weighed next : Weighed) (scene rank : ℕ) : Type 0 where
-  pub visit : next.visit.0 ≡ with weighed.visit.0 scene
-  pub its_rank : slice_index next.ranks scene ≡ rank
-  pub others : (other : ℕ) → other ≢ scene → slice_index next.ranks other ≡ slice_index weighed.ranks other
-  pub least : next.least ≡ weighed.least
-
--- of the scenes of a list: those to be walked are among them, each by its rank; the least reaches no further than any other, and takes
--- all of the room
+-- of the scenes of a list: those to be walked are among them, the least reaches no further than any other, and takes all of the room
 pub record AreWeighed (kind : Kind) (film : FilmData) (set room : ℕ) (scenes : List ℕ) (weighed : Weighed) : Type 0 where
   pub within : (scene : ℕ) → has weighed.visit.0 scene ≡ true → Contains scenes scene
-  pub ranks : (scene : ℕ) → has weighed.visit.0 scene ≡ true → slice_index weighed.ranks scene ≡ rank (rules_of kind film) set scene
   pub passed : (scene : ℕ) → Contains scenes scene → has weighed.visit.0 scene ≡ false
       → weighed.least ≤ step_cost film set scene + bound kind film (without set scene)
   pub enough : room ≤ weighed.least

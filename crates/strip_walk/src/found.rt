@@ -1,6 +1,6 @@
 // What a walk finds, and how it begins.
 
-use strip_film::{MAX_COUNT, Probe, Turns};
+use strip_film::{Probe, Turns};
 use strip_mask::Mask;
 
 /// What a walk found of what remains after a path: a bound, in units of money, that is at most the cost of
@@ -44,12 +44,11 @@ pub(crate) enum Begun {
     Enlisted(Opened),
 }
 
-/// Children of a path that were weighed: those that have to be walked, the rank of each of these, and the
-/// least of the others' steps with their static bounds; `u64::MAX` where there is no other.
+/// Children of a path that were weighed: those that have to be walked, and the least of the others' steps
+/// with their static bounds; `u64::MAX` where there is no other.
 #[derive(Clone, Copy, Debug)]
 pub(crate) struct Weighed {
     pub visit: Mask,
-    pub ranks: [u64; MAX_COUNT],
     pub least: u64,
 }
 

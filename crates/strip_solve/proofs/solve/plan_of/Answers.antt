@@ -29,8 +29,8 @@ tells_so kind film ended (Some rows) status lines (same, are) (is, alike) =
 tells_so kind film ended None status lines other (is, alike) =
     subst (λ (s : Status). Tells ended s × AreRows (rules_of kind film) s ended.lines lines) (sym is) (other, alike)
 
-pub returns : goal.returns
-returns c film same stands =
+pub returns-clause-solved : goal.returns-clause-solved
+returns-clause-solved c = λ film same stands.
     let classes : FilmData = c.args.reduced.now.film in
     let ended : EndedData = ended_data c.args.searched.ended in
     let start : PathData = path_data c.args.start.now in
@@ -38,15 +38,15 @@ returns c film same stands =
     let searched = c.requires.searched in
     let finish = c.a_least_tail_exists.ensures classes (all_scenes classes) c.keeps_limits.ensures (IsSet-full (length classes.casts) c.keeps_limits.ensures.scene_count.1) in
     let optimum : HasOptimum classes = (finish.0, (c.finishing_everything_is_the_optimum.ensures classes finish.0 c.keeps_limits.ensures).0 finish.1) in
-    let most = c.paths_are_few.ensures.most classes (is_candidate (rules_of c.args.kind classes) varied.paid) c.keeps_limits.ensures in
-    let orders : few (rules_of c.args.kind classes) varied.paid ≤ 2 * factorial (length classes.casts)
+    let most = c.paths_are_few.ensures.most classes (is_candidate (rules_of c.args.options.kind classes) varied.paid) c.keeps_limits.ensures in
+    let orders : few (rules_of c.args.options.kind classes) varied.paid ≤ 2 * factorial (length classes.casts)
     = omega (arith, most, c.paths_are_few.ensures.orders (length classes.casts)) in
     let status = c.proof_of-status.result.0 in
     let lines = c.proof_of-status.result.1.items in
-    let so = tells_so c.args.kind classes ended c.args.searched.trimmed status lines searched.trimmed c.proof_of-status.ensures in
-    subst (λ (order : List ℕ). IsSolved c.args.kind film c.args.nodes (record {
+    let so = tells_so c.args.options.kind classes ended c.args.searched.trimmed status lines searched.trimmed c.proof_of-status.ensures in
+    subst (λ (order : List ℕ). IsSolved c.args.options.kind film c.args.options.nodes (record {
       status = status;
-      kind = c.args.kind;
+      kind = c.args.options.kind;
       cost = ended.cost + c.args.reduced.now.apart;
       bound = ended.bound + c.args.reduced.now.apart;
       held = ended.held;
@@ -54,5 +54,5 @@ returns c film same stands =
       lines = lines;
     }))
     (ap (way_back (reduced_data c.args.reduced.now).members) (sym c.deref.ensures.value) ∙ sym c.in_ok-expand.ensures)
-    (solved_by c.args.kind film c.args.nodes start varied ended c.oriented-order.result.items status lines (reduced_data c.args.reduced.now) same stands
+    (solved_by c.args.options.kind film c.args.options.nodes start varied ended c.oriented-order.result.items status lines (reduced_data c.args.reduced.now) same stands
     c.requires.start c.requires.searched.is_varied searched.ended optimum orders c.oriented-order.ensures.kept c.oriented-order.ensures.pay so.0 so.1)

@@ -1,7 +1,7 @@
 use Rattle.std.proofs.Common.{◌≡◌, false}
 use Rattle.strip_mask.specs.Set.{has}
 use Rattle.strip_mask.proofs.ByMembers.{has-empty}
-use Rattle.strip_memo.proofs.memo.Memo.new.Goals as goal
+use Rattle.strip_memo.proofs.memo.Memo.among.Goals as goal
 
 -- the empty set lies in every film
 pub at-requires-clause-lies : goal.at-requires-clause-lies

@@ -15,7 +15,7 @@ use Rattle.strip_team.specs.Team.{IsSearchBy}
 use Rattle.strip_team.proofs.Closed.{ended_from, search_stays, told_by}
 use Rattle.strip_team.proofs.Counted.{front_has_all}
 use Rattle.strip_team.proofs.OneWorker.{has_all, owns_all, search_by, settled_alone}
-use Rattle.strip_team.proofs.search.alone.Goals as goal
+use Rattle.strip_team.proofs.search.alone_through.Goals as goal
 
 pub go_down_front-requires-clause-search : goal.go_down_front-requires-clause-search
 go_down_front-requires-clause-search g c =
@@ -23,13 +23,13 @@ go_down_front-requires-clause-search g c =
     c.in_ok-world.ensures.search
 
 pub work-requires-clause-search : goal.work-requires-clause-search
-work-requires-clause-search g c =
+work-requires-clause-search g c = λ κs outlives.
     subst (IsSearchBy c.args.kept.now.kind c.args.kept.now.film.now) (sym (ap (λ (h : HandData). h.search) c.go_down_front.ensures.down.1.only))
     (search_by c.args.kept.now.film.now c.args.kept.now.kind c.in_ok-world.world.search c.args.cap (path_data c.args.start.now).paid
     c.in_ok-world.ensures.search)
 
 pub work-requires-clause-worked : goal.work-requires-clause-worked
-work-requires-clause-worked g c =
+work-requires-clause-worked g c = λ κs outlives.
     c.in_ok-walked.ensures.worked
     (front_has_all (hand_data c.go_down_front.new.hand)
     (owns_all c.go_down_front.new.hand c.go_down_front.ensures.sound (c.go_down_front.ensures.home ∙ c.in_ok-world.ensures.one_worker))
