@@ -46,6 +46,15 @@ unasked told lines asked noted front found spent few was =
     moved_same (hand_of told lines asked noted) (hand_of told lines None None)
     (record { search = refl; told = omega arith; grow = grow_self lines.lines; records = λ part entry is. is }) front found spent was (λ _. few) (λ part. refl)
 
+-- and so it went on, whatever it probed and noted last
+pub goes_unasked : (before : HandData) (told : LeastView) (lines : ViewData) (asked : Option Asked) (noted : Option Known)
+    → GoesOn before (hand_of told lines asked noted) → GoesOn before (hand_of told lines None None)
+goes_unasked before told lines asked noted on = record { search = on.search; told = on.told; grow = on.grow; records = on.records }
+
+pub goes_from_unasked : (told : LeastView) (lines : ViewData) (asked : Option Asked) (noted : Option Known) (after : HandData)
+    → GoesOn (hand_of told lines None None) after → GoesOn (hand_of told lines asked noted) after
+goes_from_unasked told lines asked noted after on = record { search = on.search; told = on.told; grow = on.grow; records = on.records }
+
 module _ {X : Type 0} (P : X → Type 0) where
   -- what holds of all holds of the last one, and of those before it
   pub all_last : (xs : List X) (x : X) → All P (xs ++ x ∷ []) → P x

@@ -1,3 +1,6 @@
 pub mod Joined
 pub mod Settled
 pub mod Done
+pub mod Opened
+pub mod Begun
+pub mod Shut

@@ -8,16 +8,22 @@ use Rattle.strip_film.specs.Film.{IsFilm}
 use Rattle.strip_film.specs.Path.{PathData}
 use Rattle.strip_film.specs.declared.shared.Line.{Line}
 use Rattle.strip_count.specs.Parts.{AreCounted}
-use Rattle.strip_hand.specs.Hand.{RecordData, no_path_yet}
+use Rattle.atomic_table.specs.Seated.{TableId}
+use Rattle.strip_hand.specs.Hand.{IsHand, IsRecord, RecordData, no_path_yet}
 use Rattle.strip_hand.specs.Search.{SearchData, depth_of, search_rules}
 use Rattle.strip_least.specs.declared.view.View.{View as LeastView}
 use Rattle.strip_least.specs.Rule.{once_below}
 use Rattle.strip_least.specs.Steps.{HasSettled}
 use Rattle.strip_book.specs.View.{AreApart, EntryData, ViewData, last_in, last_of, number_in, number_of_record, parts_of, record_at}
 use Rattle.strip_book.specs.Rule.{IsEntry, candidates_at, lines_of, number_of, total}
-use Rattle.strip_book.specs.Pass.{Settles}
+use Rattle.strip_book.specs.Pass.{Settles, known}
 use Rattle.strip_book.specs.Steps.{OwnsAll}
-use Rattle.strip_hub.specs.Hub.{GoTogether, hand_of}
+use Rattle.strip_least.specs.declared.least.Least.{Least}
+use Rattle.strip_least.specs.declared.pass.LeastPass.{LeastPass}
+use Rattle.strip_least.specs.Pass.{known as known_least}
+use Rattle.strip_book.specs.declared.book.Book.{Book}
+use Rattle.strip_book.specs.declared.pass.BookPass.{BookPass}
+use Rattle.strip_hub.specs.Hub.{GoTogether, IsHub, hand_of}
 use Rattle.strip_team.specs.Closed.{AreCountedBy, HasAll}
 use Rattle.strip_team.specs.Team.{GoesOn}
 
@@ -42,6 +48,36 @@ last_is (Some kept) = refl
 number_is : (kept : Option RecordData) → number_of_record kept ≡ (unwrap_or kept no_path_yet).number
 number_is None = refl
 number_is (Some kept) = refl
+
+-- what holds of every hand holds of passes that go together
+pub limits_of : (table : TableId) (least : Least) (book : Book) (told : LeastPass) (lines : BookPass)
+    → ((search : SearchData) (entries : List EntryData) (part : ℕ) (kept : RecordData) → All (IsEntry search) entries → record_at part entries ≡ Some kept
+    → IsRecord search part kept)
+    → IsHub table least book told lines → IsHand (hand_of (known_least told) (known lines) None None)
+limits_of table least book told lines law hub = record {
+  film = hub.search.film;
+  tasks = hub.search.tasks;
+  told = omega (arith, hub.together.no_dearer, hub.together.start);
+  few = hub.book_pass.few;
+  lines = hub.book_pass.justified;
+  records = λ part entry is. law (known lines).search (known lines).entries part entry hub.book_pass.entries is;
+}
+
+-- lines that are all of the entries of passes are counted by them
+pub counted_by : (told : LeastView) (view : ViewData) (lines : List Line) → GoTogether told view
+    → ((search : SearchData) (entries : List EntryData) (lines : List Line) → IsFilm search.film → All (IsEntry search) entries → AreApart entries
+    → total number_of entries ≡ length lines → ((set : ℕ) → lines_of set lines ≤ total (candidates_at search set) entries)
+    → AreCounted (search_rules search) search.start (depth_of search) search.tasks lines (last_in entries) (number_in entries))
+    → IsFilm view.search.film → All (IsEntry view.search) view.entries → total number_of view.entries ≡ length lines
+    → ((set : ℕ) → lines_of set lines ≤ total (candidates_at view.search set) view.entries) → AreCountedBy (hand_of told view None None) lines
+counted_by told view lines together law film each numbers sets =
+    let apart : AreApart view.entries
+    = (λ part. (let here : count part (parts_of view.entries) ≡ count part told.claims = ap (count part) together.begun in omega (arith, here, together.once part))) in
+    let by_entries = law view.search view.entries lines film each apart numbers sets in
+    subst (λ (last : ℕ → Option PathData). AreCounted (search_rules view.search) view.search.start (depth_of view.search) view.search.tasks lines last
+    (λ part. (unwrap_or (record_at part view.entries) no_path_yet).number)) (λ i part. last_is (record_at part view.entries) i)
+    (subst (λ (number : ℕ → ℕ). AreCounted (search_rules view.search) view.search.start (depth_of view.search) view.search.tasks lines (last_in view.entries) number)
+    (λ i part. number_is (record_at part view.entries) i) by_entries)
 
 module _ (told after : LeastView) (lines more : ViewData) (together : GoTogether told lines) (settled : HasSettled told after.told after) (settles : Settles lines more) where
   pub settled_together : GoTogether after more
@@ -71,16 +107,8 @@ module _ (told after : LeastView) (lines more : ViewData) (together : GoTogether
       let here : count part (parts_of more.entries) ≡ count part told.claims = ap (λ (entries : List EntryData). count part (parts_of entries)) settles.entries ∙ ap (count part) together.begun in
       some_at part more.entries (omega (arith, here, each part, one))
 
-  pub counts : ((search : SearchData) (entries : List EntryData) (known : List Line) → IsFilm search.film → All (IsEntry search) entries → AreApart entries
-      → total number_of entries ≡ length known → ((set : ℕ) → lines_of set known ≤ total (candidates_at search set) entries)
-      → AreCounted (search_rules search) search.start (depth_of search) search.tasks known (last_in entries) (number_in entries))
+  pub counts : ((search : SearchData) (entries : List EntryData) (lines : List Line) → IsFilm search.film → All (IsEntry search) entries → AreApart entries
+      → total number_of entries ≡ length lines → ((set : ℕ) → lines_of set lines ≤ total (candidates_at search set) entries)
+      → AreCounted (search_rules search) search.start (depth_of search) search.tasks lines (last_in entries) (number_in entries))
       → IsFilm more.search.film → All (IsEntry more.search) more.entries → OwnsAll more → AreCountedBy (hand_of after more None None) more.lines
-  counts law film each owns =
-      let apart : AreApart more.entries
-      = λ part. (let here : count part (parts_of more.entries) ≡ count part told.claims = ap (λ (entries : List EntryData). count part (parts_of entries)) settles.entries ∙ ap (count part) together.begun in
-      omega (arith, here, together.once part)) in
-      let by_entries = law more.search more.entries more.lines film each apart owns.numbers owns.sets in
-      subst (λ (last : ℕ → Option PathData). AreCounted (search_rules more.search) more.search.start (depth_of more.search) more.search.tasks more.lines last
-      (λ part. (unwrap_or (record_at part more.entries) no_path_yet).number)) (λ i part. last_is (record_at part more.entries) i)
-      (subst (λ (number : ℕ → ℕ). AreCounted (search_rules more.search) more.search.start (depth_of more.search) more.search.tasks more.lines (last_in more.entries) number)
-      (λ i part. number_is (record_at part more.entries) i) by_entries)
+  counts law film each owns = counted_by after more more.lines settled_together law film each owns.numbers owns.sets

@@ -1,9 +1,10 @@
-//! What the workers of a crew do with their passes.
+//! A search by several workers beside one another, each with passes of what all of them share.
 #![tactic(auto)]
 
 mod job;
 mod passes;
+mod racing;
+mod tables;
 mod working;
 
-pub use passes::{join, settle, split};
-pub use working::work_beside;
+pub use racing::race;

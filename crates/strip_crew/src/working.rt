@@ -2,52 +2,52 @@
 ghost use Rattle.std.specs.Prelude.{◌≡◌, ◌≤◌, ◌+◌, ℕ, List, All, IfOk, false, length, vec_len};
 ghost use Rattle.strip_bound.specs.Kept.{Keeps};
 ghost use Rattle.strip_front.specs.Shown.{front_data};
+ghost use Rattle.strip_memo.specs.Memo.{IsMemo};
 ghost use Rattle.strip_book.specs.Pass.{table_of};
 ghost use Rattle.strip_team.specs.Team.{HasWorked, IsSearchBy};
 ghost use Rattle.strip_crew.specs.Crew.{AreDealt, ArePassesOf, HasGathered, HaveWorked, IsDone, IsJob, Weigh, shown};
 
 use crate::job::Job;
 use crate::passes::{join, split};
+use crate::tables::Tables;
 use std::alloc::Global;
 use std::sync::Wait;
 use std::thread;
 use std::thread::Threads;
-use strip_book::Book;
 use strip_bound::Kept;
 use strip_front::Front;
 use strip_hub::{Hub, HubParts};
 use strip_io::Memory;
-use strip_least::Least;
 use strip_memo::Memo;
-use strip_stripes::{Named, Stripes};
-use strip_team::{Walked, merge, work};
+use strip_stripes::Named;
+use strip_team::{Gate, Walked, Worker, merge, work};
 
 /// A job for each worker, with passes of weight 1 from these, where the front wasn't cut short. It takes a
-/// memo and a number for each task of each worker.
-fn deal<F: Fn(u64, u64) -> u64>(
+/// memo and a number for each task of each worker. The caller has a memo besides.
+fn deal<N: Named, F: Fn(u64, u64) -> u64>(
     alloc: Global,
     kept: &Kept<F>,
-    least: &Least,
-    book: &Book,
+    tables: &Tables<N>,
     front: &Front,
     passes: &mut HubParts,
     workers: u32,
 ) -> Result<Vec<Job>, Memory>
     requires keeps { Keeps (F.pre kept.now.f) (F.post kept.now.f) kept.now.kind kept.now.film.now }
-    requires passes { ArePassesOf least.now book.now passes.old }
+    requires passes { ArePassesOf tables.now.least tables.now.book passes.old }
     requires search { IsSearchBy kept.now.kind kept.now.film.now (shown passes.old).search }
     requires worked { (found : List ℕ) × HasWorked (shown passes.old) (front_data front.now) found false }
     requires weight { (rest : ℕ) × Weigh (1 + rest + workers) passes.old }
     requires workers { workers ≤ 64 }
-    ensures { IfOk result (λ jobs. AreDealt kept.now.kind kept.now.film.now (front_data front.now) least.now book.now
+    ensures { IfOk result (λ jobs. AreDealt kept.now.kind kept.now.film.now (front_data front.now) tables.now.least tables.now.book
         passes.old passes.new jobs.items workers) }
 {
     let mut jobs = Vec::new(alloc);
     for desk in 0..workers {
-        let memo = Memo::new(alloc, kept)?;
+        let memo = Memo::among(alloc, kept, workers + 1)?;
         let walked = Walked::new(alloc, front)?;
         jobs.push(Job {
-            passes: split(least, book, passes, desk),
+            number: desk,
+            passes: split(&tables.least, &tables.book, passes, desk),
             walked,
             memo,
         })?;
@@ -55,108 +55,152 @@ fn deal<F: Fn(u64, u64) -> u64>(
     Ok(jobs)
 }
 
-/// Claims parts until none is left, and walks each task that is asked for.
-fn do_job<R: Wait, N: Named, F: Fn(u64, u64) -> u64>(
+/// Claims parts by these passes until none is left, and walks each task that is asked for. What was found
+/// before is put to what was found.
+pub(crate) fn work_alone<R: Wait, N: Named, F: Fn(u64, u64) -> u64, G: Gate>(
     rt: &R,
     kept: &Kept<F>,
-    least: &Least,
-    book: &Book,
-    stripes: &Stripes<N>,
+    tables: &Tables<N>,
     front: &Front,
+    worker: &Worker<G>,
+    memo: &mut Memo,
+    walked: &mut Walked,
+    passes: HubParts,
+) -> Result<HubParts, Memory>
+    requires keeps { Keeps (F.pre kept.now.f) (F.post kept.now.f) kept.now.kind kept.now.film.now }
+    requires memo { IsMemo kept.now.kind kept.now.film.now memo.old }
+    requires named { table_of tables.now.book ≡ N.table }
+    requires passes { ArePassesOf tables.now.least tables.now.book passes }
+    requires search { IsSearchBy kept.now.kind kept.now.film.now (shown passes).search }
+    requires worked { HasWorked (shown passes) (front_data front.now) walked.old.found.items walked.old.spent }
+    ensures memo { IsMemo kept.now.kind kept.now.film.now memo.new }
+    ensures worked { IfOk result (λ after. HaveWorked (front_data front.now) tables.now.least tables.now.book passes after walked.new) }
+{
+    let mut hub = Hub::of(rt, &tables.least, &tables.book, &tables.stripes, passes);
+    work(kept, &mut hub, front, worker, memo, walked)?;
+    Ok(hub.parts())
+}
+
+/// Does a job.
+fn do_job<R: Wait, N: Named, F: Fn(u64, u64) -> u64, G: Gate>(
+    rt: &R,
+    kept: &Kept<F>,
+    tables: &Tables<N>,
+    front: &Front,
+    gate: &G,
     job: Job,
 ) -> Result<Job, Memory>
     requires keeps { Keeps (F.pre kept.now.f) (F.post kept.now.f) kept.now.kind kept.now.film.now }
-    requires named { table_of book.now ≡ N.table }
-    requires job { IsJob kept.now.kind kept.now.film.now (front_data front.now) least.now book.now job }
-    ensures { IfOk result (IsDone kept.now.kind kept.now.film.now (front_data front.now) least.now book.now) }
+    requires named { table_of tables.now.book ≡ N.table }
+    requires job { IsJob kept.now.kind kept.now.film.now (front_data front.now) tables.now.least tables.now.book job }
+    ensures { IfOk result (IsDone kept.now.kind kept.now.film.now (front_data front.now) tables.now.least tables.now.book) }
 {
     let Job {
+        number,
         passes,
         mut walked,
         mut memo,
     } = job;
-    let mut hub = Hub::of(rt, least, book, stripes, passes);
-    work(kept, &mut hub, front, &mut memo, &mut walked)?;
+    let worker = Worker { gate, number };
+    let passes = work_alone(
+        rt,
+        kept,
+        tables,
+        front,
+        &worker,
+        &mut memo,
+        &mut walked,
+        passes,
+    )?;
     Ok(Job {
-        passes: hub.parts(),
+        number,
+        passes,
         walked,
         memo,
     })
 }
 
 /// Does each job in a thread, beside the others, and waits for all.
-fn do_jobs<R: Threads + Wait + Sync, N: Named + Send + Sync, F: Fn(u64, u64) -> u64 + Sync>(
+fn do_jobs<
+    R: Threads + Wait + Sync,
+    N: Named + Send + Sync,
+    F: Fn(u64, u64) -> u64 + Sync,
+    G: Gate,
+>(
     rt: &R,
     kept: &Kept<F>,
-    least: &Least,
-    book: &Book,
-    stripes: &Stripes<N>,
+    tables: &Tables<N>,
     front: &Front,
+    gate: &G,
     jobs: Vec<Job>,
 ) -> Result<Vec<Result<Job, Memory>>, Memory>
     requires keeps { Keeps (F.pre kept.now.f) (F.post kept.now.f) kept.now.kind kept.now.film.now }
-    requires named { table_of book.now ≡ N.table }
-    requires jobs { All (IsJob kept.now.kind kept.now.film.now (front_data front.now) least.now book.now) jobs.items }
+    requires named { table_of tables.now.book ≡ N.table }
+    requires jobs { All (IsJob kept.now.kind kept.now.film.now (front_data front.now) tables.now.least tables.now.book) jobs.items }
     ensures count { IfOk result (λ all. vec_len all ≡ vec_len jobs) }
-    ensures each { IfOk result (λ all. All (λ one. IfOk one (IsDone kept.now.kind kept.now.film.now (front_data front.now) least.now book.now)) all.items) }
+    ensures each { IfOk result (λ all. All (λ one. IfOk one (IsDone kept.now.kind kept.now.film.now (front_data front.now) tables.now.least tables.now.book)) all.items) }
 {
     let all = thread::map_vec(
         rt,
         jobs,
         &|job: Job| -> Result<Job, Memory>
-            requires { Keeps (F.pre kept.now.f) (F.post kept.now.f) kept.now.kind kept.now.film.now × (table_of book.now ≡ N.table)
-                × IsJob kept.now.kind kept.now.film.now (front_data front.now) least.now book.now job }
-            ensures { IfOk result (IsDone kept.entry.now.kind kept.entry.now.film.now (front_data front.entry.now) least.entry.now book.entry.now) }
-        { do_job(rt, kept, least, book, stripes, front, job) },
+            requires { Keeps (F.pre kept.now.f) (F.post kept.now.f) kept.now.kind kept.now.film.now × (table_of tables.now.book ≡ N.table)
+                × IsJob kept.now.kind kept.now.film.now (front_data front.now) tables.now.least tables.now.book job }
+            ensures { IfOk result (IsDone kept.entry.now.kind kept.entry.now.film.now (front_data front.entry.now) tables.entry.now.least tables.entry.now.book) }
+        { do_job(rt, kept, tables, front, gate, job) },
     )?;
     Ok(all)
 }
 
 /// Puts what one worker found to what was found, and its passes to these.
-fn gather(least: &Least, book: &Book, passes: &mut HubParts, walked: &mut Walked, job: Job)
-    requires passes { ArePassesOf least.now book.now passes.old }
-    requires other { ArePassesOf least.now book.now job.passes }
+fn gather<N: Named>(tables: &Tables<N>, passes: &mut HubParts, walked: &mut Walked, job: Job)
+    requires passes { ArePassesOf tables.now.least tables.now.book passes.old }
+    requires other { ArePassesOf tables.now.least tables.now.book job.passes }
     requires long { length walked.old.found.items ≡ length job.walked.found.items }
-    ensures { HasGathered least.now book.now passes.old walked.old job passes.new walked.new }
+    ensures { HasGathered tables.now.least tables.now.book passes.old walked.old job passes.new walked.new }
 {
     let Job {
         passes: other,
         walked: found,
         ..
     } = job;
-    join(least, book, passes, other);
+    join(&tables.least, &tables.book, passes, other);
     merge(walked, &found);
 }
 
 /// So many workers walk the tasks that are asked for, each in a thread, after passes that went down the
 /// front and found it whole. What they found is then put to what was found, and their passes to these.
-pub fn work_beside<R: Threads + Wait + Sync, N: Named + Send + Sync, F: Fn(u64, u64) -> u64 + Sync>(
+pub(crate) fn work_beside<
+    R: Threads + Wait + Sync,
+    N: Named + Send + Sync,
+    F: Fn(u64, u64) -> u64 + Sync,
+    G: Gate,
+>(
     rt: &R,
     alloc: Global,
     kept: &Kept<F>,
-    least: &Least,
-    book: &Book,
-    stripes: &Stripes<N>,
+    tables: &Tables<N>,
     front: &Front,
+    gate: &G,
+    workers: u32,
     passes: &mut HubParts,
     walked: &mut Walked,
-    workers: u32,
 ) -> Result<(), Memory>
     requires keeps { Keeps (F.pre kept.now.f) (F.post kept.now.f) kept.now.kind kept.now.film.now }
-    requires named { table_of book.now ≡ N.table }
-    requires passes { ArePassesOf least.now book.now passes.old }
+    requires named { table_of tables.now.book ≡ N.table }
+    requires passes { ArePassesOf tables.now.least tables.now.book passes.old }
     requires search { IsSearchBy kept.now.kind kept.now.film.now (shown passes.old).search }
     requires worked { HasWorked (shown passes.old) (front_data front.now) walked.old.found.items walked.old.spent }
     requires whole { walked.old.spent ≡ false }
     requires weight { (rest : ℕ) × Weigh (1 + rest + workers) passes.old }
     requires some { 1 ≤ workers }
     requires few { workers ≤ 64 }
-    ensures { IfOk result (λ _. HaveWorked (front_data front.now) least.now book.now passes.old passes.new walked.new) }
+    ensures { IfOk result (λ _. HaveWorked (front_data front.now) tables.now.least tables.now.book passes.old passes.new walked.new) }
 {
-    let jobs = deal(alloc, kept, least, book, front, passes, workers)?;
-    let mut all = do_jobs(rt, kept, least, book, stripes, front, jobs)?;
+    let jobs = deal(alloc, kept, tables, front, passes, workers)?;
+    let mut all = do_jobs(rt, kept, tables, front, gate, jobs)?;
     while let Some(one) = all.pop() {
-        gather(least, book, passes, walked, one?);
+        gather(tables, passes, walked, one?);
     }
     Ok(())
 }

@@ -5,7 +5,7 @@ ghost use Rattle.strip_film.specs.Path.{IsComplete};
 ghost use Rattle.strip_film.specs.Shown.{cursor_data, path_data};
 ghost use Rattle.strip_hand.specs.Calls.{Claims, Enlists, MayEnlist, MayRaise, Notes, Probes, Raises, Tells};
 ghost use Rattle.strip_hand.specs.Hand.{IsHand, Knows};
-ghost use Rattle.strip_least.specs.Pass.{known as known_least};
+ghost use Rattle.strip_least.specs.Pass.{Claims as ClaimsNext, known as known_least};
 ghost use Rattle.strip_book.specs.Pass.{known};
 ghost use Rattle.strip_hub.specs.Hub.{HubHome, IsHub, hand_of, home_of};
 
@@ -42,7 +42,15 @@ impl<'a, R: Wait, N: Named> Hand for Hub<'a, R, N> {
         self.told.offer(self.least, path)
     }
 
-    fn claim(&mut self) -> Option<u32> {
+    fn claim(&mut self) -> Option<u32>
+        requires { IsHub N.table self.old.least.now self.old.book.now self.old.told self.old.lines }
+        ensures sound { IsHub N.table self.new.least.now self.new.book.now self.new.told self.new.lines }
+        ensures home { home_of self.new.least.now self.new.book.now (known_least self.new.told) (known self.new.lines)
+            ≡ home_of self.old.least.now self.old.book.now (known_least self.old.told) (known self.old.lines) }
+        ensures claimed { Claims (hand_of (known_least self.old.told) (known self.old.lines) self.old.asked self.old.noted) result
+            (hand_of (known_least self.new.told) (known self.new.lines) self.new.asked self.new.noted) }
+        ensures next { ClaimsNext (known_least self.old.told) result (known_least self.new.told) }
+    {
         other_parts_have_no_record();
         let part = self.told.claim(self.least)?;
         self.lines.begin(self.book, part);

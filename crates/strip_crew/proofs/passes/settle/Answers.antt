@@ -4,8 +4,8 @@ use Rattle.strip_hand.specs.Search.{AreStarts, SearchData}
 use Rattle.strip_least.specs.declared.view.View.{View as LeastView}
 use Rattle.strip_least.specs.Pass.{known as known_least}
 use Rattle.strip_book.specs.View.{record_at}
-use Rattle.strip_book.specs.Pass.{known}
-use Rattle.strip_crew.proofs.Settled.{counts, goes_on, has_all, settled_together}
+use Rattle.strip_book.specs.Pass.{known, table_of}
+use Rattle.strip_crew.proofs.Settled.{counts, goes_on, has_all, limits_of, settled_together}
 use Rattle.strip_crew.proofs.passes.settle.Goals as goal
 
 pub returns-clause-passes : goal.returns-clause-passes
@@ -38,3 +38,8 @@ returns-clause-settled c =
       all = λ weigh ended. has_all told after lines more c.requires.together c.settle.ensures.settled c.settle-2.ensures.settled
           (c.settle.ensures.settled.each weigh.told ended);
     }
+
+pub returns-clause-limits : goal.returns-clause-limits
+returns-clause-limits c =
+    limits_of (table_of c.args.book.now) c.args.least.now c.args.book.now c.settle.new.self c.settle-2.new.self c.entries_are_records.ensures
+    (returns-clause-passes c)

@@ -26,18 +26,18 @@ loop-desk-preserved g c =
       weight = λ rest weigh. c.split.ensures.lighter rest
           (was.weight (suc rest) (subst (λ (w : ℕ). Weigh w c.args.passes.now) (omega arith) weigh));
       count = omega (arith, was.count, c.in_ok-push.ensures.len);
-      jobs_are = rw c.in_ok-push.ensures.items (All-push (IsJob kind film front c.args.least.now c.args.book.now) c.loop-desk.jobs.items
-          (record { passes = c.split.result; walked = c.in_ok-walked.walked; memo = c.in_ok-memo.memo }) was.jobs_are (record {
+      jobs_are = rw c.in_ok-push.ensures.items (All-push (IsJob kind film front c.args.tables.now.least c.args.tables.now.book) c.loop-desk.jobs.items
+          (record { number = c.loop-desk.desk; passes = c.split.result; walked = c.in_ok-walked.walked; memo = c.in_ok-memo.memo }) was.jobs_are (record {
             passes = c.split.ensures.new_passes;
             light = c.split.ensures.light;
             search = subst (IsSearchBy kind film) (sym (c.split.ensures.fresh.search ∙ ap (λ (h : HandData). h.search) was.same)) c.requires.search;
             worked = c.in_ok-walked.ensures.worked (shown c.args.passes.now) (shown c.split.result) c.requires.worked.0 c.requires.worked.1
                 (subst (λ (h : HandData). IsFresh h (shown c.split.result)) was.same c.split.ensures.fresh);
-            memo = c.in_ok-memo.ensures;
+            memo = c.in_ok-memo.ensures.memo;
           }));
     }
 
 pub returns : goal.returns
 returns g c =
-    subst (λ (n : ℕ). AreDealt c.args.kept.now.kind c.args.kept.now.film.now (front_data c.args.front.now) c.args.least.now c.args.book.now c.args.passes.now c.loop-desk.passes
+    subst (λ (n : ℕ). AreDealt c.args.kept.now.kind c.args.kept.now.film.now (front_data c.args.front.now) c.args.tables.now.least c.args.tables.now.book c.args.passes.now c.loop-desk.passes
     c.loop-desk.jobs.items n) (omega (arith, c.loop-desk-test.false, c.loop-desk.auto.desk-end)) c.loop-desk.invariant

@@ -31,18 +31,18 @@ is_done P before after one job all items is = subst (λ (r : Result Job Memory).
 
 pub gather-requires-clause-other : goal.gather-requires-clause-other
 gather-requires-clause-other g c =
-    (is_done (IsDone c.args.kept.now.kind c.args.kept.now.film.now (front_data c.args.front.now) c.args.least.now c.args.book.now)
+    (is_done (IsDone c.args.kept.now.kind c.args.kept.now.film.now (front_data c.args.front.now) c.args.tables.now.least c.args.tables.now.book)
     c.loop-one.all.items c.pop.new.self.items c.in-Some.one c.in_ok-one.field-0 c.loop-one.invariant.all c.in-Some.ensures.items c.in_ok-one.was).is_job.passes
 
 pub gather-requires-clause-long : goal.gather-requires-clause-long
 gather-requires-clause-long g c =
-    c.loop-one.invariant.worked.long ∙ sym (is_done (IsDone c.args.kept.now.kind c.args.kept.now.film.now (front_data c.args.front.now) c.args.least.now c.args.book.now)
+    c.loop-one.invariant.worked.long ∙ sym (is_done (IsDone c.args.kept.now.kind c.args.kept.now.film.now (front_data c.args.front.now) c.args.tables.now.least c.args.tables.now.book)
     c.loop-one.all.items c.pop.new.self.items c.in-Some.one c.in_ok-one.field-0 c.loop-one.invariant.all c.in-Some.ensures.items c.in_ok-one.was).is_job.worked.long
 
 pub loop-one-preserved : goal.loop-one-preserved
 loop-one-preserved g c =
     let was = c.loop-one.invariant in
-    let done = is_done (IsDone c.args.kept.now.kind c.args.kept.now.film.now (front_data c.args.front.now) c.args.least.now c.args.book.now)
+    let done = is_done (IsDone c.args.kept.now.kind c.args.kept.now.film.now (front_data c.args.front.now) c.args.tables.now.least c.args.tables.now.book)
     c.loop-one.all.items c.pop.new.self.items c.in-Some.one c.in_ok-one.field-0 was.all c.in-Some.ensures.items c.in_ok-one.was in
     let gathered = c.gather.ensures in
     record {
@@ -52,8 +52,8 @@ loop-one-preserved g c =
           let got = was.weight total weigh in
           (got.0 + 1, omega (arith, got.1, ap length c.in-Some.ensures.items, c.in-Some.ensures.len), gathered.weight got.0 got.2 done.is_job.light));
       worked = gathered.worked (front_data c.args.front.now) was.worked done.is_job.worked;
-      all = all_before (λ r. IfOk r (IsDone c.args.kept.now.kind c.args.kept.now.film.now (front_data c.args.front.now) c.args.least.now c.args.book.now)) c.pop.new.self.items c.in-Some.one
-          (subst (All (λ r. IfOk r (IsDone c.args.kept.now.kind c.args.kept.now.film.now (front_data c.args.front.now) c.args.least.now c.args.book.now))) c.in-Some.ensures.items was.all);
+      all = all_before (λ r. IfOk r (IsDone c.args.kept.now.kind c.args.kept.now.film.now (front_data c.args.front.now) c.args.tables.now.least c.args.tables.now.book)) c.pop.new.self.items c.in-Some.one
+          (subst (All (λ r. IfOk r (IsDone c.args.kept.now.kind c.args.kept.now.film.now (front_data c.args.front.now) c.args.tables.now.least c.args.tables.now.book))) c.in-Some.ensures.items was.all);
       ended = inr (gathered.ended done.ended);
     }
 

@@ -6,11 +6,11 @@ use Rattle.strip_crew.proofs.working.work_beside.Given as goal
 
 abbrev pub invariant-loop-one : goal.invariant-loop-one
 invariant-loop-one g l = record {
-  passes : ArePassesOf l.fn.least l.fn.book l.passes;
+  passes : ArePassesOf l.fn.tables.least l.fn.tables.book l.passes;
   goes_on : GoesOn (shown l.fn.passes) (shown l.passes);
   weight : (total : ℕ) → Weigh total l.fn.passes → (rest : ℕ) × (rest + vec_len l.all ≡ total) × Weigh rest l.passes;
   worked : HasWorked (shown l.passes) (front_data l.fn.front) l.walked.found.items l.walked.spent;
-  all : All (λ one. IfOk one (IsDone l.fn.kept.kind l.fn.kept.film.now (front_data l.fn.front) l.fn.least l.fn.book)) l.all.items;
+  all : All (λ one. IfOk one (IsDone l.fn.kept.kind l.fn.kept.film.now (front_data l.fn.front) l.fn.tables.least l.fn.tables.book)) l.all.items;
   ended : (vec_len l.all ≡ l.fn.workers) ⊎ ((shown l.passes).ended ≡ true);
 }
 

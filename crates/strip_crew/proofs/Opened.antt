@@ -1,0 +1,55 @@
+-- What a race opens with.
+use Rattle.std.proofs.Common.{◌≡◌, ℕ, suc, ◌≤◌, false, List, [], length, refl, sym, ap, ◌∙◌, subst, arith}
+use Rattle.strip_kind.specs.declared.kind.Kind.{Kind}
+use Rattle.strip_pay.specs.Film.{FilmData}
+use Rattle.strip_film.specs.Film.{IsFilm}
+use Rattle.strip_film.specs.Path.{PathData}
+use Rattle.strip_lines.specs.Lines.{rules_of}
+use Rattle.strip_hand.specs.Search.{AreStarts, SearchData}
+use Rattle.strip_front.specs.Front.{FrontData, IsEmptyFront}
+use Rattle.strip_front.specs.Tasks.{tasks_of}
+use Rattle.strip_least.specs.declared.least.Least.{Least}
+use Rattle.strip_least.specs.declared.pass.LeastPass.{LeastPass}
+use Rattle.strip_least.specs.declared.view.View.{View as LeastView}
+use Rattle.strip_least.specs.Pass.{IsFirst as IsFirstLeast, known as known_least}
+use Rattle.strip_least.specs.Rule.{first_view as first_told}
+use Rattle.strip_book.specs.declared.book.Book.{Book}
+use Rattle.strip_book.specs.declared.pass.BookPass.{BookPass}
+use Rattle.strip_book.specs.Pass.{IsFirst as IsFirstBook, known}
+use Rattle.strip_book.specs.Rule.{first_view}
+use Rattle.strip_book.specs.View.{ViewData}
+use Rattle.strip_hub.specs.Hub.{GoTogether, IsSearch}
+use Rattle.strip_team.specs.Team.{IsSearchBy}
+use Rattle.strip_crew.specs.Race.{MayBegin}
+
+module _ (kind : Kind) (film : FilmData) (start : PathData) (cap : ℕ) (tasks : List PathData) (front : FrontData)
+    (least : Least) (told : LeastPass) (book : Book) (lines : BookPass) where
+  abbrev search : SearchData
+  search = record { film = film; kind = kind; cap = cap; start = start.paid; tasks = tasks }
+
+  pub opened : IsFirstLeast film start (suc (length tasks)) least told → IsFirstBook search book lines → IsFilm film → AreStarts search
+      → tasks ≡ tasks_of (rules_of kind film) → 1 ≤ cap → IsEmptyFront (rules_of kind film) front
+      → MayBegin kind film front least book (record { told = told; lines = lines })
+  opened first_least first_book is_film starts by_tasks some empty = record {
+    are = record {
+      least_pass = first_least.pass_of;
+      book_pass = first_book.pass_of;
+      named = refl;
+      together = subst (λ (v : LeastView). GoTogether v (known lines)) (sym first_least.knows)
+          (subst (λ (v : ViewData). GoTogether (first_told (record { film = film; start = start.paid; parts = suc (length tasks) })) v) (sym first_book.knows) (record {
+            film = refl;
+            start = refl;
+            parts = refl;
+            no_dearer = omega arith;
+            begun = refl;
+            once = λ part. omega arith;
+          }));
+      search = subst IsSearch (sym first_book.knows) (record { film = is_film; tasks = starts });
+    };
+    full = record { told = ap (λ (v : LeastView). v.weight) first_least.knows; lines = ap (λ (v : ViewData). v.weight) first_book.knows };
+    search = subst (λ (v : ViewData). IsSearchBy kind film v.search) (sym first_book.knows) (record { same_film = refl; same_kind = refl; tasks = by_tasks });
+    some_lines = subst (λ (v : ViewData). 1 ≤ v.search.cap) (sym first_book.knows) some;
+    unclaimed = ap (λ (v : ViewData). v.entries) first_book.knows;
+    unended = ap (λ (v : LeastView). v.ended) first_least.knows;
+    front_of = subst (λ (v : ViewData). IsEmptyFront (rules_of v.search.kind v.search.film) front) (sym first_book.knows) empty;
+  }

@@ -1,0 +1,24 @@
+use Rattle.std.proofs.Common.{◌≡◌, ◌∙◌, ℕ, IfOk, ap, subst}
+use Rattle.strip_hand.specs.Search.{SearchData}
+use Rattle.strip_book.specs.View.{ViewData}
+use Rattle.strip_team.specs.Closed.{EndsFrom}
+use Rattle.strip_team.specs.Shown.{ended_data}
+use Rattle.strip_least.specs.Rule.{full_weight}
+use Rattle.strip_crew.specs.Crew.{shown}
+use Rattle.strip_crew.proofs.racing.in_race.Goals as goal
+
+pub close_front-requires-clause-full : goal.close_front-requires-clause-full
+close_front-requires-clause-full g c = c.in_ok-passes-2.ensures.worked.weight full_weight c.in_ok-passes.ensures.full
+
+pub end-requires-clause-closed : goal.end-requires-clause-closed
+end-requires-clause-closed g c = (c.in_ok-passes-2.passes, c.in_ok-passes-3.ensures)
+
+pub returns-clause-ended : goal.returns-clause-ended
+returns-clause-ended g c = λ paid room opening.
+    let same : (shown c.in_ok-passes-3.passes).search ≡ (shown c.args.opening.passes).search
+    = c.in_ok-passes-3.ensures.search ∙ c.in_ok-passes-2.ensures.worked.goes_on.search ∙ c.in_ok-passes.ensures.search
+    ∙ ap (λ (v : ViewData). v.search) c.new.ensures.same in
+    subst (λ (start : ℕ). IfOk c.end.result (λ ended. EndsFrom c.args.kept.now.kind c.args.kept.now.film.now start room (ended_data ended)))
+    (ap (λ (s : SearchData). s.start) same ∙ opening.start)
+    (subst (λ (cap : ℕ). IfOk c.end.result (λ ended. EndsFrom c.args.kept.now.kind c.args.kept.now.film.now (shown c.in_ok-passes-3.passes).search.start cap (ended_data ended)))
+    (ap (λ (s : SearchData). s.cap) same ∙ opening.cap) c.end.ensures)

@@ -1,0 +1,8 @@
+use Rattle.std.proofs.Common.{◌≡◌, ◌≤◌, ℕ}
+use Rattle.strip_count.specs.Paths.{factorial}
+use Rattle.strip_crew.proofs.racing.room_for.Given as goal
+
+abbrev pub invariant-loop-scene : goal.invariant-loop-scene
+invariant-loop-scene l = record {
+  orders : l.orders ≡ factorial l.scene;
+}

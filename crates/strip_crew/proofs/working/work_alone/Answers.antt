@@ -1,0 +1,43 @@
+use Rattle.std.proofs.Common.{◌≡◌, ◌∙◌, ap, sym, subst}
+use Rattle.strip_front.specs.Shown.{front_data}
+use Rattle.strip_hand.specs.Hand.{HandData}
+use Rattle.strip_least.specs.declared.pass.LeastPass.{LeastPass}
+use Rattle.strip_least.specs.Pass.{known as known_least}
+use Rattle.strip_book.specs.declared.pass.BookPass.{BookPass}
+use Rattle.strip_book.specs.Pass.{known}
+use Rattle.strip_hub.specs.declared.hub.HubParts.{HubParts}
+use Rattle.strip_hub.specs.Hub.{HubHome, hand_of}
+use Rattle.strip_team.specs.Team.{GoesOn, HasWorked}
+use Rattle.strip_crew.specs.Crew.{shown}
+use Rattle.strip_crew.proofs.Done.{goes_unasked, hub_is, unasked}
+use Rattle.strip_crew.proofs.working.work_alone.Goals as goal
+
+pub returns-clause-worked : goal.returns-clause-worked
+returns-clause-worked g c =
+    let hub = c.work.new.hand in
+    let given = c.args.passes in
+    let back : c.parts.result ≡ record { told = hub.told; lines = hub.lines }
+    = (λ i. record { told = c.parts.ensures.0 i; lines = c.parts.ensures.1 i }) in
+    let given_told : c.of-hub.result.told ≡ given.told = c.of-hub.ensures.passes.0 in
+    let given_lines : c.of-hub.result.lines ≡ given.lines = c.of-hub.ensures.passes.1 in
+    let same : hand_of (known_least c.of-hub.result.told) (known c.of-hub.result.lines) c.of-hub.result.asked c.of-hub.result.noted ≡ shown given
+    = (λ i. hand_of (known_least (given_told i)) (known (given_lines i)) (c.of-hub.ensures.unasked.0 i) (c.of-hub.ensures.unasked.1 i)) in
+    record {
+      passes = hub_is g.N.Named.table hub.least.now c.args.tables.now.least hub.book.now c.args.tables.now.book hub.told c.parts.result.told hub.lines c.parts.result.lines
+          (ap (λ (h : HubHome). h.least) c.work.ensures.home ∙ c.of-hub.ensures.least)
+          (ap (λ (h : HubHome). h.book) c.work.ensures.home ∙ c.of-hub.ensures.book)
+          c.parts.ensures.0 c.parts.ensures.1 c.requires.named c.work.ensures.sound;
+      goes_on = subst (λ (p : HubParts). GoesOn (shown given) (shown p)) (sym back)
+          (goes_unasked (shown given) (known_least hub.told) (known hub.lines) hub.asked hub.noted
+          (subst (λ (h : HandData). GoesOn h (hand_of (known_least hub.told) (known hub.lines) hub.asked hub.noted)) same c.work.ensures.goes_on));
+      weight = λ weight weigh. record {
+        told = ap (λ (p : LeastPass). (known_least p).weight) c.parts.ensures.0 ∙ ap (λ (h : HubHome). h.told_weight) c.work.ensures.home
+            ∙ ap (λ (p : LeastPass). (known_least p).weight) given_told ∙ weigh.told;
+        lines = ap (λ (p : BookPass). (known p).weight) c.parts.ensures.1 ∙ ap (λ (h : HubHome). h.lines_weight) c.work.ensures.home
+            ∙ ap (λ (p : BookPass). (known p).weight) given_lines ∙ weigh.lines;
+      };
+      worked = subst (λ (p : HubParts). HasWorked (shown p) (front_data c.args.front.now) c.work.new.walked.found.items c.work.new.walked.spent) (sym back)
+          (unasked (known_least hub.told) (known hub.lines) hub.asked hub.noted (front_data c.args.front.now) c.work.new.walked.found.items c.work.new.walked.spent
+          c.work.ensures.sound.book_pass.few c.in_ok-work.ensures.worked);
+      ended = ap (λ (p : LeastPass). (known_least p).ended) c.parts.ensures.0 ∙ c.in_ok-work.ensures.ended;
+    }

@@ -1,0 +1,49 @@
+-- How a race opens, begins and is closed.
+use Rattle.std.specs.Prelude.{◌≡◌, ℕ, ◌≤◌, Bool, false, []}
+use Rattle.strip_kind.specs.declared.kind.Kind.{Kind}
+use Rattle.strip_pay.specs.Film.{FilmData}
+use Rattle.strip_hand.specs.Search.{search_rules}
+use Rattle.strip_front.specs.Front.{FrontData, IsEmptyFront}
+use Rattle.strip_front.specs.Shown.{front_data}
+use Rattle.strip_least.specs.declared.least.Least.{Least}
+use Rattle.strip_least.specs.Pass.{best_path}
+use Rattle.strip_least.specs.Rule.{full_weight}
+use Rattle.strip_book.specs.declared.book.Book.{Book}
+use Rattle.strip_book.specs.Pass.{known}
+use Rattle.strip_hub.specs.declared.hub.HubParts.{HubParts}
+use Rattle.strip_team.specs.declared.walked.Walked.{Walked}
+use Rattle.strip_team.specs.Closed.{IsClosed}
+use Rattle.strip_team.specs.Team.{HasWorked, IsSearchBy}
+use Rattle.strip_crew.specs.declared.racing.Opening.{Opening}
+use Rattle.strip_crew.specs.Crew.{ArePassesOf, Weigh, shown}
+
+-- a race may begin with these passes and this front: there are no others, nothing was claimed, and the front has nothing in it
+pub record MayBegin (kind : Kind) (film : FilmData) (front : FrontData) (least : Least) (book : Book) (passes : HubParts) : Type 0 where
+  pub are : ArePassesOf least book passes
+  pub full : Weigh full_weight passes
+  pub search : IsSearchBy kind film (shown passes).search
+  pub some_lines : 1 ≤ (shown passes).search.cap
+  pub unclaimed : (known passes.lines).entries ≡ []
+  pub unended : (shown passes).ended ≡ false
+  pub front_of : IsEmptyFront (search_rules (shown passes).search) front
+
+-- what a race begins with whose start path paid this, with room for so many lines
+pub record IsOpening (kind : Kind) (film : FilmData) (paid room : ℕ) (opening : Opening) : Type 0 where
+  pub may : MayBegin kind film (front_data opening.front) opening.least opening.book opening.passes
+  pub start : (shown opening.passes).search.start ≡ paid
+  pub cap : (shown opening.passes).search.cap ≡ room
+
+-- the front was gone down: nothing was found of any task yet, and it may have been cut short
+pub record HasBegun (front : FrontData) (least : Least) (book : Book) (before after : HubParts) (walked : Walked) : Type 0 where
+  pub passes : ArePassesOf least book after
+  pub full : Weigh full_weight after
+  pub search : (shown after).search ≡ (shown before).search
+  pub worked : HasWorked (shown after) front walked.found.items walked.spent
+
+-- the front was closed up with this number, by all passes in one, whose best path paid the least cost told
+pub record HasClosed (kind : Kind) (film : FilmData) (least : Least) (book : Book) (before after : HubParts) (number : ℕ) (spent : Bool) : Type 0 where
+  pub passes : ArePassesOf least book after
+  pub full : Weigh full_weight after
+  pub search : (shown after).search ≡ (shown before).search
+  pub closed : IsClosed kind film (shown after) spent number
+  pub best : (best_path after.told).paid ≡ (shown after).told

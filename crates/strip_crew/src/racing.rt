@@ -1,0 +1,304 @@
+// A search by several workers.
+ghost use Rattle.std.specs.Prelude.{◌≡◌, ◌*◌, ◌⊎◌, ◌≤◌, true, ℕ, IfOk};
+ghost use Rattle.strip_bound.specs.Kept.{Keeps};
+ghost use Rattle.strip_film.specs.Path.{IsComplete};
+ghost use Rattle.strip_film.specs.Shown.{path_data};
+ghost use Rattle.strip_count.specs.Paths.{factorial};
+ghost use Rattle.strip_memo.specs.Memo.{IsMemo};
+ghost use Rattle.strip_front.specs.Shown.{front_data};
+ghost use Rattle.strip_race.specs.Opened.{AreLimits};
+ghost use Rattle.strip_least.specs.Rule.{full_weight};
+ghost use Rattle.strip_book.specs.Pass.{table_of};
+ghost use Rattle.strip_team.specs.Closed.{EndsFrom};
+ghost use Rattle.strip_team.specs.Ended.{IsEnded};
+ghost use Rattle.strip_team.specs.Shown.{ended_data};
+ghost use Rattle.strip_team.specs.Team.{HasWorked, IsSearchBy};
+ghost use Rattle.strip_crew.specs.Crew.{ArePassesOf, HaveWorked, Weigh, shown};
+ghost use Rattle.strip_hub.specs.declared.hub.HubParts.{HubParts};
+ghost use Rattle.strip_crew.specs.Race.{HasBegun, HasClosed, IsOpening, MayBegin};
+
+use crate::passes::settle;
+use crate::tables::Tables;
+use crate::working::{work_alone, work_beside};
+use std::alloc::Global;
+use std::marker::Brand;
+use std::sync::Wait;
+use std::thread::Threads;
+use strip_book::Book;
+use strip_book::laws::lines_of_entries_are_counted;
+use strip_bound::Kept;
+use strip_count::laws::paths_are_few;
+use strip_film::Path;
+use strip_front::laws::tasks_are_starts;
+use strip_front::{Front, layers};
+use strip_hand::Hand;
+use strip_hub::{Hub, HubParts};
+use strip_io::Memory;
+use strip_least::Least;
+use strip_memo::Memo;
+use strip_race::Limits;
+use strip_stripes::{Named, Stripes};
+use strip_team::{Ended, Gate, Walked, Worker, asked_for, close, go_down_front, tell};
+
+/// What a race begins with: its front, with nothing in it yet, the words of the least cost and the next
+/// part, the book, and the first passes of both.
+#[derive(Drop)]
+struct Opening {
+    front: Front,
+    least: Least,
+    book: Book,
+    passes: HubParts,
+}
+
+/// Searches the film for a cheapest order with several workers, each in a thread: the caller goes down the
+/// front, they walk the tasks that are asked for, and the caller closes the front up. It begins with a
+/// complete path and goes by the limits. The gate is told how they get on.
+///
+/// What is claimed of its end is what is claimed of a search by one worker, in whatever order the workers
+/// come. All room but that of a list for each worker is taken before they start, 16 bytes for each line that
+/// there may be; each has a memo of its own, and all these together take at most 128 MB. It waits for the
+/// workers, and they for the locks of the table.
+pub fn race<R: Threads + Wait + Sync, F: Fn(u64, u64) -> u64 + Sync, G: Gate>(
+    rt: &R,
+    alloc: Global,
+    kept: &Kept<F>,
+    memo: &mut Memo,
+    start: &Path,
+    limits: Limits,
+    gate: &G,
+) -> Result<Ended, Memory>
+    requires keeps { Keeps (F.pre kept.now.f) (F.post kept.now.f) kept.now.kind kept.now.film.now }
+    requires memo { IsMemo kept.now.kind kept.now.film.now memo.old }
+    requires start { IsComplete kept.now.film.now (path_data start.now) }
+    requires limits { AreLimits limits }
+    ensures memo { IsMemo kept.now.kind kept.now.film.now memo.new }
+    ensures ended { IfOk result (λ ended. IsEnded kept.now.kind kept.now.film.now (path_data start.now) limits.cap (ended_data ended)) }
+{
+    paths_are_few();
+    kept.film().keeps_limits();
+    let room = room_for(kept.film().scenes(), limits.cap);
+    let opening = open(alloc, kept, start, room)?;
+    in_race::<Brand, R, F, G>(rt, alloc, kept, memo, opening, limits, gate)
+}
+
+/// How many lines there may be: as many as the cap says, and no more than twice the orders of so many
+/// scenes, as no search has more.
+fn room_for(scenes: usize, cap: u32) -> u32
+    requires scenes { scenes ≤ 64 }
+    requires some { 1 ≤ cap }
+    requires few { cap ≤ 16777216 }
+    ensures some { 1 ≤ result }
+    ensures within { result ≤ cap }
+    ensures enough { (result ≡ cap) ⊎ (result ≡ 2 * factorial scenes) }
+{
+    let mut orders = 1u64;
+    for scene in 0..scenes as u64 {
+        if orders > u64::from(cap) {
+            return cap;
+        }
+        orders *= scene + 1;
+    }
+    u64::from(cap).min(orders.saturating_mul(2)) as u32
+}
+
+/// What a race begins with that has room for so many lines.
+fn open<F: Fn(u64, u64) -> u64>(
+    alloc: Global,
+    kept: &Kept<F>,
+    start: &Path,
+    room: u32,
+) -> Result<Opening, Memory>
+    requires keeps { Keeps (F.pre kept.now.f) (F.post kept.now.f) kept.now.kind kept.now.film.now }
+    requires start { IsComplete kept.now.film.now (path_data start.now) }
+    requires some { 1 ≤ room }
+    requires few { room ≤ 16777216 }
+    ensures { IfOk result (IsOpening kept.now.kind kept.now.film.now (path_data start.now).paid room) }
+{
+    let film = kept.film();
+    film.keeps_limits();
+    tasks_are_starts();
+    let front = layers(alloc, kept)?;
+    let parts = front.tasks.len() as u32 + 1;
+    let (least, told) = Least::new(alloc, film, start, parts)?;
+    let (book, lines) = Book::new(alloc, film, kept.kind(), start.paid(), &front.tasks, room)?;
+    Ok(Opening {
+        front,
+        least,
+        book,
+        passes: HubParts { told, lines },
+    })
+}
+
+/// The race, where the table's locks know whose lines they guard.
+fn in_race<
+    N: Named + Send + Sync,
+    R: Threads + Wait + Sync,
+    F: Fn(u64, u64) -> u64 + Sync,
+    G: Gate,
+>(
+    rt: &R,
+    alloc: Global,
+    kept: &Kept<F>,
+    memo: &mut Memo,
+    opening: Opening,
+    limits: Limits,
+    gate: &G,
+) -> Result<Ended, Memory>
+    requires keeps { Keeps (F.pre kept.now.f) (F.post kept.now.f) kept.now.kind kept.now.film.now }
+    requires memo { IsMemo kept.now.kind kept.now.film.now memo.old }
+    requires named { table_of opening.book ≡ N.table }
+    requires opening { (paid : ℕ) × (room : ℕ) × IsOpening kept.now.kind kept.now.film.now paid room opening }
+    requires limits { AreLimits limits }
+    ensures memo { IsMemo kept.now.kind kept.now.film.now memo.new }
+    ensures ended { (paid room : ℕ) → IsOpening kept.now.kind kept.now.film.now paid room opening
+        → IfOk result (λ ended. EndsFrom kept.now.kind kept.now.film.now paid room (ended_data ended)) }
+{
+    let Opening {
+        mut front,
+        least,
+        book,
+        mut passes,
+    } = opening;
+    let stripes = Stripes::new(alloc, &book, &mut passes.lines, limits.entries)?;
+    let tables: Tables<N> = Tables {
+        least,
+        book,
+        stripes,
+    };
+    let (passes, mut walked) = begin(rt, alloc, kept, &tables, &mut front, passes)?;
+    gate.opened(asked_for(&front), limits.workers);
+    let passes = work_all(
+        rt,
+        alloc,
+        kept,
+        &tables,
+        &front,
+        gate,
+        limits.workers,
+        memo,
+        &mut walked,
+        passes,
+    )?;
+    let (passes, number) = close_front(rt, kept, &tables, &front, passes, &walked)?;
+    end(alloc, kept, tables, passes, number, walked.spent)
+}
+
+/// Claims the front and goes down it, and answers the passes, which then know all lines, and what was found.
+fn begin<R: Wait, N: Named, F: Fn(u64, u64) -> u64>(
+    rt: &R,
+    alloc: Global,
+    kept: &Kept<F>,
+    tables: &Tables<N>,
+    front: &mut Front,
+    passes: HubParts,
+) -> Result<(HubParts, Walked), Memory>
+    requires keeps { Keeps (F.pre kept.now.f) (F.post kept.now.f) kept.now.kind kept.now.film.now }
+    requires named { table_of tables.now.book ≡ N.table }
+    requires begin { MayBegin kept.now.kind kept.now.film.now (front_data front.old) tables.now.least tables.now.book passes }
+    ensures { IfOk result (λ begun. HasBegun (front_data front.new) tables.now.least tables.now.book passes begun.0 begun.1) }
+{
+    let mut hub = Hub::of(rt, &tables.least, &tables.book, &tables.stripes, passes);
+    hub.claim();
+    let walked = go_down_front(alloc, kept, &mut hub, front)?;
+    let mut passes = hub.parts();
+    settle(&tables.least, &tables.book, &mut passes);
+    Ok((passes, walked))
+}
+
+/// Has the tasks walked that are asked for: by so many workers beside one another, or where the front was
+/// cut short, so that no line can come any more, by the caller alone.
+fn work_all<
+    R: Threads + Wait + Sync,
+    N: Named + Send + Sync,
+    F: Fn(u64, u64) -> u64 + Sync,
+    G: Gate,
+>(
+    rt: &R,
+    alloc: Global,
+    kept: &Kept<F>,
+    tables: &Tables<N>,
+    front: &Front,
+    gate: &G,
+    workers: u32,
+    memo: &mut Memo,
+    walked: &mut Walked,
+    passes: HubParts,
+) -> Result<HubParts, Memory>
+    requires keeps { Keeps (F.pre kept.now.f) (F.post kept.now.f) kept.now.kind kept.now.film.now }
+    requires memo { IsMemo kept.now.kind kept.now.film.now memo.old }
+    requires named { table_of tables.now.book ≡ N.table }
+    requires passes { ArePassesOf tables.now.least tables.now.book passes }
+    requires full { Weigh full_weight passes }
+    requires search { IsSearchBy kept.now.kind kept.now.film.now (shown passes).search }
+    requires worked { HasWorked (shown passes) (front_data front.now) walked.old.found.items walked.old.spent }
+    requires workers { (1 ≤ workers) × (workers ≤ 64) }
+    ensures memo { IsMemo kept.now.kind kept.now.film.now memo.new }
+    ensures worked { IfOk result (λ after. HaveWorked (front_data front.now) tables.now.least tables.now.book passes after walked.new) }
+{
+    if walked.spent {
+        let caller = Worker { gate, number: 0 };
+        return work_alone(rt, kept, tables, front, &caller, memo, walked, passes);
+    }
+    let mut passes = passes;
+    work_beside(
+        rt,
+        alloc,
+        kept,
+        tables,
+        front,
+        gate,
+        workers,
+        &mut passes,
+        walked,
+    )?;
+    Ok(passes)
+}
+
+/// Closes the front up, by passes into which all others were joined, and answers them, which then know all
+/// lines, and the number to which the line of all scenes was raised.
+fn close_front<R: Wait, N: Named, F: Fn(u64, u64) -> u64>(
+    rt: &R,
+    kept: &Kept<F>,
+    tables: &Tables<N>,
+    front: &Front,
+    passes: HubParts,
+    walked: &Walked,
+) -> Result<(HubParts, u64), Memory>
+    requires keeps { Keeps (F.pre kept.now.f) (F.post kept.now.f) kept.now.kind kept.now.film.now }
+    requires named { table_of tables.now.book ≡ N.table }
+    requires passes { ArePassesOf tables.now.least tables.now.book passes }
+    requires full { Weigh full_weight passes }
+    requires search { IsSearchBy kept.now.kind kept.now.film.now (shown passes).search }
+    requires worked { HasWorked (shown passes) (front_data front.now) walked.now.found.items walked.now.spent }
+    requires ended { (shown passes).ended ≡ true }
+    ensures { IfOk result (λ closed. HasClosed kept.now.kind kept.now.film.now tables.now.least tables.now.book passes closed.0 closed.1 walked.now.spent) }
+{
+    let mut passes = passes;
+    settle(&tables.least, &tables.book, &mut passes);
+    let mut hub = Hub::of(rt, &tables.least, &tables.book, &tables.stripes, passes);
+    let number = close(kept, &mut hub, front, walked)?;
+    let mut passes = hub.parts();
+    settle(&tables.least, &tables.book, &mut passes);
+    Ok((passes, number))
+}
+
+/// Takes the lines out of the book, and tells how the race ended.
+fn end<N: Named, F: Fn(u64, u64) -> u64>(
+    alloc: Global,
+    kept: &Kept<F>,
+    tables: Tables<N>,
+    passes: HubParts,
+    number: u64,
+    spent: bool,
+) -> Result<Ended, Memory>
+    requires keeps { Keeps (F.pre kept.now.f) (F.post kept.now.f) kept.now.kind kept.now.film.now }
+    requires closed { (before : HubParts) × HasClosed kept.now.kind kept.now.film.now tables.least tables.book before passes number spent }
+    ensures { IfOk result (λ ended. EndsFrom kept.now.kind kept.now.film.now (shown passes).search.start (shown passes).search.cap (ended_data ended)) }
+{
+    lines_of_entries_are_counted();
+    let Tables { book, .. } = tables;
+    let HubParts { told, lines } = passes;
+    let best = *told.best();
+    let lines = book.into_lines(alloc, lines)?;
+    tell(alloc, kept, &best, lines, number, spent)
+}
