@@ -48,4 +48,5 @@ solve_once words a b (items, rest, spelled, one) names =
     let tries = given_number_once tries_option items a.tries b.tries spelled.once one.tries two.tries in
     let kind = kind_once a.kind b.kind (picked_once bounds_option items (bound_word a.kind) (bound_word b.kind) spelled.once one.kind two.kind) in
     let proof = same_test a.proof b.proof (λ is. two.proof.1 (one.proof.0 is)) (λ is. one.proof.1 (two.proof.0 is)) in
-    λ i. record { file = file i; workers = workers i; nodes = nodes i; table = table i; tries = tries i; kind = kind i; proof = proof i }
+    let progress = same_test a.progress b.progress (λ is. two.progress.1 (one.progress.0 is)) (λ is. one.progress.1 (two.progress.0 is)) in
+    λ i. record { file = file i; workers = workers i; nodes = nodes i; table = table i; tries = tries i; kind = kind i; proof = proof i; progress = progress i }

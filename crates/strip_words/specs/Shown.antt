@@ -84,6 +84,7 @@ solve_data job = record {
   tries = job.tries;
   kind = job.kind;
   proof = job.proof;
+  progress = job.progress;
 }
 
 -- a film's file and a plan's, as bytes

@@ -23,12 +23,15 @@ bounds_option = record { name = codes "--bounds"; choices = codes "plain" ∷ co
 abbrev pub proof_flag : Word
 proof_flag = codes "--proof"
 
+abbrev pub progress_flag : Word
+progress_flag = codes "--progress"
+
 abbrev pub solve : Command
 solve = record {
   word = codes "solve";
   operands = 1;
   valued = workers_option.name ∷ nodes_option.name ∷ table_option.name ∷ tries_option.name ∷ bounds_option.name ∷ [];
-  flags = proof_flag ∷ [];
+  flags = proof_flag ∷ progress_flag ∷ [];
 }
 
 -- the word for a static bound
@@ -39,7 +42,8 @@ bound_word Groups = codes "groups"
 bound_word Arrivals = codes "arrivals"
 
 -- a job to solve a file: how many workers, the greatest number of lines, the table's entries, how often the start is
--- varied where the words say it, the static bound, and whether line rows are written
+-- varied where the words say it, the static bound, whether line rows are written, and whether it is told on standard
+-- error how the search gets on
 pub record SolveData : Type 0 where
   pub file : Word
   pub workers : ℕ
@@ -48,6 +52,7 @@ pub record SolveData : Type 0 where
   pub tries : Option ℕ
   pub kind : Kind
   pub proof : Bool
+  pub progress : Bool
 
 -- the items and what follows them say this job
 pub record SayJob (items : List Item) (rest : Option (List Word)) (job : SolveData) : Type 0 where
@@ -58,6 +63,7 @@ pub record SayJob (items : List Item) (rest : Option (List Word)) (job : SolveDa
   pub tries : IsGiven tries_option items job.tries
   pub kind : IsPicked bounds_option items (bound_word job.kind)
   pub proof : (job.proof ≡ true) ↔ Contains items (Flag proof_flag)
+  pub progress : (job.progress ≡ true) ↔ Contains items (Flag progress_flag)
 
 -- the words name this job to solve
 abbrev pub NameSolve : List Word → SolveData → Type 0

@@ -21,6 +21,7 @@ const SOLVE: Command = Command {
         CommandOption::Free(TRIES),
         CommandOption::Choice(BOUNDS),
         CommandOption::Flag(PROOF),
+        CommandOption::Flag(PROGRESS),
     ],
 };
 
@@ -59,6 +60,8 @@ pub(crate) const BOUNDS: ChoiceOption = ChoiceOption {
 
 const PROOF: &str = "--proof";
 
+const PROGRESS: &str = "--progress";
+
 /// A film to be solved, and how.
 #[derive(Drop)]
 pub struct SolveJob {
@@ -76,6 +79,8 @@ pub struct SolveJob {
     pub kind: Kind,
     /// Whether the plan's line rows are printed.
     pub proof: bool,
+    /// Whether it is told on standard error how the search gets on.
+    pub progress: bool,
 }
 
 /// The job to solve that the words behind `solve` name.
@@ -91,6 +96,7 @@ pub(crate) fn solve_job(alloc: Global, later: &[String]) -> Result<SolveJob, Wor
     let tries = TRIES.given(items)?;
     let kind = kind_of(BOUNDS.picked(items)?);
     let proof = has_flag(items, PROOF);
+    let progress = has_flag(items, PROGRESS);
     let operands = reading.operands(alloc)?;
     let file = String::from_str(alloc, operands[0])?;
     Ok(SolveJob {
@@ -101,6 +107,7 @@ pub(crate) fn solve_job(alloc: Global, later: &[String]) -> Result<SolveJob, Wor
         tries,
         kind,
         proof,
+        progress,
     })
 }
 
