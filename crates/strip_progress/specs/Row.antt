@@ -1,0 +1,14 @@
+-- The text of a row.
+use Rattle.std.specs.Prelude.{ℕ, List, ◌++◌, ◌==◌, codes, if◌then◌else◌}
+use Rattle.std.specs.Fmt.{decimal}
+use Rattle.strip_progress.specs.declared.row.Row.{Row}
+
+-- the word behind so many
+abbrev pub workers_word : ℕ → List ℕ
+workers_word workers = if workers == 1 then codes "worker" else codes "workers"
+
+-- as "37 of 412 tasks begun, by 4 workers"
+abbrev pub row_text : Row → List ℕ
+row_text row =
+    decimal row.begun ++ (codes " of " ++ (decimal row.wanted ++ (codes " tasks begun, by "
+    ++ (decimal row.workers ++ (codes " " ++ workers_word row.workers)))))

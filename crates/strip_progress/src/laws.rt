@@ -1,0 +1,11 @@
+//! Laws of the definitions. Each function does nothing: its contract is the law.
+ghost use Rattle.std.specs.Prelude.{ℕ, ◌<◌, ◌≤◌};
+ghost use Rattle.strip_progress.specs.Due.{IsDue, rows};
+
+/// A row is due with each task where at most forty are asked for, always with the last one, and with no
+/// more than forty of all that are asked for.
+pub fn rows_are_few()
+    ensures each { (begun wanted : ℕ) → 0 < begun → 0 < wanted → wanted ≤ 40 → IsDue begun wanted }
+    ensures last { (wanted : ℕ) → 0 < wanted → IsDue wanted wanted }
+    ensures few { (wanted : ℕ) → 0 < wanted → rows wanted wanted ≤ 40 }
+{}
