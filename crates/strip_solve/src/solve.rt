@@ -22,6 +22,7 @@ use std::sync::Wait;
 use std::thread::Threads;
 use strip_bound::{BoundTables, Kept, static_reach};
 use strip_count::laws::paths_are_few;
+use strip_crew::race;
 use strip_film::laws::{a_least_tail_exists, finishing_everything_is_the_optimum};
 use strip_film::{Film, Line, Path};
 use strip_io::Memory;
@@ -32,6 +33,7 @@ use strip_memo::Memo;
 use strip_model::Instance;
 use strip_pay::laws::pays_stay_small;
 use strip_proof::{Plan, Status};
+use strip_race::Limits;
 use strip_reduce::{ReduceFault, Reduced, expand, orient, reduce};
 use strip_start::{greedy, improve, vary};
 use strip_team::{Ended, Gate, OpenGate, alone_through};
@@ -196,20 +198,38 @@ fn search<G: Gate>(
 
 /// The end of such a search by several workers.
 fn search_beside<R: Threads + Wait + Sync, G: Gate>(
-    _rt: &R,
+    rt: &R,
     alloc: Global,
     film: &Film,
     start: &Path,
     options: SearchOptions,
-    _workers: u32,
+    workers: u32,
     gate: &G,
 ) -> Result<Searched, Memory>
     requires start { IsComplete film.now (path_data start.now) }
     requires options { MayBe options }
-    requires workers { (2 ≤ _workers) × (_workers ≤ 64) }
+    requires workers { (2 ≤ workers) × (workers ≤ 64) }
     ensures { IfOk result (IsSearchedFrom options.kind film.now (path_data start.now) options.nodes) }
 {
-    search(alloc, film, start, options, gate)
+    let tables = BoundTables::of(alloc, film)?;
+    let kept = Kept::new(film, options.kind, |q, need| {
+        static_reach(film, &tables, options.kind, Mask(q), need)
+    });
+    let begun = varied(&kept, start, options.tries);
+    // The caller has a memo too.
+    let mut memo = Memo::among(alloc, &kept, workers + 1)?;
+    let limits = Limits {
+        workers,
+        cap: options.nodes,
+        entries: options.entries,
+    };
+    let ended = race(rt, alloc, &kept, &mut memo, &begun, limits, gate)?;
+    let trimmed = trimmed(alloc, &kept, &mut memo, &ended)?;
+    Ok(Searched {
+        begun,
+        ended,
+        trimmed,
+    })
 }
 
 /// The lines that the bound needs, where it is the cost.
