@@ -1,5 +1,5 @@
 -- From the end of the classes' search to the film's plan.
-use Rattle.std.proofs.Common.{◌≡◌, ◌≢◌, ℕ, ◌+◌, ◌*◌, ◌≤◌, ◌==◌, true, List, [], ◌∷◌, ◌++◌, length, count_by, take, drop, inl, inr, ap, sym, subst, ◌∙◌, arith}
+use Rattle.std.proofs.Common.{if◌then◌else◌, nat_lt, reverse, slice_index, Bool, ◌-◌, ◌≡◌, ◌≢◌, ℕ, ◌+◌, ◌*◌, ◌≤◌, ◌==◌, true, List, [], ◌∷◌, ◌++◌, length, count_by, take, drop, inl, inr, ap, sym, subst, ◌∙◌, arith}
 use Rattle.std.proofs.Math.Seq.{take-append_seam}
 use Rattle.std.proofs.lemmas.Bool.{cases_Bool}
 use Rattle.std.proofs.lemmas.Bool.Decides.{nat_tests}
@@ -15,6 +15,7 @@ use Rattle.strip_film.specs.Film.{all_scenes}
 use Rattle.strip_lines.specs.Lines.{AreJustified, known, rules_of}
 use Rattle.strip_count.specs.Paths.{factorial, few}
 use Rattle.strip_reduce.specs.Law.{StandsFor}
+use Rattle.strip_reduce.specs.Oriented.{oriented}
 use Rattle.strip_reduce.specs.Reduction.{reduced}
 use Rattle.strip_reduce.specs.State.{State, way_back}
 use Rattle.strip_team.specs.Ended.{EndedData, IsEnded}
@@ -88,7 +89,8 @@ module _ (kind : Kind) (film : FilmData) (most : ℕ) (start varied : PathData) 
   rows_each Bounded lines rows set = omega (arith, ap (count_by (λ line. line.set == set)) rows)
 
   module _ (order : List ℕ) (kept : IsKeptOrder state.film order) (pays : pay_of state.film order ≡ pay_of state.film ended.order) (status : Status)
-      (tells : Tells ended status) (lines : List Line) (rows : AreRows (class_rules kind film) status ended.lines lines) where
+      (tells : Tells ended status) (lines : List Line) (rows : AreRows (class_rules kind film) status ended.lines lines)
+      (turned : state.film.pairs ≡ [] → order ≡ oriented order) where
     abbrev plan : PlanData
     plan = record {
       status = status;
@@ -123,6 +125,7 @@ module _ (kind : Kind) (film : FilmData) (most : ℕ) (start varied : PathData) 
         is_order = stands.order order kept.is_order;
         keeps = (stands.kept order kept.is_order).1 kept.keeps;
       };
+      of_classes = record { classes = order; stands = λ i. way_back state.members order; turned = turned };
       cost = omega (arith, stands.pay order kept.is_order, pays, is.cost);
       bound = least;
       few_lines = is.most;
@@ -150,7 +153,7 @@ Solves kind film most start varied ended order status lines draft =
     StandsFor film draft → IsStart draft.film start → IsVaried draft.film start varied → IsEnded kind draft.film varied most ended
     → HasOptimum draft.film → few (rules_of kind draft.film) varied.paid ≤ 2 * factorial (length draft.film.casts)
     → IsKeptOrder draft.film order → pay_of draft.film order ≡ pay_of draft.film ended.order → Tells ended status
-    → AreRows (rules_of kind draft.film) status ended.lines lines
+    → AreRows (rules_of kind draft.film) status ended.lines lines → (draft.film.pairs ≡ [] → order ≡ oriented order)
     → IsSolved kind film most (record {
       status = status;
       kind = kind;
@@ -165,4 +168,14 @@ pub solved_by : (kind : Kind) (film : FilmData) (most : ℕ) (start varied : Pat
     → draft ≡ reduced film → Solves kind film most start varied ended order status lines draft
 solved_by kind film most start varied ended order status lines draft same =
     subst (Solves kind film most start varied ended order status lines) (sym same)
-    (λ stands is_start is_varied is optimum orders kept pays tells rows. solved kind film most start varied ended stands is_start is_varied is optimum orders order kept pays status tells lines rows)
+    (λ stands is_start is_varied is optimum orders kept pays tells rows turned.
+    solved kind film most start varied ended stands is_start is_varied is optimum orders order kept pays status tells lines rows turned)
+
+-- what was turned round is as it is chosen
+pub turned_once : (order now : List ℕ) → now ≡ oriented order → oriented (reverse order) ≡ now → now ≡ oriented now
+turned_once order now is same = elim (cases_Bool (nat_lt (slice_index order (length order - 1)) (slice_index order 0))) [
+  | inl later ↦ (let back : now ≡ reverse order = is ∙ ap (λ (b : Bool). if b then reverse order else order) later in
+    sym (ap oriented back ∙ same))
+  | inr first ↦ (let kept : now ≡ order = is ∙ ap (λ (b : Bool). if b then reverse order else order) first in
+    is ∙ ap oriented (sym kept))
+]

@@ -1,5 +1,5 @@
 -- A plan that a search of an instance's classes found.
-use Rattle.std.specs.Prelude.{◌≡◌, ℕ, ◌+◌, ◌*◌, ◌<◌, ◌≤◌, ◌==◌, List, length, count_by}
+use Rattle.std.specs.Prelude.{◌≡◌, ℕ, ◌+◌, ◌*◌, ◌<◌, ◌≤◌, ◌==◌, List, [], length, count_by}
 use Rattle.strip_kind.specs.declared.kind.Kind.{Kind}
 use Rattle.strip_pay.specs.Film.{FilmData}
 use Rattle.strip_pay.specs.Order.{IsKeptOrder}
@@ -10,7 +10,9 @@ use Rattle.strip_film.specs.Path.{PathData, IsComplete}
 use Rattle.strip_film.specs.Rules.{Rules}
 use Rattle.strip_lines.specs.Lines.{AreJustified, ahead, known}
 use Rattle.strip_count.specs.Paths.{factorial, few, ways}
+use Rattle.strip_reduce.specs.Oriented.{oriented}
 use Rattle.strip_reduce.specs.Reduction.{reduced}
+use Rattle.strip_reduce.specs.State.{way_back}
 use Rattle.strip_trim.specs.Trimmed.{AreTrimmed}
 use Rattle.strip_start.specs.Greedy.{IsGreedy}
 use Rattle.strip_start.specs.Moves.{IsImproved}
@@ -63,11 +65,19 @@ abbrev pub Closes : Kind → FilmData → ℕ → PathData → PlanData → Stat
 Closes kind film most begun plan Optimal = plan.bound ≡ plan.cost
 Closes kind film most begun plan Bounded = RanOut kind film most begun plan
 
+-- the order is one of the classes, each as the scenes that it stands for. Where no classes have to keep their order, it is the one that is
+-- always chosen of it and its reverse
+pub record IsOfClasses (film : FilmData) (order : List ℕ) : Type 0 where
+  pub classes : List ℕ
+  pub stands : order ≡ way_back (reduced film).members classes
+  pub turned : (reduced film).film.pairs ≡ [] → classes ≡ oriented classes
+
 -- a plan of the film by static bounds of this kind, and with this many lines at most: its order keeps the pairs and pays the cost, which
 -- is no more than the path costs that varying the start gave; no order that keeps the pairs pays less than the bound; the lines prove it; and its status holds
 pub record IsSolved (kind : Kind) (film : FilmData) (most : ℕ) (plan : PlanData) : Type 0 where
   pub same_kind : plan.kind ≡ kind
   pub order : IsKeptOrder film plan.order
+  pub of_classes : IsOfClasses film plan.order
   pub cost : plan.cost ≡ pay_of film plan.order
   pub bound : IsLeast film plan.bound
   pub few_lines : plan.held ≤ most

@@ -1,11 +1,12 @@
 // A plan of an instance, by one worker or by several.
-ghost use Rattle.std.specs.Prelude.{◌≡◌, ◌+◌, ◌≤◌, ℕ, IfOk};
+ghost use Rattle.std.specs.Prelude.{◌≡◌, ◌+◌, ◌≤◌, ℕ, [], IfOk};
 ghost use Rattle.strip_pay.specs.Film.{FilmData};
 ghost use Rattle.strip_pay.specs.Order.{IsKeptOrder};
 ghost use Rattle.strip_pay.specs.Pay.{pay_of};
 ghost use Rattle.strip_film.specs.Path.{IsComplete};
 ghost use Rattle.strip_film.specs.Shown.{path_data};
 ghost use Rattle.strip_reduce.specs.Law.{StandsFor};
+ghost use Rattle.strip_reduce.specs.Oriented.{oriented};
 ghost use Rattle.strip_reduce.specs.Reduction.{reduced as reduction};
 ghost use Rattle.strip_reduce.specs.Shown.{reduced_data};
 ghost use Rattle.strip_bound.specs.Kept.{Keeps};
@@ -323,6 +324,7 @@ fn oriented(film: &Film, order: Vec<u8>) -> Vec<u8>
     requires { IsKeptOrder film.now order.items }
     ensures kept { IsKeptOrder film.now result.items }
     ensures pay { pay_of film.now result.items ≡ pay_of film.now order.items }
+    ensures turned { film.now.pairs ≡ [] → result.items ≡ oriented result.items }
 {
     let mut order = order;
     if film.pairs().is_empty() {

@@ -55,4 +55,5 @@ returns-clause-solved c = λ film same stands.
     }))
     (ap (way_back (reduced_data c.args.reduced.now).members) (sym c.deref.ensures.value) ∙ sym c.in_ok-expand.ensures)
     (solved_by c.args.options.kind film c.args.options.nodes start varied ended c.oriented-order.result.items status lines (reduced_data c.args.reduced.now) same stands
-    c.requires.start c.requires.searched.is_varied searched.ended optimum orders c.oriented-order.ensures.kept c.oriented-order.ensures.pay so.0 so.1)
+    c.requires.start c.requires.searched.is_varied searched.ended optimum orders c.oriented-order.ensures.kept c.oriented-order.ensures.pay so.0 so.1
+    c.oriented-order.ensures.turned)
