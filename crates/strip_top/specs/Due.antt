@@ -31,7 +31,8 @@ IsFileOf (Trial job) file = ⊥
 -- the job's numbers lie within their ends
 abbrev pub IsWithin : JobData → Type 0
 IsWithin (Solve job) =
-    (1 ≤ job.nodes) × (job.nodes ≤ 16777216) × (64 ≤ job.table) × (job.table ≤ 4194304) × IfSome job.tries (λ tries. tries ≤ 100000000)
+    (1 ≤ job.nodes) × (job.nodes ≤ 16777216) × (64 ≤ job.table) × (job.table ≤ 4194304)
+    × IfSome job.tries (λ tries. tries ≤ 100000000) × (1 ≤ job.workers) × (job.workers ≤ 64)
 IsWithin (Check files) = Unit {0}
 IsWithin (Convert files) = Unit {0}
 IsWithin (Dood files) = Unit {0}

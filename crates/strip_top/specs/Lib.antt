@@ -4,3 +4,5 @@ pub mod Convert
 pub mod Report
 pub mod Made
 pub mod Due
+pub mod Solver
+pub mod Proved

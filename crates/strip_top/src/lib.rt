@@ -7,5 +7,6 @@ mod making;
 mod program;
 mod reports;
 mod solve;
+mod solver;
 
-pub use program::report;
+pub use program::{report, run};

@@ -11,9 +11,10 @@ ghost use Rattle.strip_words.specs.Shown.{gen_data, trial_data};
 ghost use Rattle.strip_top.specs.Due.{IsWithin};
 ghost use Rattle.strip_top.specs.Made.{IsGenDue, IsTrialDue, made_of, trial_row};
 ghost use Rattle.strip_top.specs.Plan.{exit_of};
+ghost use Rattle.strip_top.specs.Solver.{Solves};
 
 use crate::reports::printed;
-use crate::solve::{status_of, tries_of};
+use crate::solve::{options_of, status_of};
 use std::alloc::Global;
 use strip_answer::Answer;
 use strip_canonical::write_instance;
@@ -25,7 +26,7 @@ use strip_io::Memory;
 use strip_model::Instance;
 use strip_proof::{Plan, status_word};
 use strip_reduce::{ReduceFault, reduce};
-use strip_solve::solve_alone;
+use strip_solve::SearchOptions;
 use strip_text::Text;
 use strip_words::{GenJob, TrialJob};
 
@@ -49,40 +50,40 @@ fn film_of(alloc: Global, job: &GenJob) -> Result<Instance, Memory>
 }
 
 /// The answer to a trial: a film is made, solved, and its plan checked.
-pub(crate) fn try_film(alloc: Global, job: &TrialJob) -> Result<Answer, Memory>
-    requires { IsWithin (ToTrial (trial_data job.now)) }
+pub(crate) fn try_film<V: Fn(&Instance, SearchOptions, u32) -> Result<Plan, ReduceFault>>(
+    alloc: Global,
+    solver: &V,
+    job: &TrialJob,
+) -> Result<Answer, Memory>
+    requires solves { Solves (V.pre solver.now) (V.post solver.now) }
+    requires within { IsWithin (ToTrial (trial_data job.now)) }
     ensures { IfOk result (λ answer. IsTrialDue (trial_data job.now) answer.status (answer_text answer)) }
 {
     let inst = film_of(alloc, &job.film)?;
     match reduce(alloc, &inst) {
-        Ok(reduced) => try_classes(alloc, &inst, job, reduced.film.casts().len()),
+        Ok(reduced) => try_classes(alloc, solver, &inst, job, reduced.film.casts().len()),
         Err(ReduceFault::TooManyClasses { count }) => too_many_classes(alloc, count),
         Err(ReduceFault::Memory) => Err(Memory),
     }
 }
 
-/// The answer to a trial of an instance with this many classes, at most 64.
-fn try_classes(
+/// The answer to a trial of an instance with this many classes, at most 64. One worker solves it.
+fn try_classes<V: Fn(&Instance, SearchOptions, u32) -> Result<Plan, ReduceFault>>(
     alloc: Global,
+    solver: &V,
     inst: &Instance,
     job: &TrialJob,
     classes: usize,
 ) -> Result<Answer, Memory>
+    requires solves { Solves (V.pre solver.now) (V.post solver.now) }
     requires within { IsWithin (ToTrial (trial_data job.now)) }
     requires made { inst.now ≡ made_of (gen_data job.now.film) }
     requires classes { classes ≡ class_count (film_of inst.now) }
     requires few { classes ≤ 64 }
     ensures { IfOk result (λ answer. IsTrialDue (trial_data job.now) answer.status (answer_text answer)) }
 {
-    let tries = tries_of(job.tries);
-    match solve_alone(
-        alloc,
-        inst,
-        job.kind,
-        job.nodes as u32,
-        job.table as u32,
-        tries,
-    ) {
+    let options = options_of(job.kind, job.nodes, job.table, job.tries);
+    match solver(inst, options, 1) {
         Ok(plan) => try_plan(alloc, inst, job, classes, &plan),
         Err(ReduceFault::TooManyClasses { .. }) => unreachable!("there are at most 64 classes"),
         Err(ReduceFault::Memory) => Err(Memory),

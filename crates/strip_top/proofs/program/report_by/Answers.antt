@@ -3,7 +3,8 @@ use Rattle.strip_answer.specs.Run.{RunData, files_data, sink_data}
 use Rattle.strip_answer.proofs.Endings.{headline}
 use Rattle.strip_top.specs.Due.{board_claims}
 use Rattle.strip_top.proofs.Boards.{board_shown}
-use Rattle.strip_top.proofs.program.report.Goals as goal
+use Rattle.strip_top.proofs.Proved.{run_proves}
+use Rattle.strip_top.proofs.program.report_by.Goals as goal
 
 pub returns : goal.returns
 returns g c =
@@ -14,7 +15,7 @@ returns g c =
       sink_before = sink_data (g.S.Sink.taken c.args.out.now) (g.S.Sink.faults c.args.out.now);
       sink_after = sink_data (g.S.Sink.taken c.finish.new.out) (g.S.Sink.faults c.finish.new.out);
     } in
-    record {
-      headline = headline board_claims (board_shown c.words_name_one_job.ensures) run c.answer_words-answer.result c.finish.result c.finish.ensures.ends _ c.code.ensures
-          c.answer_words-answer.ensures.due c.answer_words-answer.ensures.read c.answer_words-answer.ensures.files c.finish.ensures.later;
-    }
+    let once = c.words_name_one_job.ensures in
+    let holds = headline board_claims (board_shown once) run c.answer_words-answer.result c.finish.result c.finish.ensures.ends _ c.code.ensures
+    c.answer_words-answer.ensures.due c.answer_words-answer.ensures.read c.answer_words-answer.ensures.files c.finish.ensures.later in
+    record { headline = holds; proved = run_proves once run _ holds }
