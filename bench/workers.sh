@@ -1,0 +1,40 @@
+#!/usr/bin/env bash
+# What several workers gain: made films solved by 1, 2 and 4 workers, or by as many as the words say. It prints
+# for each the lines that were made, the seconds that passed and the processor seconds of all workers; the
+# quickest of three runs counts. It works in a temporary folder, and builds the program where it is missing.
+set -euo pipefail
+repository=$(cd "$(dirname "$0")/.." && pwd)
+work=$(mktemp -d)
+trap 'rm -rf "$work"' EXIT
+workers=("$@")
+[ ${#workers[@]} -gt 0 ] || workers=(1 2 4)
+TIMEFORMAT='%R %U %S'
+
+# Solves a film by so many workers three times, and prints the quickest.
+solve() {
+    local film=$1 bounds=$2 count=$3 best= passed user system
+    for _ in 1 2 3; do
+        { time "$repository/bin/stripboard" solve "$work/film.csv" --bounds "$bounds" --workers "$count" > "$work/plan"; } 2> "$work/time" || [ $? -eq 3 ]
+        read -r passed user system < <(tail -n 1 "$work/time")
+        if [ -z "$best" ] || awk -v a="$passed" -v b="${best%% *}" 'BEGIN { exit !(a < b) }'; then
+            best="$passed $user $system"
+        fi
+    done
+    read -r passed user system <<< "$best"
+    awk -v film="$film" -v bounds="$bounds" -v count="$count" -v passed="$passed" -v user="$user" -v system="$system" \
+        -v status="$(sed -n 's/^status,//p' "$work/plan")" -v cost="$(sed -n 's/^cost,//p' "$work/plan")" \
+        -v lines="$(sed -n 's/^lines,//p' "$work/plan")" \
+        'BEGIN { printf "%s %s, %d workers: %s, cost %d, %d lines, %.2f s, %.2f processor seconds\n", film, bounds, count, status, cost, lines, passed, user + system }'
+}
+
+while read -r number scenes actors bounds; do
+    "$repository/bin/stripboard" gen "$number" "$scenes" "$actors" > "$work/film.csv" < /dev/null
+    for count in "${workers[@]}"; do
+        solve "$number $scenes $actors" "$bounds" "$count" < /dev/null
+    done
+done << 'FILMS'
+5 24 12 arrivals
+5 28 12 arrivals
+5 32 12 arrivals
+3 20 12 groups
+FILMS
