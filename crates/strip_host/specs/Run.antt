@@ -1,17 +1,28 @@
 -- A run of given words over the host.
-use Rattle.std.specs.Prelude.{◌≡◌, ◌↔◌, ◌⊎◌, ℕ, true, List, Contains}
+use Rattle.std.specs.Prelude.{◌≡◌, ◌↔◌, ◌⊎◌, ℕ, Bool, true, List, None, Contains}
 use Rattle.strip_answer.specs.Claims.{Claims}
 use Rattle.strip_answer.specs.Headline.{IsHeadline}
-use Rattle.strip_answer.specs.Run.{RunData}
+use Rattle.strip_answer.specs.Run.{FilesData, RunData, SinkData, files_data, sink_data}
+
+-- the host's files, whose bytes aren't told, and its output, of which it isn't told what it takes
+abbrev pub files_told : (List ℕ → Bool) → (List ℕ → ℕ) → (List ℕ → ℕ) → FilesData
+files_told holds faults came = files_data holds (λ name. None) faults came
+
+abbrev pub sink_told : ℕ → SinkData
+sink_told faults = sink_data None faults
+
+-- the files that may be read are those that the words name, and nothing has failed yet
+pub record IsFresh (words : List (List ℕ)) (files : FilesData) (sink : SinkData) : Type 0 where
+  pub held : (name : List ℕ) → (files.holds name ≡ true) ↔ Contains words name
+  pub unread : (name : List ℕ) → files.faults name ≡ 0
+  pub unwritten : sink.faults ≡ 0
 
 -- the code is that of a run of these words of which this holds; the files that it could read are those that the words name, and nothing
 -- had failed before it
 pub record IsRunOf (Holds : RunData → ℕ → Type 0) (words : List (List ℕ)) (code : ℕ) : Type 0 where
   pub run : RunData
   pub same : run.words ≡ words
-  pub held : (name : List ℕ) → (run.files_before.holds name ≡ true) ↔ Contains words name
-  pub unread : (name : List ℕ) → run.files_before.faults name ≡ 0
-  pub unwritten : run.sink_before.faults ≡ 0
+  pub fresh : IsFresh words run.files_before run.sink_before
   pub headline : Holds run code
 
 -- the code is that of a run of some words of which this holds, or memory ran out before it

@@ -1,9 +1,10 @@
-//! A program over a runtime: what it takes from it, its words, files and output, and what it gives back,
-//! the exit code.
+//! What a program takes from a runtime, its words, files and output, and what it gives back, the exit
+//! code.
 #![tactic(auto)]
 
-mod program;
+mod host;
 mod status;
 mod words;
 
-pub use program::{Program, run};
+pub use host::Host;
+pub use status::exit_code;

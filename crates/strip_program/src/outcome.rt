@@ -1,38 +1,37 @@
 // A run of the program, and how it ends.
+ghost use Rattle.std.specs.Prelude.{IfOk};
 ghost use Rattle.std.specs.Process.{exit_status};
-ghost use Rattle.strip_host.specs.Run.{IsRun};
+ghost use Rattle.strip_answer.specs.Headline.{IsHeadline};
+ghost use Rattle.strip_host.specs.Run.{IsRun, IsRunBy};
 ghost use Rattle.strip_top.specs.Due.{board_claims};
 
-use std::alloc::Global;
 use std::process::ExitCode;
 use std::rt::{self, Env};
-use strip_host::Program;
-use strip_io::{Files, Sink};
-use strip_top::report;
+use std::sync::Wait;
+use std::thread::Threads;
+use strip_host::{Host, exit_code};
+use strip_io::Memory;
+use strip_team::{Gate, OpenGate};
 
-/// The program `stripboard`.
-struct Board;
-
-impl Program for Board {
-    ghost use Rattle.strip_answer.specs.Headline.{IsHeadline};
-    ghost use Rattle.strip_top.specs.Due.{board_claims};
-
-    ghost Holds = { IsHeadline board_claims };
-
-    fn report<F: Files, S: Sink>(
-        alloc: Global,
-        words: &[String],
-        files: &mut F,
-        out: &mut S,
-    ) -> u8 {
-        report(alloc, words, files, out)
-    }
-}
-
-/// Runs the program with the words, files and output of the runtime, and gives its exit code, which
-/// is that of a run of `report`, or 9 where memory ran out before it.
-pub fn run<R: Env + rt::Files + Print + AllocGlobal>(rt: &R) -> ExitCode
+/// Runs the program `stripboard` with the words, files and output of the runtime, and gives its exit code,
+/// which is that of a run of `strip_top::run`, or 9 where memory ran out before it.
+pub fn run<R: Env + rt::Files + Print + AllocGlobal + Threads + Wait + Sync>(rt: &R) -> ExitCode
     ensures { IsRun board_claims (exit_status result) }
 {
-    strip_host::run::<Board, R>(rt)
+    exit_code(run_through(rt, &OpenGate))
+}
+
+/// Runs the program, and gives its status. The gate is told how a search gets on.
+fn run_through<R: Env + rt::Files + Print + AllocGlobal + Threads + Wait + Sync, G: Gate>(
+    rt: &R,
+    gate: &G,
+) -> Result<u8, Memory>
+    ensures { IfOk result (IsRunBy (IsHeadline board_claims)) }
+{
+    let Host {
+        words,
+        mut files,
+        mut out,
+    } = Host::of(rt)?;
+    Ok(strip_top::run(rt, rt.alloc(), &words, &mut files, &mut out, gate))
 }
