@@ -2,6 +2,7 @@
 //! status that this gives is the exit code.
 #![tactic(auto)]
 
+mod asking;
 mod outcome;
 
 pub use outcome::run;

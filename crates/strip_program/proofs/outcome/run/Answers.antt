@@ -4,4 +4,4 @@ use Rattle.strip_top.specs.Due.{board_claims}
 use Rattle.strip_program.proofs.outcome.run.Goals as goal
 
 pub returns : goal.returns
-returns g c = ends (IsHeadline board_claims) c.run_through.result _ c.run_through.ensures c.exit_code.ensures.status c.exit_code.ensures.memory
+returns g c = ends (IsHeadline board_claims) c.run_host.result _ c.run_host.ensures c.exit_code.ensures.status c.exit_code.ensures.memory

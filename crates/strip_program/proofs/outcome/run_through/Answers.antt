@@ -5,4 +5,4 @@ use Rattle.strip_top.specs.Due.{board_claims}
 use Rattle.strip_program.proofs.outcome.run_through.Goals as goal
 
 pub returns : goal.returns
-returns g c = ran (IsHeadline board_claims) _ _ _ c.run.result c.deref.ensures.value refl c.in_ok-words.ensures c.run.ensures.headline
+returns g c = ran (IsHeadline board_claims) _ _ _ c.run.result c.deref.ensures.value refl c.requires c.run.ensures.headline
