@@ -24,15 +24,35 @@ use Rattle.strip_bound.specs.Bounds.{bound}
 use Rattle.strip_rule.specs.Rule.{open_firsts}
 use Rattle.strip_lines.specs.Lines.{IsJustified, known, line_at, rules_of}
 use Rattle.strip_lines.proofs.Grown.{known-static}
+use Rattle.strip_film.specs.declared.shared.Line.{Line as LineOf}
 use Rattle.strip_hand.specs.Hand.{no_path_yet}
-use Rattle.strip_hand.specs.Search.{GoesBy, search_rules}
+use Rattle.strip_hand.specs.Search.{GoesBy, SearchData, search_rules}
 use Rattle.strip_book.specs.View.{ViewData, record_at}
 use Rattle.strip_book.specs.Rule.{first_view}
 use Rattle.strip_book.specs.Pass.{MayEnlist, MayRaise}
 
+rules_are : (kind : Kind) (film : FilmData) (search : SearchData) → GoesBy kind film search → rules_of kind film ≡ search_rules search
+rules_are kind film search by = λ i. rules_of (sym by.1 i) (sym by.0 i)
+
+-- a line of all scenes, where each first step reaches the bound with that of what remains
+pub whole_justified : (kind : Kind) (film : FilmData) (search : SearchData) (lines : List LineOf) → GoesBy kind film search
+    → (line number : ℕ) → (line_at lines line).set ≡ all_scenes film → all_scenes film ≢ 0
+    → ((scene : ℕ) → has (open_firsts film (all_scenes film)) scene ≡ true
+    → number ≤ step_cost film (all_scenes film) scene + bound kind film (without (all_scenes film) scene))
+    → IsJustified (search_rules search) lines (record { set = (line_at lines line).set; bound = number })
+whole_justified kind film search lines by line number made some_ each =
+    let reach : (scene : ℕ) → has (open_firsts film (all_scenes film)) scene ≡ true
+    → number ≤ step_cost film (all_scenes film) scene + known (rules_of kind film) lines (without (all_scenes film) scene)
+    = λ scene first. (
+    let static : bound kind film (without (all_scenes film) scene) ≤ known (rules_of kind film) lines (without (all_scenes film) scene)
+    = known-static (rules_of kind film) lines (without (all_scenes film) scene) in
+    omega (arith, each scene first, static)) in
+    subst (λ (r : Rules). IsJustified r lines (record { set = (line_at lines line).set; bound = number })) (rules_are kind film search by)
+    (subst (λ (q : ℕ). IsJustified (rules_of kind film) lines (record { set = q; bound = number })) (sym made) (inr (some_, reach)))
+
 module _ (kind : Kind) (film : FilmData) (view : ViewData) (by : GoesBy kind film view.search) where
   same_rules : rules_of kind film ≡ search_rules view.search
-  same_rules = λ i. rules_of (sym by.1 i) (sym by.0 i)
+  same_rules = rules_are kind film view.search by
 
   module _ (path : PathData) (number : ℕ) (start : view.search.start ≡ 14) (is : IsPath film path) (some_ : path.rest ≢ 0) (static : number ≡ bound kind film path.rest)
       (below : path.paid + number < 14) where
@@ -78,18 +98,10 @@ module _ (kind : Kind) (film : FilmData) (view : ViewData) (by : GoesBy kind fil
       → ((scene : ℕ) → has (open_firsts film (all_scenes film)) scene ≡ true
       → number ≤ step_cost film (all_scenes film) scene + bound kind film (without (all_scenes film) scene))
       → MayRaise view line number
-  may_raise_whole line number there made some_ each =
-      let reach : (scene : ℕ) → has (open_firsts film (all_scenes film)) scene ≡ true
-      → number ≤ step_cost film (all_scenes film) scene + known (rules_of kind film) view.lines (without (all_scenes film) scene)
-      = λ scene first. (
-      let static : bound kind film (without (all_scenes film) scene) ≤ known (rules_of kind film) view.lines (without (all_scenes film) scene)
-      = known-static (rules_of kind film) view.lines (without (all_scenes film) scene) in
-      omega (arith, each scene first, static)) in
-      record {
-        there = there;
-        justified = subst (λ (r : Rules). IsJustified r view.lines (record { set = (line_at view.lines line).set; bound = number })) same_rules
-            (subst (λ (q : ℕ). IsJustified (rules_of kind film) view.lines (record { set = q; bound = number })) (sym made) (inr (some_, reach)));
-      }
+  may_raise_whole line number there made some_ each = record {
+    there = there;
+    justified = whole_justified kind film view.search view.lines by line number made some_ each;
+  }
 
 -- what holds of each number of a list and of one more holds of each of both
 pub each_more : (P : ℕ → Type 0) (done : List ℕ) (x : ℕ) → ((i : ℕ) → Contains done i → P i) → P x

@@ -1,1 +1,2 @@
+pub mod Hubs
 pub mod Team

@@ -1,5 +1,5 @@
 // The book of the triangle, a film of three scenes of two of three actors each, by bounds of pairs. Its
-// orders cost 13 or 14. The bound of all scenes is 12, and each first step with the bound of what then
+// orders cost 13 to 15. The bound of all scenes is 12, and each first step with the bound of what then
 // remains pays 13. All numbers are worked by hand.
 ghost use Rattle.std.specs.Prelude.{◌≡◌, ℕ, ◌+◌, ◌<◌, ◌≤◌, true, Some, IfOk, IfSome, IsTrue, length};
 ghost use Rattle.strip_mask.specs.Set.{has, without};
@@ -84,7 +84,7 @@ pub(crate) fn enlist_two<F: Fn(u64, u64) -> u64>(
 }
 
 /// Whether each step to an open first of all scenes reaches the bound with that of what then remains.
-fn each_first_reaches<F: Fn(u64, u64) -> u64>(kept: &Kept<F>, number: u64) -> bool
+pub(crate) fn each_first_reaches<F: Fn(u64, u64) -> u64>(kept: &Kept<F>, number: u64) -> bool
     requires keeps { Keeps (F.pre kept.now.f) (F.post kept.now.f) kept.now.kind kept.now.film.now }
     ensures { IsTrue result → (scene : ℕ) → has (open_firsts kept.now.film.now (all_scenes kept.now.film.now)) scene ≡ true
         → number ≤ step_cost kept.now.film.now (all_scenes kept.now.film.now) scene

@@ -39,7 +39,7 @@ fn complete(film: &Film, scenes: &[u32]) -> Option<Path>
     path.rest().is_empty().then_some(path)
 }
 
-fn path(film: &Film, scenes: &[u32]) -> Result<Path, Fail>
+pub(crate) fn path(film: &Film, scenes: &[u32]) -> Result<Path, Fail>
     ensures { IfOk result (λ path. IsComplete film.now (path_data path)) }
 {
     let path = complete(film, scenes).ok_or("a complete path")?;

@@ -4,7 +4,13 @@
 #[cfg(test)]
 mod book;
 #[cfg(test)]
+mod gates;
+#[cfg(test)]
+mod hubs;
+#[cfg(test)]
 mod least;
+#[cfg(test)]
+mod races;
 #[cfg(test)]
 mod stripes;
 #[cfg(test)]

@@ -1,0 +1,240 @@
+// What the hub of one worker finds of what that of another did, on the triangle: the line of all scenes,
+// which each first step justifies at 13, and the least cost. The start path pays 14, and the other 13.
+ghost use Rattle.std.specs.Prelude.{◌≡◌, ℕ, suc, None, IfOk};
+ghost use Rattle.strip_film.specs.Film.{all_scenes};
+ghost use Rattle.strip_film.specs.Path.{IsComplete};
+ghost use Rattle.strip_film.specs.Shown.{cursor_data, path_data};
+ghost use Rattle.strip_bound.specs.Kept.{Keeps};
+ghost use Rattle.strip_hand.specs.Calls.{StandsAt};
+ghost use Rattle.strip_hand.specs.Hand.{Knows};
+ghost use Rattle.strip_hand.specs.Search.{GoesBy};
+ghost use Rattle.strip_book.specs.Pass.{known, table_of};
+ghost use Rattle.strip_crew.specs.Crew.{ArePassesOf, Weigh};
+ghost use Rattle.test_workers.specs.Hubs.{HasWhole};
+
+use crate::book::{each_first_reaches, triangle};
+use crate::least::path;
+use std::alloc::Global;
+use std::marker::Brand;
+use std::sync::Wait;
+use std::test::Fail;
+use strip_book::Book;
+use strip_bound::{BoundTables, Kept, static_reach};
+use strip_film::{Cursor, Known, Listed, Noted, Path, Probe};
+use strip_hand::Hand;
+use strip_hub::{Hub, HubParts};
+use strip_kind::Kind;
+use strip_least::Least;
+use strip_mask::Mask;
+use strip_stripes::{Named, Stripes};
+
+/// What the first worker was told of its note and its offer; and the second of all scenes, and of the
+/// least cost before that offer and behind it.
+#[derive(Debug, Drop)]
+struct Told {
+    noted: Noted,
+    probed: Probe,
+    before: u64,
+    offered: u64,
+    behind: u64,
+}
+
+impl Told {
+    fn is_as_worked(&self) -> bool {
+        matches!(self.noted, Noted::Fresh)
+            && matches!(
+                self.probed,
+                Probe::Hit(Known {
+                    line: 0,
+                    set: 7,
+                    bound: 13
+                })
+            )
+            && self.before == 14
+            && self.offered == 13
+            && self.behind == 13
+    }
+}
+
+/// Claims the front.
+fn claim_front<H: Hand>(hand: &mut H) -> Result<Cursor, Fail>
+    requires { H.is_sound hand.old }
+    ensures sound { H.is_sound hand.new }
+    ensures search { IfOk result (λ _. (H.shows hand.new).search ≡ (H.shows hand.old).search) }
+    ensures front { IfOk result (λ cursor. cursor_data cursor ≡ record { task = 0; last = None }) }
+    ensures stands { IfOk result (λ cursor. StandsAt (H.shows hand.new) (cursor_data cursor)) }
+{
+    let Some(part) = hand.claim() else {
+        return Err("a part that is left".into());
+    };
+    if part != 0 {
+        return Err("the front first".into());
+    }
+    Ok(Cursor::of(part))
+}
+
+/// Makes a line of all scenes, with their static bound.
+fn enlist_whole<H: Hand, F: Fn(u64, u64) -> u64>(
+    kept: &Kept<F>,
+    hand: &mut H,
+    cursor: &mut Cursor,
+) -> Result<u32, Fail>
+    requires sound { H.is_sound hand.old }
+    requires keeps { Keeps (F.pre kept.now.f) (F.post kept.now.f) kept.now.kind kept.now.film.now }
+    requires goes_by { GoesBy kept.now.kind kept.now.film.now (H.shows hand.old).search }
+    requires front { cursor_data cursor.old ≡ record { task = 0; last = None } }
+    requires stands { StandsAt (H.shows hand.old) (cursor_data cursor.old) }
+    ensures sound { H.is_sound hand.new }
+    ensures search { IfOk result (λ _. (H.shows hand.new).search ≡ (H.shows hand.old).search) }
+    ensures made { IfOk result (HasWhole kept.now.film.now (H.shows hand.new)) }
+{
+    let film = kept.film();
+    film.keeps_limits();
+    let whole = Path::start(film);
+    let all = whole.rest();
+    let bound = kept.at(all);
+    if all.is_empty() || bound >= hand.look() {
+        return Err("a candidate".into());
+    }
+    match hand.enlist(cursor, &whole, bound)? {
+        Listed::Line(line) => Ok(line),
+        Listed::Spent { .. } => Err("room for a line".into()),
+    }
+}
+
+/// Raises the line of all scenes, where each first step reaches the bound.
+fn raise_to<H: Hand, F: Fn(u64, u64) -> u64>(
+    kept: &Kept<F>,
+    hand: &mut H,
+    line: u32,
+    bound: u64,
+) -> Result<(), Fail>
+    requires sound { H.is_sound hand.old }
+    requires keeps { Keeps (F.pre kept.now.f) (F.post kept.now.f) kept.now.kind kept.now.film.now }
+    requires goes_by { GoesBy kept.now.kind kept.now.film.now (H.shows hand.old).search }
+    requires made { HasWhole kept.now.film.now (H.shows hand.old) line }
+    ensures sound { H.is_sound hand.new }
+    ensures search { IfOk result (λ _. (H.shows hand.new).search ≡ (H.shows hand.old).search) }
+    ensures knows { IfOk result (λ _. Knows (H.shows hand.new).lines (record { line = line; set = all_scenes kept.now.film.now; bound = bound })) }
+{
+    if kept.film().all().is_empty() || !each_first_reaches(kept, bound) {
+        return Err("a bound that each first step reaches".into());
+    }
+    hand.raise(line, bound)?;
+    Ok(())
+}
+
+/// Makes a line of all scenes in the front, raises it to 13, and notes it.
+fn note_whole<H: Hand, F: Fn(u64, u64) -> u64>(kept: &Kept<F>, hand: &mut H) -> Result<Noted, Fail>
+    requires sound { H.is_sound hand.old }
+    requires keeps { Keeps (F.pre kept.now.f) (F.post kept.now.f) kept.now.kind kept.now.film.now }
+    requires goes_by { GoesBy kept.now.kind kept.now.film.now (H.shows hand.old).search }
+    ensures sound { H.is_sound hand.new }
+    ensures search { IfOk result (λ _. (H.shows hand.new).search ≡ (H.shows hand.old).search) }
+{
+    let mut cursor = claim_front(hand)?;
+    let line = enlist_whole(kept, hand, &mut cursor)?;
+    raise_to(kept, hand, line, 13)?;
+    kept.film().keeps_limits();
+    let known = Known {
+        line,
+        set: kept.film().all().0,
+        bound: 13,
+    };
+    let noted = hand.note(&known)?;
+    Ok(noted)
+}
+
+/// The first worker makes and notes a line, and then offers a path; the second asks behind each.
+fn take_turns<H: Hand, F: Fn(u64, u64) -> u64>(
+    kept: &Kept<F>,
+    first: &mut H,
+    second: &mut H,
+    path: &Path,
+) -> Result<Told, Fail>
+    requires sound { (H.is_sound first.old) × (H.is_sound second.old) }
+    requires keeps { Keeps (F.pre kept.now.f) (F.post kept.now.f) kept.now.kind kept.now.film.now }
+    requires goes_by { GoesBy kept.now.kind kept.now.film.now (H.shows first.old).search }
+    requires same { (H.shows second.old).search ≡ (H.shows first.old).search }
+    requires path { IsComplete kept.now.film.now (path_data path.now) }
+{
+    let noted = note_whole(kept, first)?;
+    let probed = second.probe(kept.film().all())?;
+    let before = second.look();
+    let offered = first.offer(path);
+    Ok(Told {
+        noted,
+        probed,
+        before,
+        offered,
+        behind: second.look(),
+    })
+}
+
+/// What two workers are told with passes that are split from these.
+fn share<N: Named, R: Wait, F: Fn(u64, u64) -> u64>(
+    rt: &R,
+    alloc: Global,
+    kept: &Kept<F>,
+    least: &Least,
+    book: &Book,
+    passes: HubParts,
+    path: &Path,
+) -> Result<Told, Fail>
+    requires keeps { Keeps (F.pre kept.now.f) (F.post kept.now.f) kept.now.kind kept.now.film.now }
+    requires named { table_of book.now ≡ N.table }
+    requires passes { ArePassesOf least.now book.now passes }
+    requires weight { (rest : ℕ) × Weigh (suc (suc rest)) passes }
+    requires goes_by { GoesBy kept.now.kind kept.now.film.now (known passes.lines).search }
+    requires path { IsComplete kept.now.film.now (path_data path.now) }
+{
+    let HubParts {
+        mut told,
+        mut lines,
+    } = passes;
+    let stripes: Stripes<N> = Stripes::new(alloc, book, &mut lines, 64)?;
+    let other = HubParts {
+        told: told.split(least),
+        lines: lines.split(book, 1),
+    };
+    let mut first = Hub::of(rt, least, book, &stripes, HubParts { told, lines });
+    let mut second = Hub::of(rt, least, book, &stripes, other);
+    take_turns(kept, &mut first, &mut second, path)
+}
+
+/// What two workers are told in a search that begins with a path and has the front as its one part.
+fn shared<R: Wait, F: Fn(u64, u64) -> u64>(
+    rt: &R,
+    alloc: Global,
+    kept: &Kept<F>,
+    start: &Path,
+    path: &Path,
+) -> Result<Told, Fail>
+    requires keeps { Keeps (F.pre kept.now.f) (F.post kept.now.f) kept.now.kind kept.now.film.now }
+    requires start { IsComplete kept.now.film.now (path_data start.now) }
+    requires path { IsComplete kept.now.film.now (path_data path.now) }
+{
+    let film = kept.film();
+    film.keeps_limits();
+    let (least, told) = Least::new(alloc, film, start, 1)?;
+    let (book, lines) = Book::new(alloc, film, kept.kind(), start.paid(), &[], 1)?;
+    let passes = HubParts { told, lines };
+    share::<Brand, R, F>(rt, alloc, kept, &least, &book, passes, path)
+}
+
+#[test]
+fn another_worker_is_told_of_a_line_and_a_path(rt: HostRuntime) -> Result<(), Fail> {
+    let alloc = rt.alloc();
+    let film = triangle(alloc)?;
+    let start = path(&film, &[0, 2, 1])?;
+    let better = path(&film, &[0, 1, 2])?;
+    let tables = BoundTables::of(alloc, &film)?;
+    let kept = Kept::new(
+        &film,
+        Kind::Pairs,
+        |q, need| static_reach(&film, &tables, Kind::Pairs, Mask(q), need),
+    );
+    let told = shared(&rt, alloc, &kept, &start, &better)?;
+    assert!(&rt; told.is_as_worked());
+    Ok(())
+}
