@@ -63,7 +63,3 @@ pub record IsJudged (run : RunData) (status : ℕ) : Type 0 where
 -- or a write failed
 abbrev pub IsJudgement : RunData → ℕ → Type 0
 IsJudgement run status = IsJudged run status ⊎ ((status ≡ 8) × HasWriteFault run.sink_before run.sink_after)
-
--- what holds of each run of the program: where memory ran out, nothing
-abbrev pub IsRunOfCases : RunData → ℕ → Type 0
-IsRunOfCases run status = IsJudgement run status ⊎ (status ≡ 9)

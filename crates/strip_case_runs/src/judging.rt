@@ -8,6 +8,8 @@ ghost use Rattle.strip_case_runs.specs.Judged.{IsCounted, IsJudgement, IsReadFro
 
 use crate::running::run_case;
 use std::alloc::{AllocError, Global};
+use std::sync::Wait;
+use std::thread::Threads;
 use strip_cases::{Case, CaseFault, Cases, Given, Wrong, read_cases};
 use strip_io::{Failed, Files, LoadFault, Memory, Sink, load, send};
 
@@ -25,7 +27,8 @@ struct Tally {
 /// Runs all cases of the files with these names, and sends a row for each case that differs and for each file
 /// that can't be read, of which nothing is run, and a last row of how many. The status is 0 where none differs,
 /// 1 where some do, 2 where a file can't be read, and 8 where the rows can't be sent.
-pub fn judge<F: Files, S: Sink>(
+pub fn judge<R: Threads + Wait + Sync, F: Files, S: Sink>(
+    rt: &R,
     alloc: Global,
     names: &[String],
     files: &mut F,
@@ -45,7 +48,7 @@ pub fn judge<F: Files, S: Sink>(
         is_unread: false,
     };
     for name in names {
-        let rows = judge_file(alloc, files, name.as_str(), &mut tally)?;
+        let rows = judge_file(rt, alloc, files, name.as_str(), &mut tally)?;
         let Ok(()) = send(out, rows.as_bytes()) else {
             return Ok(8);
         };
@@ -79,7 +82,8 @@ fn status_of(tally: Tally) -> u8
 }
 
 /// The rows of a case file: its fault, or a row for each case that differs.
-fn judge_file<F: Files>(
+fn judge_file<R: Threads + Wait + Sync, F: Files>(
+    rt: &R,
     alloc: Global,
     files: &mut F,
     name: &str,
@@ -91,7 +95,7 @@ fn judge_file<F: Files>(
         → IsCounted (files ++ file ∷ []) tally.new.cases tally.new.differing tally.new.is_unread)) }
 {
     match cases_of(alloc, files, name) {
-        Ok(cases) => judge_cases(alloc, name, &cases, tally),
+        Ok(cases) => judge_cases(rt, alloc, name, &cases, tally),
         Err(fault) if fault.wrong == Wrong::Memory => Err(Memory),
         Err(fault) => {
             tally.is_unread = true;
@@ -119,7 +123,8 @@ fn cases_of<F: Files>(alloc: Global, files: &mut F, name: &str) -> Result<Cases,
 }
 
 /// Runs the cases, and answers a row for each that differs.
-fn judge_cases(
+fn judge_cases<R: Threads + Wait + Sync>(
+    rt: &R,
     alloc: Global,
     name: &str,
     cases: &Cases,
@@ -131,13 +136,14 @@ fn judge_cases(
 {
     let mut rows = String::new(alloc);
     for case in &cases.cases {
-        judge_case(alloc, name, &cases.shared, case, tally, &mut rows)?;
+        judge_case(rt, alloc, name, &cases.shared, case, tally, &mut rows)?;
     }
     Ok(rows)
 }
 
 /// Runs a case, and appends a row where it differs.
-fn judge_case(
+fn judge_case<R: Threads + Wait + Sync>(
+    rt: &R,
     alloc: Global,
     name: &str,
     shared: &[Given],
@@ -152,7 +158,7 @@ fn judge_case(
     ensures unread { tally.new.is_unread ≡ tally.old.is_unread }
 {
     tally.cases = tally.cases.saturating_add(1);
-    match run_case(alloc, shared, case)? {
+    match run_case(rt, alloc, shared, case)? {
         None => Ok(()),
         Some(difference) => {
             tally.differing = tally.differing.saturating_add(1);

@@ -8,11 +8,15 @@ ghost use Rattle.strip_case_runs.specs.Runs.{InTurn, IsCaseMet, IsDone, IsKept, 
 
 use crate::files::{give, hold, source};
 use std::alloc::Global;
+use std::sync::Wait;
+use std::thread::Threads;
 use strip_cases::{Action, Case, Given, Held, Program, Step, difference};
 use strip_io::{MemFiles, MemSink, Memory};
+use strip_team::OpenGate;
 
 /// Runs a case, and answers how its first step that differs does. The shared files are at hand in it.
-pub(crate) fn run_case(
+pub(crate) fn run_case<R: Threads + Wait + Sync>(
+    rt: &R,
     alloc: Global,
     shared: &[Given],
     case: &Case,
@@ -22,7 +26,7 @@ pub(crate) fn run_case(
     let mut files = Vec::new(alloc);
     match give_all(alloc, &mut files, shared)? {
         Some(difference) => Ok(Some(difference)),
-        None => do_all(alloc, &mut files, &case.actions),
+        None => do_all(rt, alloc, &mut files, &case.actions),
     }
 }
 
@@ -39,7 +43,8 @@ fn give_all(alloc: Global, files: &mut Vec<Held>, all: &[Given]) -> Result<Optio
 }
 
 /// Gives the files and runs the steps, and answers how the first that differs does.
-fn do_all(
+fn do_all<R: Threads + Wait + Sync>(
+    rt: &R,
     alloc: Global,
     files: &mut Vec<Held>,
     actions: &[Action],
@@ -49,7 +54,7 @@ fn do_all(
 {
     let mut steps = 0u64;
     for action in actions {
-        if let Some(difference) = do_action(alloc, files, action, &mut steps)? {
+        if let Some(difference) = do_action(rt, alloc, files, action, &mut steps)? {
             return Ok(Some(difference));
         }
     }
@@ -57,7 +62,8 @@ fn do_all(
 }
 
 /// Gives the file or runs the step, which is one more.
-fn do_action(
+fn do_action<R: Threads + Wait + Sync>(
+    rt: &R,
     alloc: Global,
     files: &mut Vec<Held>,
     action: &Action,
@@ -73,7 +79,7 @@ fn do_action(
         },
         Action::Run(step) => {
             *steps = steps.saturating_add(1);
-            match run_step(alloc, files, step)? {
+            match run_step(rt, alloc, files, step)? {
                 Some(difference) => Ok(Some(format!(in alloc; "step {steps}: {difference}")?)),
                 None => Ok(None),
             }
@@ -86,7 +92,12 @@ fn no_file(alloc: Global, name: &String) -> Result<String, Memory> {
 }
 
 /// Runs a step, and answers how it differs from what is wanted of it.
-fn run_step(alloc: Global, files: &mut Vec<Held>, step: &Step) -> Result<Option<String>, Memory>
+fn run_step<R: Threads + Wait + Sync>(
+    rt: &R,
+    alloc: Global,
+    files: &mut Vec<Held>,
+    step: &Step,
+) -> Result<Option<String>, Memory>
     requires { AreApart files.old.items }
     ensures { result ≡ Ok None → IsStepMet step.now files.old.items files.new.items }
 {
@@ -94,13 +105,14 @@ fn run_step(alloc: Global, files: &mut Vec<Held>, step: &Step) -> Result<Option<
     let room = step.room as usize;
     let piece = (step.piece as usize).max(1);
     let mut out = MemSink::new(alloc, room, piece, &step.failing_writes)?;
-    let status = run_program(alloc, step.program, &step.words, &mut source, &mut out);
+    let status = run_program(rt, alloc, step.program, &step.words, &mut source, &mut out);
     keep(alloc, files, &step.keep, out.taken())?;
     difference(alloc, &step.wanted, status, out.taken(), files)
 }
 
 /// Runs the program, and answers its status.
-fn run_program(
+fn run_program<R: Threads + Wait + Sync>(
+    rt: &R,
     alloc: Global,
     program: Program,
     words: &[String],
@@ -116,7 +128,7 @@ fn run_program(
     }) result }
 {
     match program {
-        Program::Stripboard => strip_top::report(alloc, words, files, out),
+        Program::Stripboard => strip_top::run(rt, alloc, words, files, out, &OpenGate),
         Program::Stripcheck => strip_audit::report(alloc, words, files, out),
     }
 }

@@ -3,7 +3,7 @@ use Rattle.strip_case_runs.proofs.Counts.{count_read, met_all, met_more}
 use Rattle.strip_case_runs.proofs.judging.judge_cases.Goals as goal
 
 pub loop-case-preserved : goal.loop-case-preserved
-loop-case-preserved c =
+loop-case-preserved g c =
     let so_far = c.loop-case.invariant in
     let one = c.in_ok-judge_case.ensures in
     record {
@@ -16,7 +16,7 @@ loop-case-preserved c =
     }
 
 pub returns : goal.returns
-returns c = λ files is.
+returns g c = λ files is.
     let so_far = c.loop-case.invariant in
     let whole = ap length c.deref-case-items.ensures.value in
     let at : c.loop-case.case-index ≡ length c.args.cases.now.cases.items = omega (arith, whole, c.loop-case-test.false) in

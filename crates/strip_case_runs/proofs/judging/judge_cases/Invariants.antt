@@ -3,7 +3,7 @@ use Rattle.strip_case_runs.specs.Runs.{IsCaseMet}
 use Rattle.strip_case_runs.proofs.judging.judge_cases.Given as goal
 
 abbrev pub invariant-loop-case : goal.invariant-loop-case
-invariant-loop-case l = record {
+invariant-loop-case g l = record {
   counted : l.tally.cases ≡ min (l.fn.tally.cases + l.case-index) (2 ^ 64 - 1);
   few : l.fn.tally.differing ≤ l.fn.tally.cases → l.tally.differing ≤ l.tally.cases;
   earlier : l.tally.differing ≡ 0 → l.fn.tally.differing ≡ 0;
