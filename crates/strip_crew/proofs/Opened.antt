@@ -1,5 +1,5 @@
 -- What a race opens with.
-use Rattle.std.proofs.Common.{◌≡◌, ℕ, suc, ◌≤◌, false, List, [], length, refl, sym, ap, ◌∙◌, subst, arith}
+use Rattle.std.proofs.Common.{◌≡◌, ℕ, suc, ◌≤◌, List, length, refl, sym, ap, subst, arith}
 use Rattle.strip_kind.specs.declared.kind.Kind.{Kind}
 use Rattle.strip_pay.specs.Film.{FilmData}
 use Rattle.strip_film.specs.Film.{IsFilm}
@@ -11,12 +11,11 @@ use Rattle.strip_front.specs.Tasks.{tasks_of}
 use Rattle.strip_least.specs.declared.least.Least.{Least}
 use Rattle.strip_least.specs.declared.pass.LeastPass.{LeastPass}
 use Rattle.strip_least.specs.declared.view.View.{View as LeastView}
-use Rattle.strip_least.specs.Pass.{IsFirst as IsFirstLeast, known as known_least}
+use Rattle.strip_least.specs.Pass.{IsFirst as IsFirstLeast}
 use Rattle.strip_least.specs.Rule.{first_view as first_told}
 use Rattle.strip_book.specs.declared.book.Book.{Book}
 use Rattle.strip_book.specs.declared.pass.BookPass.{BookPass}
 use Rattle.strip_book.specs.Pass.{IsFirst as IsFirstBook, known}
-use Rattle.strip_book.specs.Rule.{first_view}
 use Rattle.strip_book.specs.View.{ViewData}
 use Rattle.strip_hub.specs.Hub.{GoTogether, IsSearch}
 use Rattle.strip_team.specs.Team.{IsSearchBy}

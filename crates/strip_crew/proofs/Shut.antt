@@ -1,5 +1,5 @@
 -- The front is closed up, and the race ends.
-use Rattle.std.proofs.Common.{◌≡◌, ℕ, ◌+◌, ◌*◌, ◌<◌, ◌≤◌, ◌⊎◌, Bool, true, false, Result, Ok, Err, IfOk, List, length, inl, inr, refl, sym, ap, ◌∙◌, subst, arith}
+use Rattle.std.proofs.Common.{◌≡◌, ℕ, ◌*◌, ◌≤◌, ◌⊎◌, Bool, Result, Ok, Err, IfOk, inl, inr, sym, ap, ◌∙◌, subst, arith}
 use Rattle.strip_io.specs.declared.files.Memory.{Memory}
 use Rattle.strip_kind.specs.declared.kind.Kind.{Kind}
 use Rattle.strip_pay.specs.Film.{FilmData}
@@ -7,14 +7,13 @@ use Rattle.strip_film.specs.Film.{all_scenes}
 use Rattle.strip_film.specs.Path.{PathData}
 use Rattle.strip_lines.specs.Lines.{ahead, known, rules_of}
 use Rattle.strip_lines.proofs.Grown.{known-grows}
-use Rattle.strip_count.specs.Paths.{factorial, few}
+use Rattle.strip_count.specs.Paths.{few}
 use Rattle.strip_hand.specs.Hand.{HandData, IsHand}
 use Rattle.strip_hand.specs.Search.{SearchData, search_rules}
 use Rattle.strip_team.specs.declared.ended.Ended.{Ended}
-use Rattle.strip_team.specs.Closed.{EndsFrom, IsClosed, known_of_all}
+use Rattle.strip_team.specs.Closed.{IsClosed, known_of_all}
 use Rattle.strip_team.specs.Ended.{EndedData, IsEnded}
-use Rattle.strip_team.specs.Shown.{ended_data}
-use Rattle.strip_team.specs.Team.{GoesOn, IsCut, IsSearchBy}
+use Rattle.strip_team.specs.Team.{GoesOn, IsSearchBy}
 use Rattle.strip_team.proofs.Moved.{cut_still}
 
 -- what was closed up is, where the hand goes on

@@ -175,7 +175,7 @@ solved_by kind film most start varied ended order status lines draft same =
 pub turned_once : (order now : List ℕ) → now ≡ oriented order → oriented (reverse order) ≡ now → now ≡ oriented now
 turned_once order now is same = elim (cases_Bool (nat_lt (slice_index order (length order - 1)) (slice_index order 0))) [
   | inl later ↦ (let back : now ≡ reverse order = is ∙ ap (λ (b : Bool). if b then reverse order else order) later in
-    sym (ap oriented back ∙ same))
+      sym (ap oriented back ∙ same))
   | inr first ↦ (let kept : now ≡ order = is ∙ ap (λ (b : Bool). if b then reverse order else order) first in
-    is ∙ ap oriented (sym kept))
+      is ∙ ap oriented (sym kept))
 ]

@@ -1,6 +1,4 @@
-use Rattle.std.proofs.Common.{◌≡◌, ◌∙◌, ℕ, refl, ap, sym, subst, arith}
-use Rattle.strip_lines.proofs.Grown.{grow_self}
-use Rattle.strip_front.specs.Front.{FrontData}
+use Rattle.std.proofs.Common.{◌≡◌, ◌∙◌, ap, sym, subst}
 use Rattle.strip_front.specs.Shown.{front_data}
 use Rattle.strip_hand.specs.Hand.{HandData}
 use Rattle.strip_least.specs.declared.pass.LeastPass.{LeastPass}
@@ -13,7 +11,7 @@ use Rattle.strip_hub.specs.Hub.{HubHome, hand_of}
 use Rattle.strip_team.specs.Team.{GoesOn, HasWorked}
 use Rattle.strip_team.proofs.Moved.{moved_same}
 use Rattle.strip_crew.specs.Crew.{Weigh, shown}
-use Rattle.strip_crew.proofs.Done.{goes_after, goes_from_unasked}
+use Rattle.strip_crew.proofs.Done.{goes_from_unasked}
 use Rattle.strip_crew.proofs.Shut.{closed_still}
 use Rattle.strip_crew.proofs.racing.close_front.Goals as goal
 

@@ -1,9 +1,8 @@
-use Rattle.std.proofs.Common.{◌≡◌, ℕ, suc, ◌+◌, ◌≤◌, List, length, map, refl, sym, ap, ◌∙◌, subst, arith}
+use Rattle.std.proofs.Common.{◌≡◌, ℕ, suc, ◌+◌, List, length, map, ap, subst, arith}
 use Rattle.std.proofs.lemmas.List.{length-map}
 use Rattle.strip_kind.specs.declared.kind.Kind.{Kind}
 use Rattle.strip_pay.specs.Film.{FilmData}
 use Rattle.strip_film.specs.Film.{IsFilm}
-use Rattle.strip_film.specs.declared.path.Path.{Path}
 use Rattle.strip_film.specs.Path.{PathData}
 use Rattle.strip_film.specs.Shown.{path_data}
 use Rattle.strip_hand.specs.Search.{AreStarts, SearchData}

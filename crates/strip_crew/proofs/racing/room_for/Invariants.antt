@@ -1,4 +1,4 @@
-use Rattle.std.proofs.Common.{◌≡◌, ◌≤◌, ℕ}
+use Rattle.std.proofs.Common.{◌≡◌}
 use Rattle.strip_count.specs.Paths.{factorial}
 use Rattle.strip_crew.proofs.racing.room_for.Given as goal
 

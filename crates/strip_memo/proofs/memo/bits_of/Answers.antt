@@ -1,4 +1,4 @@
-use Rattle.std.proofs.Common.{◌≡◌, ℕ, ◌*◌, ◌^◌, ◌≤◌, mul-le-mul_right, arith}
+use Rattle.std.proofs.Common.{ℕ, ◌*◌, ◌^◌, ◌≤◌, mul-le-mul_right, arith}
 use Rattle.std.proofs.Math.Pow.{pow_mono}
 use Rattle.strip_memo.proofs.memo.bits_of.Goals as goal
 
