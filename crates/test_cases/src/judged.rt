@@ -1,6 +1,8 @@
 // What is told of case files.
 use std::alloc::{AllocError, Global};
+use std::sync::Wait;
 use std::test::Fail;
+use std::thread::Threads;
 use strip_case_runs::judge;
 use strip_io::{MemFiles, MemSink};
 
@@ -130,19 +132,19 @@ fn words(alloc: Global) -> Result<Vec<String>, AllocError> {
 }
 
 // Whether just this is told of the file.
-fn is_told(alloc: Global, told: &Told) -> Result<bool, Fail> {
+fn is_told<R: Threads + Wait + Sync>(rt: &R, alloc: Global, told: &Told) -> Result<bool, Fail> {
     let (text, printed, status) = *told;
     let mut files = MemFiles::new(alloc, &[])?;
     files.add("a.txt", text)?;
     let mut out = MemSink::new(alloc, 4096, 4096, &[])?;
-    let code = judge(alloc, &words(alloc)?, &mut files, &mut out)?;
+    let code = judge(rt, alloc, &words(alloc)?, &mut files, &mut out)?;
     Ok(code == status && out.taken() == printed.as_bytes())
 }
 
 #[test]
 fn files_that_cannot_be_read(rt: HostRuntime) -> Result<(), Fail> {
     for told in &FAULTS {
-        assert!(&rt; is_told(rt.alloc(), told)?);
+        assert!(&rt; is_told(&rt, rt.alloc(), told)?);
     }
     Ok(())
 }
@@ -150,7 +152,7 @@ fn files_that_cannot_be_read(rt: HostRuntime) -> Result<(), Fail> {
 #[test]
 fn cases_that_differ(rt: HostRuntime) -> Result<(), Fail> {
     for told in &DIFFERENCES {
-        assert!(&rt; is_told(rt.alloc(), told)?);
+        assert!(&rt; is_told(&rt, rt.alloc(), told)?);
     }
     Ok(())
 }
@@ -160,7 +162,8 @@ fn a_file_that_is_not_there(rt: HostRuntime) -> Result<(), Fail> {
     let alloc = rt.alloc();
     let mut files = MemFiles::new(alloc, &[])?;
     let mut out = MemSink::new(alloc, 4096, 4096, &[])?;
-    assert_eq!(rt; judge(alloc, &words(alloc)?, &mut files, &mut out)?, 2);
+    let code = judge(&rt, alloc, &words(alloc)?, &mut files, &mut out)?;
+    assert_eq!(rt; code, 2);
     let printed = "a.txt: row 1: the file can't be read\n0 cases, 0 differ\n";
     assert_eq!(rt; out.taken(), printed.as_bytes());
     Ok(())
