@@ -1,4 +1,4 @@
-use Rattle.std.proofs.Common.{◌≡◌, ◌↔◌, Bool, true, false, List, ap, refl, sym, ◌∙◌}
+use Rattle.std.proofs.Common.{◌≡◌, ◌↔◌, Bool, true, false, List, ap, sym, ◌∙◌}
 use Rattle.strip_words.specs.Jobs.{JobData, NameJob, NameNoJob, Solve, Check, Convert, Dood, Sheet, Gen, Trial}
 use Rattle.strip_words.specs.Shown.{job_data, texts}
 use Rattle.strip_words.specs.Words.{Word}
