@@ -248,6 +248,7 @@ fn work_all<
         front,
         gate,
         workers,
+        memo,
         &mut passes,
         walked,
     )?;

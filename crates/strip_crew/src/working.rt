@@ -152,24 +152,33 @@ fn do_jobs<
     Ok(all)
 }
 
-/// Puts what one worker found to what was found, and its passes to these.
-fn gather<N: Named>(tables: &Tables<N>, passes: &mut HubParts, walked: &mut Walked, job: Job)
+/// Puts what one worker found to what was found, and its passes to these, and answers its memo.
+fn gather<N: Named>(
+    tables: &Tables<N>,
+    passes: &mut HubParts,
+    walked: &mut Walked,
+    job: Job,
+) -> Memo
     requires passes { ArePassesOf tables.now.least tables.now.book passes.old }
     requires other { ArePassesOf tables.now.least tables.now.book job.passes }
     requires long { length walked.old.found.items ≡ length job.walked.found.items }
-    ensures { HasGathered tables.now.least tables.now.book passes.old walked.old job passes.new walked.new }
+    ensures gathered { HasGathered tables.now.least tables.now.book passes.old walked.old job passes.new walked.new }
+    ensures memo { result ≡ job.memo }
 {
     let Job {
         passes: other,
         walked: found,
+        memo,
         ..
     } = job;
     join(&tables.least, &tables.book, passes, other);
     merge(walked, &found);
+    memo
 }
 
 /// So many workers walk the tasks that are asked for, each in a thread, after passes that went down the
-/// front and found it whole. What they found is then put to what was found, and their passes to these.
+/// front and found it whole. What they found is then put to what was found, their passes to these, and the
+/// memo is that of one of them.
 pub(crate) fn work_beside<
     R: Threads + Wait + Sync,
     N: Named + Send + Sync,
@@ -183,10 +192,12 @@ pub(crate) fn work_beside<
     front: &Front,
     gate: &G,
     workers: u32,
+    memo: &mut Memo,
     passes: &mut HubParts,
     walked: &mut Walked,
 ) -> Result<(), Memory>
     requires keeps { Keeps (F.pre kept.now.f) (F.post kept.now.f) kept.now.kind kept.now.film.now }
+    requires memo { IsMemo kept.now.kind kept.now.film.now memo.old }
     requires named { table_of tables.now.book ≡ N.table }
     requires passes { ArePassesOf tables.now.least tables.now.book passes.old }
     requires search { IsSearchBy kept.now.kind kept.now.film.now (shown passes.old).search }
@@ -195,12 +206,14 @@ pub(crate) fn work_beside<
     requires weight { (rest : ℕ) × Weigh (1 + rest + workers) passes.old }
     requires some { 1 ≤ workers }
     requires few { workers ≤ 64 }
-    ensures { IfOk result (λ _. HaveWorked (front_data front.now) tables.now.least tables.now.book passes.old passes.new walked.new) }
+    ensures memo { IsMemo kept.now.kind kept.now.film.now memo.new }
+    ensures worked { IfOk result (λ _. HaveWorked (front_data front.now) tables.now.least tables.now.book passes.old passes.new walked.new) }
 {
     let jobs = deal(alloc, kept, tables, front, passes, workers)?;
     let mut all = do_jobs(rt, kept, tables, front, gate, jobs)?;
     while let Some(one) = all.pop() {
-        gather(tables, passes, walked, one?);
+        // The lines are trimmed by what one of the workers remembers.
+        *memo = gather(tables, passes, walked, one?);
     }
     Ok(())
 }

@@ -3,8 +3,8 @@ use Rattle.strip_crew.specs.Crew.{shown}
 use Rattle.strip_crew.proofs.Done.{or_second}
 use Rattle.strip_crew.proofs.working.gather.Goals as goal
 
-pub returns : goal.returns
-returns g c = record {
+pub returns-clause-gathered : goal.returns-clause-gathered
+returns-clause-gathered g c = record {
   passes = c.join.ensures.passes;
   goes_on = c.join.ensures.takes_over.first;
   weight = λ rest one other. c.join.ensures.heavier rest 1 one other;

@@ -2,6 +2,7 @@ use Rattle.std.proofs.Common.{◌≡◌, ◌∙◌, ℕ, ◌+◌, All, IfOk, Lis
 use Rattle.strip_io.specs.declared.files.Memory.{Memory}
 use Rattle.strip_front.specs.Shown.{front_data}
 use Rattle.strip_hand.specs.Hand.{HandData}
+use Rattle.strip_memo.specs.Memo.{IsMemo}
 use Rattle.strip_team.specs.Team.{GoesOn, HasWorked}
 use Rattle.strip_crew.specs.declared.job.Job.{Job}
 use Rattle.strip_crew.specs.Crew.{IsDone, Weigh, shown}
@@ -12,6 +13,7 @@ pub loop-one-init : goal.loop-one-init
 loop-one-init g c =
     let dealt = c.in_ok-jobs.ensures in
     record {
+      memo = c.requires.memo;
       passes = dealt.passes;
       goes_on = subst (GoesOn (shown c.args.passes.now)) (sym dealt.same) (goes_self (shown c.args.passes.now));
       weight = λ total weigh. (
@@ -44,8 +46,9 @@ loop-one-preserved g c =
     let was = c.loop-one.invariant in
     let done = is_done (IsDone c.args.kept.now.kind c.args.kept.now.film.now (front_data c.args.front.now) c.args.tables.now.least c.args.tables.now.book)
     c.loop-one.all.items c.pop.new.self.items c.in-Some.one c.in_ok-one.field-0 was.all c.in-Some.ensures.items c.in_ok-one.was in
-    let gathered = c.gather.ensures in
+    let gathered = c.gather.ensures.gathered in
     record {
+      memo = subst (IsMemo c.args.kept.now.kind c.args.kept.now.film.now) (sym c.gather.ensures.memo) done.is_job.memo;
       passes = gathered.passes;
       goes_on = goes_after (shown c.args.passes.now) (shown c.loop-one.passes) (shown c.gather.new.passes) was.goes_on gathered.goes_on;
       weight = λ total weigh. (
@@ -57,8 +60,8 @@ loop-one-preserved g c =
       ended = inr (gathered.ended done.ended);
     }
 
-pub returns : goal.returns
-returns g c =
+pub returns-clause-worked : goal.returns-clause-worked
+returns-clause-worked g c =
     let was = c.loop-one.invariant in
     let empty : vec_len c.loop-one.all ≡ 0 = search rules in
     record {

@@ -1,4 +1,5 @@
 use Rattle.std.proofs.Common.{◌≡◌, ◌+◌, ◌⊎◌, ℕ, All, IfOk, true, vec_len}
+use Rattle.strip_memo.specs.Memo.{IsMemo}
 use Rattle.strip_front.specs.Shown.{front_data}
 use Rattle.strip_team.specs.Team.{GoesOn, HasWorked}
 use Rattle.strip_crew.specs.Crew.{ArePassesOf, IsDone, Weigh, shown}
@@ -6,6 +7,7 @@ use Rattle.strip_crew.proofs.working.work_beside.Given as goal
 
 abbrev pub invariant-loop-one : goal.invariant-loop-one
 invariant-loop-one g l = record {
+  memo : IsMemo l.fn.kept.kind l.fn.kept.film.now l.memo;
   passes : ArePassesOf l.fn.tables.least l.fn.tables.book l.passes;
   goes_on : GoesOn (shown l.fn.passes) (shown l.passes);
   weight : (total : ℕ) → Weigh total l.fn.passes → (rest : ℕ) × (rest + vec_len l.all ≡ total) × Weigh rest l.passes;
