@@ -1,5 +1,5 @@
-// What the hub of one worker finds of what that of another did, on the triangle: the line of all scenes,
-// which each first step justifies at 13, and the least cost. The start path pays 14, and the other 13.
+// What the hub of one worker finds of what that of another did: the line of all scenes, which each first
+// step justifies at 60, and the least cost. The start path pays 70, and the other 60.
 ghost use Rattle.std.specs.Prelude.{◌≡◌, ℕ, suc, None, IfOk};
 ghost use Rattle.strip_film.specs.Film.{all_scenes};
 ghost use Rattle.strip_film.specs.Path.{IsComplete};
@@ -12,7 +12,7 @@ ghost use Rattle.strip_book.specs.Pass.{known, table_of};
 ghost use Rattle.strip_crew.specs.Crew.{ArePassesOf, Weigh};
 ghost use Rattle.test_workers.specs.Hubs.{HasWhole};
 
-use crate::book::{each_first_reaches, triangle};
+use crate::book::each_first_reaches;
 use crate::least::path;
 use std::alloc::Global;
 use std::marker::Brand;
@@ -20,13 +20,23 @@ use std::sync::Wait;
 use std::test::Fail;
 use strip_book::Book;
 use strip_bound::{BoundTables, Kept, static_reach};
-use strip_film::{Cursor, Known, Listed, Noted, Path, Probe};
+use strip_film::{Cursor, Film, Known, Listed, Noted, Path, Probe};
 use strip_hand::Hand;
 use strip_hub::{Hub, HubParts};
 use strip_kind::Kind;
 use strip_least::Least;
 use strip_mask::Mask;
 use strip_stripes::{Named, Stripes};
+
+/// Two actors who work alone and then together: at 10 and at 20 a day, and as much for a day of waiting.
+fn meeting(alloc: Global) -> Result<Film, Fail> {
+    let casts = Vec::from_slice(alloc, &[0b01, 0b10, 0b11])?;
+    let days = Vec::from_slice(alloc, &[1, 1, 1])?;
+    let rates = Vec::from_slice(alloc, &[10, 20])?;
+    let holds = Vec::from_slice(alloc, &[10, 20])?;
+    let film = Film::of(casts, days, rates, holds, Vec::new(alloc)).ok_or("within the limits")?;
+    Ok(film)
+}
 
 /// What the first worker was told of its note and its offer; and the second of all scenes, and of the
 /// least cost before that offer and behind it.
@@ -47,12 +57,12 @@ impl Told {
                 Probe::Hit(Known {
                     line: 0,
                     set: 7,
-                    bound: 13
+                    bound: 60
                 })
             )
-            && self.before == 14
-            && self.offered == 13
-            && self.behind == 13
+            && self.before == 70
+            && self.offered == 60
+            && self.behind == 60
     }
 }
 
@@ -124,7 +134,7 @@ fn raise_to<H: Hand, F: Fn(u64, u64) -> u64>(
     Ok(())
 }
 
-/// Makes a line of all scenes in the front, raises it to 13, and notes it.
+/// Makes a line of all scenes in the front, raises it to 60, and notes it.
 fn note_whole<H: Hand, F: Fn(u64, u64) -> u64>(kept: &Kept<F>, hand: &mut H) -> Result<Noted, Fail>
     requires sound { H.is_sound hand.old }
     requires keeps { Keeps (F.pre kept.now.f) (F.post kept.now.f) kept.now.kind kept.now.film.now }
@@ -134,12 +144,12 @@ fn note_whole<H: Hand, F: Fn(u64, u64) -> u64>(kept: &Kept<F>, hand: &mut H) -> 
 {
     let mut cursor = claim_front(hand)?;
     let line = enlist_whole(kept, hand, &mut cursor)?;
-    raise_to(kept, hand, line, 13)?;
+    raise_to(kept, hand, line, 60)?;
     kept.film().keeps_limits();
     let known = Known {
         line,
         set: kept.film().all().0,
-        bound: 13,
+        bound: 60,
     };
     let noted = hand.note(&known)?;
     Ok(noted)
@@ -225,9 +235,9 @@ fn shared<R: Wait, F: Fn(u64, u64) -> u64>(
 #[test]
 fn another_worker_is_told_of_a_line_and_a_path(rt: HostRuntime) -> Result<(), Fail> {
     let alloc = rt.alloc();
-    let film = triangle(alloc)?;
-    let start = path(&film, &[0, 2, 1])?;
-    let better = path(&film, &[0, 1, 2])?;
+    let film = meeting(alloc)?;
+    let start = path(&film, &[0, 1, 2])?;
+    let better = path(&film, &[0, 2, 1])?;
     let tables = BoundTables::of(alloc, &film)?;
     let kept = Kept::new(
         &film,
