@@ -1,5 +1,5 @@
 -- What a race opens with.
-use Rattle.std.proofs.Common.{◌≡◌, ℕ, suc, ◌≤◌, List, length, refl, sym, ap, subst, arith}
+use Rattle.std.proofs.Common.{◌∙◌, ◌≡◌, ℕ, suc, ◌≤◌, List, length, refl, sym, ap, subst, arith}
 use Rattle.strip_kind.specs.declared.kind.Kind.{Kind}
 use Rattle.strip_pay.specs.Film.{FilmData}
 use Rattle.strip_film.specs.Film.{IsFilm}
@@ -7,7 +7,6 @@ use Rattle.strip_film.specs.Path.{PathData}
 use Rattle.strip_lines.specs.Lines.{rules_of}
 use Rattle.strip_hand.specs.Search.{AreStarts, SearchData}
 use Rattle.strip_front.specs.Front.{FrontData, IsEmptyFront}
-use Rattle.strip_front.specs.Tasks.{tasks_of}
 use Rattle.strip_least.specs.declared.least.Least.{Least}
 use Rattle.strip_least.specs.declared.pass.LeastPass.{LeastPass}
 use Rattle.strip_least.specs.declared.view.View.{View as LeastView}
@@ -27,7 +26,7 @@ module _ (kind : Kind) (film : FilmData) (start : PathData) (cap : ℕ) (tasks :
   search = record { film = film; kind = kind; cap = cap; start = start.paid; tasks = tasks }
 
   pub opened : IsFirstLeast film start (suc (length tasks)) least told → IsFirstBook search book lines → IsFilm film → AreStarts search
-      → tasks ≡ tasks_of (rules_of kind film) → 1 ≤ cap → IsEmptyFront (rules_of kind film) front
+      → tasks ≡ front.tasks → 1 ≤ cap → IsEmptyFront (rules_of kind film) front
       → MayBegin kind film front least book (record { told = told; lines = lines })
   opened first_least first_book is_film starts by_tasks some empty = record {
     are = record {
@@ -46,9 +45,10 @@ module _ (kind : Kind) (film : FilmData) (start : PathData) (cap : ℕ) (tasks :
       search = subst IsSearch (sym first_book.knows) (record { film = is_film; tasks = starts });
     };
     full = record { told = ap (λ (v : LeastView). v.weight) first_least.knows; lines = ap (λ (v : ViewData). v.weight) first_book.knows };
-    search = subst (λ (v : ViewData). IsSearchBy kind film v.search) (sym first_book.knows) (record { same_film = refl; same_kind = refl; tasks = by_tasks });
+    search = subst (λ (v : ViewData). IsSearchBy kind film v.search) (sym first_book.knows) (record { same_film = refl; same_kind = refl });
     some_lines = subst (λ (v : ViewData). 1 ≤ v.search.cap) (sym first_book.knows) some;
     unclaimed = ap (λ (v : ViewData). v.entries) first_book.knows;
     unended = ap (λ (v : LeastView). v.ended) first_least.knows;
     front_of = subst (λ (v : ViewData). IsEmptyFront (rules_of v.search.kind v.search.film) front) (sym first_book.knows) empty;
+    tasks = ap (λ (v : ViewData). v.search.tasks) first_book.knows ∙ by_tasks;
   }

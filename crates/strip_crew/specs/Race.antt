@@ -26,6 +26,7 @@ pub record MayBegin (kind : Kind) (film : FilmData) (front : FrontData) (least :
   pub unclaimed : (known passes.lines).entries ≡ []
   pub unended : (shown passes).ended ≡ false
   pub front_of : IsEmptyFront (search_rules (shown passes).search) front
+  pub tasks : (shown passes).search.tasks ≡ front.tasks
 
 -- what a race begins with whose start path paid this, with room for so many lines
 pub record IsOpening (kind : Kind) (film : FilmData) (paid room : ℕ) (opening : Opening) : Type 0 where

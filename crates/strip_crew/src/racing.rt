@@ -77,7 +77,8 @@ pub fn race<R: Threads + Wait + Sync, F: Fn(u64, u64) -> u64 + Sync, G: Gate>(
     paths_are_few();
     kept.film().keeps_limits();
     let room = room_for(kept.film().scenes(), limits.cap);
-    let opening = open(alloc, kept, start, room)?;
+    let most = task_scenes(kept.film().scenes(), limits.workers);
+    let opening = open(alloc, kept, start, room, most)?;
     in_race::<Brand, R, F, G>(rt, alloc, kept, memo, opening, limits, gate)
 }
 
@@ -101,26 +102,37 @@ fn room_for(scenes: usize, cap: u32) -> u32
     u64::from(cap).min(orders.saturating_mul(2)) as u32
 }
 
-/// What a race begins with that has room for so many lines.
+/// How many scenes a task has where so many workers walk them: three; and four where there are more than
+/// eight workers, and no more than 65,536 sets of four scenes, as of up to 36 scenes.
+fn task_scenes(scenes: usize, workers: u32) -> usize
+    ensures { (2 ≤ result) × (result ≤ 4) }
+{
+    if workers > 8 && scenes <= 36 { 4 } else { 3 }
+}
+
+/// What a race begins with that has room for so many lines, and whose tasks have at most so many scenes.
 fn open<F: Fn(u64, u64) -> u64>(
     alloc: Global,
     kept: &Kept<F>,
     start: &Path,
     room: u32,
+    most: usize,
 ) -> Result<Opening, Memory>
     requires keeps { Keeps (F.pre kept.now.f) (F.post kept.now.f) kept.now.kind kept.now.film.now }
     requires start { IsComplete kept.now.film.now (path_data start.now) }
     requires some { 1 ≤ room }
     requires few { room ≤ 16777216 }
+    requires some_scenes { 2 ≤ most }
+    requires few_scenes { most ≤ 4 }
     ensures { IfOk result (IsOpening kept.now.kind kept.now.film.now (path_data start.now).paid room) }
 {
     let film = kept.film();
     film.keeps_limits();
     tasks_are_starts();
-    let front = layers(alloc, kept)?;
-    let parts = front.tasks.len() as u32 + 1;
+    let front = layers(alloc, kept, most)?;
+    let parts = front.tasks().len() as u32 + 1;
     let (least, told) = Least::new(alloc, film, start, parts)?;
-    let (book, lines) = Book::new(alloc, film, kept.kind(), start.paid(), &front.tasks, room)?;
+    let (book, lines) = Book::new(alloc, film, kept.kind(), start.paid(), front.tasks(), room)?;
     Ok(Opening {
         front,
         least,
@@ -179,7 +191,7 @@ fn in_race<
         &mut walked,
         passes,
     )?;
-    let (passes, number) = close_front(rt, kept, &tables, &front, passes, &walked)?;
+    let (passes, number) = close_front(rt, kept, &tables, &mut front, passes, &walked)?;
     end(alloc, kept, tables, passes, number, walked.spent)
 }
 
@@ -261,7 +273,7 @@ fn close_front<R: Wait, N: Named, F: Fn(u64, u64) -> u64>(
     rt: &R,
     kept: &Kept<F>,
     tables: &Tables<N>,
-    front: &Front,
+    front: &mut Front,
     passes: HubParts,
     walked: &Walked,
 ) -> Result<(HubParts, u64), Memory>
@@ -270,7 +282,7 @@ fn close_front<R: Wait, N: Named, F: Fn(u64, u64) -> u64>(
     requires passes { ArePassesOf tables.now.least tables.now.book passes }
     requires full { Weigh full_weight passes }
     requires search { IsSearchBy kept.now.kind kept.now.film.now (shown passes).search }
-    requires worked { HasWorked (shown passes) (front_data front.now) walked.now.found.items walked.now.spent }
+    requires worked { HasWorked (shown passes) (front_data front.old) walked.now.found.items walked.now.spent }
     requires ended { (shown passes).ended ≡ true }
     ensures { IfOk result (λ closed. HasClosed kept.now.kind kept.now.film.now tables.now.least tables.now.book passes closed.0 closed.1 walked.now.spent) }
 {

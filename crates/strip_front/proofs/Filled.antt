@@ -12,7 +12,7 @@ use Rattle.strip_count.specs.Parts.{inside}
 use Rattle.strip_count.specs.Paths.{is_candidate, lists_from, number_up_to}
 use Rattle.strip_front.specs.Calls.{IsCutShort, count_in}
 use Rattle.strip_front.specs.Filled.{HasLines, IsFilled, IsWanted, IsWhole}
-use Rattle.strip_front.specs.Front.{FrontData, is_wanted}
+use Rattle.strip_front.specs.Front.{FrontData, is_wanted, root_of}
 use Rattle.strip_front.specs.Marked.{MarksMore}
 use Rattle.strip_front.proofs.Tried.{some_is}
 
@@ -23,10 +23,10 @@ none_wanted (suc n) (suc task) = none_wanted n task
 
 module _ (hand : HandData) (film : FilmData) (same : hand.search.film ≡ film) (mid new : FrontData) (marks : MarksMore mid new (IsWanted film mid)) where
   lines_still : HasLines hand mid → HasLines hand new
-  lines_still lines = subst (HasLines hand) (sym marks.only) (record { root = lines.root; firsts = lines.firsts })
+  lines_still lines = subst (HasLines hand) (sym marks.only) (λ place line within at. lines place line within at)
 
   pub whole_still : (value : ℕ) → IsWhole hand.search mid value → IsWhole hand.search new value
-  whole_still value whole = subst (λ (f : FrontData). IsWhole hand.search f value) (sym marks.only) (record { none = whole.none; firsts = whole.firsts })
+  whole_still value whole = subst (λ (f : FrontData). IsWhole hand.search f value) (sym marks.only) (record { none = whole.none; paths = whole.paths })
 
   wanted_still : (task : ℕ) → IsWanted film mid task ↔ IsWanted hand.search.film new task
   wanted_still task =
@@ -54,8 +54,8 @@ none_counted [] = refl
 none_counted (x ∷ xs) = none_counted xs
 
 -- where a hand knows no lines but of paths that it enlisted in the front, and they are as many as there may be, the empty path has one
-pub root_own : (hand : HandData) (cursor : CursorData) (front : FrontData) → IsHand hand → StandsAt hand cursor → cursor.task ≡ 0 → IsSome front.root ↔ IsSome cursor.last
-    → IsCutShort hand cursor → 1 ≤ hand.search.cap → length hand.lines ≤ count_in hand 0 → IsSome front.root
+pub root_own : (hand : HandData) (cursor : CursorData) (front : FrontData) → IsHand hand → StandsAt hand cursor → cursor.task ≡ 0 → IsSome (root_of front) ↔ IsSome cursor.last
+    → IsCutShort hand cursor → 1 ≤ hand.search.cap → length hand.lines ≤ count_in hand 0 → IsSome (root_of front)
 root_own hand cursor front is stands task both cut some few = by_last cursor.last refl
   where
     record_at : hand.records 0 ≡ Some (record { last = cursor.last; number = stands.0 })
@@ -64,7 +64,7 @@ root_own hand cursor front is stands task both cut some few = by_last cursor.las
     count : count_in hand 0 ≡ stands.0
     count = ap (λ (o : Option RecordData). unwrap_or (option_map (λ (entry : RecordData). entry.number) o) 0) record_at
 
-    by_last : (last : Option PathData) → cursor.last ≡ last → IsSome front.root
+    by_last : (last : Option PathData) → cursor.last ≡ last → IsSome (root_of front)
     by_last (Some path) at = both.1 (some_is cursor.last path at)
     by_last None at =
         let entry : RecordData = record { last = None; number = stands.0 } in

@@ -1,10 +1,13 @@
 -- By what the front's lines may be raised, and what that reaches.
-use Rattle.std.proofs.Common.{◌≡◌, ◌≢◌, ℕ, ◌+◌, ◌-◌, ◌<◌, ◌≤◌, ◌^◌, max, true, Some, None, List, [], ◌∷◌, length, get_or, slice_index, IsSome, inl, inr, refl, sym, ap, ◌∙◌, subst, arith}
-use Rattle.std.proofs.lemmas.Bool.{cases_lt}
-use Rattle.std.proofs.lemmas.List.{get_or_default}
-use Rattle.strip_mask.specs.Set.{has, without}
-use Rattle.strip_mask.proofs.Below.{LiesBelow-full, LiesBelow-without, size-full}
+use Rattle.std.proofs.Common.{◌≡◌, ◌≢◌, ℕ, suc, ◌+◌, ◌-◌, ◌<◌, ◌≤◌, ◌^◌, max, true, Some, None, Option, List, length, slice_index, slice_set, Contains, IsSome, inl, inr, refl, sym, ap, ◌∙◌, subst, arith}
+use Rattle.std.proofs.lemmas.Bool.{cases_eq, cases_lt}
+use Rattle.std.proofs.lemmas.List.{get_or-set_other, get_or-set_same}
+use Rattle.std.specs.Option.{unwrap_or}
+use Rattle.strip_mask.specs.Set.{has, members, size, without}
+use Rattle.strip_mask.proofs.Below.{LiesBelow-without, size-full}
+use Rattle.strip_mask.proofs.Members.{Contains-members}
 use Rattle.strip_mask.proofs.Sizes.{empty_from_size, size-without}
+use Rattle.strip_kind.specs.declared.kind.Kind.{Kind}
 use Rattle.strip_pay.specs.Film.{FilmData}
 use Rattle.strip_film.specs.declared.shared.Line.{Line}
 use Rattle.strip_film.specs.Film.{LiesIn, all_scenes}
@@ -12,28 +15,25 @@ use Rattle.strip_film.specs.Path.{PathData}
 use Rattle.strip_film.specs.Rules.{Rules}
 use Rattle.strip_film.specs.Shoot.{step_cost}
 use Rattle.strip_film.proofs.Costs.{step_limit}
+use Rattle.strip_film.proofs.Paths.{rest_lies}
 use Rattle.strip_bound.specs.Bounds.{bound}
 use Rattle.strip_rule.specs.Rule.{open_firsts}
 use Rattle.strip_rule.proofs.Open.{open_begins_least}
-use Rattle.strip_rule.proofs.Firsts.{first_there}
-use Rattle.strip_lines.specs.Lines.{GrowTo, IsJustified, known, line_at}
-use Rattle.strip_lines.proofs.Grown.{known-static}
+use Rattle.strip_rule.proofs.Firsts.{first_there, firsts_set}
+use Rattle.strip_lines.specs.Lines.{GrowTo, IsJustified, ahead, known, least_step, line_at}
+use Rattle.strip_lines.proofs.Ahead.{least_step_le}
+use Rattle.strip_lines.proofs.Grown.{known-grows, known-static}
 use Rattle.strip_hand.specs.Calls.{MayRaise}
-use Rattle.strip_count.specs.Parts.{no_task}
-use Rattle.strip_count.specs.Paths.{path_along}
 use Rattle.strip_hand.specs.Hand.{HandData, IsHand}
 use Rattle.strip_hand.specs.Search.{search_rules}
-use Rattle.strip_front.specs.Calls.{AllReach, AreFound}
-use Rattle.strip_front.specs.Filled.{HasLine, IsFilled}
-use Rattle.strip_front.specs.Front.{FrontData, IsFrontOf, is_wanted, task_at}
-use Rattle.strip_front.specs.Raised.{ReachesBy, ReachesFirst}
-use Rattle.strip_front.specs.Tasks.{tasks_of}
-use Rattle.strip_front.proofs.Found.{same_task}
-use Rattle.strip_front.proofs.Leaving.{one_task, only_tasks}
+use Rattle.strip_front.specs.Calls.{AllReach, AreFound, Learns}
+use Rattle.strip_front.specs.Filled.{HasLine, IsFilled, IsWhole}
+use Rattle.strip_front.specs.Front.{FrontData, IsFrontOf, is_wanted, line_of, path_at, root_of}
+use Rattle.strip_front.specs.Raised.{AreRaised, IsNumberOf, ReachesBy, ReachesFrom}
+use Rattle.strip_front.proofs.Open.{set_is}
+use Rattle.strip_front.proofs.FrontFacts.{FrontFacts, IsPathAfter, IsTaskAfter}
 use Rattle.strip_front.proofs.Small.{bound-empty, known_small, line_makes_known}
-use Rattle.strip_front.proofs.Tasks.{only_first, rest_lies, set_is, tasks_pay, two_open}
-use Rattle.strip_front.proofs.Tried.{some_is}
-use Rattle.strip_front.proofs.Turns.{others_remain}
+use Rattle.strip_front.proofs.Tried.{none_isnt, some_is}
 
 -- the greater of the static bound and a number that each open first reaches is justified
 pub greater_justified : (rules : Rules) (lines : List Line) (set static least : ℕ) → static ≡ rules.bound set → set ≢ 0
@@ -44,179 +44,251 @@ greater_justified rules lines set static least is some steps = elim (cases_lt st
   | inr more ↦ inl (omega (arith, is, more))
 ]
 
-module _ (hand : HandData) (sound : IsHand hand) (front : FrontData) (front_of : IsFrontOf (search_rules hand.search) front) (filled : IsFilled hand front) (found : List ℕ)
-    (are : AreFound hand front found) (first : ℕ) (member : has (open_firsts hand.search.film (all_scenes hand.search.film)) first ≡ true) where
-  -- ---- two scenes or more
+same_line : (o : Option ℕ) (a b : ℕ) → o ≡ Some a → o ≡ Some b → a ≡ b
+same_line o a b one two = ap (λ (x : Option ℕ). unwrap_or x 0) (sym one ∙ two)
 
-  module _ (more : 1 < length hand.search.film.casts) where
-    pub some_rest : without (all_scenes hand.search.film) first ≢ 0
-    some_rest = others_remain hand.search.film first sound.film more (first_there hand.search.film (all_scenes hand.search.film) first member)
-
-    -- the task that follows, by its place; it paid no more than the path of the two scenes
-    follows : (second : ℕ) → has (open_firsts hand.search.film (without (all_scenes hand.search.film) first)) second ≡ true
-        → (task : ℕ) × (task < length front.tasks) × ((task_at front task).rest ≡ without (without (all_scenes hand.search.film) first) second)
-        × ((task_at front task).paid ≤ step_cost hand.search.film (all_scenes hand.search.film) first + step_cost hand.search.film (without (all_scenes hand.search.film) first) second)
-    follows second there =
-        let film = hand.search.film in
-        let pays = tasks_pay film sound.film hand.search.kind (path_along film (first ∷ second ∷ [])) (two_open film sound.film hand.search.kind first second member there) (omega (arith, more)) in
-        let at : get_or (tasks_of (search_rules hand.search)) pays.1.0 no_task ≡ pays.0 = get_or_default (tasks_of (search_rules hand.search)) pays.1.0 no_task pays.0 pays.1.1 ∙ pays.1.2 in
-        let here : task_at front pays.1.0 ≡ pays.0 = ap (λ (tasks : List PathData). get_or tasks pays.1.0 no_task) front_of.tasks ∙ at in (
-          pays.1.0,
-          omega (arith, pays.1.1, ap length front_of.tasks),
-          ap (λ (p : PathData). p.rest) here ∙ pays.2,
-          omega (arith, ap (λ (p : PathData). p.paid) here, pays.3),
-        )
-
-    module _ (line : ℕ) (has_line : front.firsts first ≡ Some line) where
-      wanted : (second task : ℕ) → has (open_firsts hand.search.film (without (all_scenes hand.search.film) first)) second ≡ true → task < length front.tasks
-          → (task_at front task).rest ≡ without (without (all_scenes hand.search.film) first) second → is_wanted front task ≡ true
-      wanted second task there within leaves =
-          (filled.wanted task within).1 (inl (more, (first, some_is (front.firsts first) line has_line, member, (second, there, leaves))))
-
-      -- each open first then has a task, and what it reaches fits a word
-      pub reach_there : (second : ℕ) → has (open_firsts hand.search.film (without (all_scenes hand.search.film) first)) second ≡ true
-          → (reach : ℕ) × ReachesBy hand.search.film front found (without (all_scenes hand.search.film) first) second reach × (reach < 2 ^ 64)
-      reach_there second there =
-          let film = hand.search.film in
-          let rest = without (all_scenes film) first in
-          let task = follows second there in
-          let known_of : slice_index found task.0 ≤ known (search_rules hand.search) hand.lines (task_at front task.0).rest
-          = are task.0 task.1 (wanted second task.0 there task.1 task.2) in
-          let small : known (search_rules hand.search) hand.lines (task_at front task.0).rest < 2 ^ 63
-          = known_small hand (task_at front task.0).rest sound
-          (subst (LiesIn film) (sym task.2) (LiesBelow-without (length film.casts) rest second (rest_lies film sound.film first))) in (
-            step_cost film rest second + slice_index found task.0,
-            (task.0, task.1, task.2, refl),
-            omega (arith, known_of, small, step_limit film rest second sound.film (set_is film sound.film rest (rest_lies film sound.film first)) (first_there film rest second there)),
-          )
-
-      -- the least of these is justified for what remains
-      pub least_steps : (least : ℕ) → ((second reach : ℕ) → has (open_firsts hand.search.film (without (all_scenes hand.search.film) first)) second ≡ true
-          → ReachesBy hand.search.film front found (without (all_scenes hand.search.film) first) second reach → least ≤ reach)
-          → (second : ℕ) → has (open_firsts hand.search.film (without (all_scenes hand.search.film) first)) second ≡ true
-          → least ≤ step_cost hand.search.film (without (all_scenes hand.search.film) first) second
-          + known (search_rules hand.search) hand.lines (without (without (all_scenes hand.search.film) first) second)
-      least_steps least most second there =
-          let task = follows second there in
-          let known_of : slice_index found task.0 ≤ known (search_rules hand.search) hand.lines (without (without (all_scenes hand.search.film) first) second)
-          = subst (λ (q : ℕ). slice_index found task.0 ≤ known (search_rules hand.search) hand.lines q) task.2 (are task.0 task.1 (wanted second task.0 there task.1 task.2)) in
-          omega (arith, known_of, most second (step_cost hand.search.film (without (all_scenes hand.search.film) first) second + slice_index found task.0) there (task.0, task.1, task.2, refl))
-
-      -- where each task that is asked for reaches a value, so do the first scene and the least
-      pub least_reaches : (value : ℕ) → AllReach front found value → (second reach : ℕ)
-          → has (open_firsts hand.search.film (without (all_scenes hand.search.film) first)) second ≡ true
-          → ReachesBy hand.search.film front found (without (all_scenes hand.search.film) first) second reach
-          → value - step_cost hand.search.film (all_scenes hand.search.film) first ≤ reach
-      least_reaches value all second reach there (task, within, leaves, is) =
-          let other = follows second there in
-          let same : other.0 ≡ task = same_task hand.search.kind hand.search.film sound.film front.tasks front_of.tasks other.0 task other.1 within (other.2 ∙ sym leaves) in
-          let paid : (task_at front task).paid ≡ (task_at front other.0).paid = ap (λ (i : ℕ). (task_at front i).paid) (sym same) in
-          omega (arith, all task within (wanted second task there within leaves), paid, other.3, is)
-
-  -- ---- one scene
-
-  module _ (one : length hand.search.film.casts ≡ 1) (root : IsSome front.root) where
-    nothing_left : without (all_scenes hand.search.film) first ≡ 0
-    nothing_left =
-        let film = hand.search.film in
-        empty_from_size (without (all_scenes film) first) (set_is film sound.film (without (all_scenes film) first) (rest_lies film sound.film first))
-        (omega (
-          arith,
-          one,
-          size-full (length film.casts) sound.film.scene_count.1,
-          size-without (all_scenes film) first (set_is film sound.film (all_scenes film) (LiesBelow-full (length film.casts))) (first_there film (all_scenes film) first member),
-        ))
-
-    task_is : task_at front 0 ≡ path_along hand.search.film (first ∷ [])
-    task_is =
-        ap (λ (tasks : List PathData). get_or tasks 0 no_task) (front_of.tasks ∙ only_tasks hand.search.kind hand.search.film one)
-        ∙ ap (λ (s : ℕ). path_along hand.search.film (s ∷ [])) (sym (only_first hand.search.film sound.film one first member))
-
-    pub zero_within : 0 < length front.tasks
-    zero_within = omega (arith, (one_task hand.search.kind hand.search.film front front_of one).0)
-
-    pub zero_leaves : (task_at front 0).rest ≡ without (all_scenes hand.search.film) first
-    zero_leaves = ap (λ (p : PathData). p.rest) task_is
-
-    zero_wanted : is_wanted front 0 ≡ true
-    zero_wanted = (filled.wanted 0 zero_within).1 (inr (one, root))
-
-    pub zero_known : slice_index found 0 ≤ known (search_rules hand.search) hand.lines (without (all_scenes hand.search.film) first)
-    zero_known = subst (λ (q : ℕ). slice_index found 0 ≤ known (search_rules hand.search) hand.lines q) zero_leaves (are 0 zero_within zero_wanted)
-
-    pub zero_static : bound hand.search.kind hand.search.film (without (all_scenes hand.search.film) first) ≤ slice_index found 0
-    zero_static = omega (arith, bound-empty hand.search.kind hand.search.film sound.film, ap (bound hand.search.kind hand.search.film) nothing_left)
-
-    pub zero_reaches : (value : ℕ) → AllReach front found value → value ≤ step_cost hand.search.film (all_scenes hand.search.film) first + slice_index found 0
-    zero_reaches value all = omega (arith, all 0 zero_within zero_wanted, ap (λ (p : PathData). p.paid) task_is)
-
--- ---- what comes of a first scene
+-- a set has one number
+module _ (kind : Kind) (film : FilmData) (front : FrontData) (facts : FrontFacts kind film front) (found numbers : List ℕ) where
+  pub one_number : (set one other : ℕ) → IsNumberOf front found numbers set one → IsNumberOf front found numbers set other → one ≡ other
+  one_number set one other (inl a) (inl b) =
+      a.3 ∙ ap (slice_index found) (facts.one_task a.0 b.0 a.1 b.1 (a.2 ∙ sym b.2)) ∙ sym b.3
+  one_number set one other (inl a) (inr b) = absurd (facts.never_both b.0 a.0 b.1 a.1 (b.2 ∙ sym a.2))
+  one_number set one other (inr a) (inl b) = absurd (facts.never_both a.0 b.0 a.1 b.1 (a.2 ∙ sym b.2))
+  one_number set one other (inr a) (inr b) =
+      a.3 ∙ ap (slice_index numbers) (facts.one_path a.0 b.0 a.1 b.1 (a.2 ∙ sym b.2)) ∙ sym b.3
 
 -- at most what each open first reaches; at least what each of them does; and that each reaches something
-abbrev pub MostFor : FilmData → FrontData → List ℕ → ℕ → ℕ → Type 0
-MostFor film front found set number = (second reach : ℕ) → has (open_firsts film set) second ≡ true → ReachesBy film front found set second reach → number ≤ reach
+abbrev pub MostFor : FilmData → FrontData → List ℕ → List ℕ → ℕ → ℕ → Type 0
+MostFor film front found numbers set number =
+    (scene reach : ℕ) → has (open_firsts film set) scene ≡ true → ReachesBy film front found numbers set scene reach → number ≤ reach
 
-abbrev pub LeastFor : FilmData → FrontData → List ℕ → ℕ → ℕ → Type 0
-LeastFor film front found set least = (value : ℕ) → value < 2 ^ 64 → MostFor film front found set value → value ≤ least
+abbrev pub LeastFor : FilmData → FrontData → List ℕ → List ℕ → ℕ → ℕ → Type 0
+LeastFor film front found numbers set least =
+    (value : ℕ) → value < 2 ^ 64 → MostFor film front found numbers set value → value ≤ least
 
-abbrev pub AllFor : FilmData → FrontData → List ℕ → ℕ → Type 0
-AllFor film front found set = (second : ℕ) → has (open_firsts film set) second ≡ true → (reach : ℕ) × ReachesBy film front found set second reach × (reach < 2 ^ 64)
+abbrev pub AllFor : FilmData → FrontData → List ℕ → List ℕ → ℕ → Type 0
+AllFor film front found numbers set =
+    (scene : ℕ) → has (open_firsts film set) scene ≡ true → (reach : ℕ) × ReachesBy film front found numbers set scene reach × (reach < 2 ^ 64)
 
-module _ (hand : HandData) (sound : IsHand hand) (front : FrontData) (front_of : IsFrontOf (search_rules hand.search) front) (filled : IsFilled hand front) (root : IsSome front.root)
-    (found : List ℕ) (are : AreFound hand front found) (first : ℕ) (member : has (open_firsts hand.search.film (all_scenes hand.search.film)) first ≡ true) where
-  pub reached_one : length hand.search.film.casts ≡ 1 → (number : ℕ)
-      → ((task : ℕ) → task < length front.tasks → (task_at front task).rest ≡ without (all_scenes hand.search.film) first → number ≡ slice_index found task)
-      → ReachesFirst hand front found first number
-  reached_one one number is =
-      let at : number ≡ slice_index found 0 = is 0 (zero_within hand sound front front_of filled found are first member one root) (zero_leaves hand sound front front_of filled found are first member one root) in
-      record {
-        known_of = omega (arith, at, zero_known hand sound front front_of filled found are first member one root);
-        static_bound = omega (arith, at, zero_static hand sound front front_of filled found are first member one root);
-        reaches = λ value whole all. omega (arith, at, zero_reaches hand sound front front_of filled found are first member one root value all);
-      }
+-- of what remains after a first scene: its number is at most what is known of it, and reaches what the front leaves out nothing below of
+record HasNumber (hand : HandData) (front : FrontData) (found numbers : List ℕ) (place scene number : ℕ) : Type 0 where
+  is : IsNumberOf front found numbers (without (path_at front place).rest scene) number
+  known_of : number ≤ known (search_rules hand.search) hand.lines (without (path_at front place).rest scene)
+  reaches : (value : ℕ) → IsWhole hand.search front value → AllReach front found value
+      → value ≤ (path_at front place).paid + step_cost hand.search.film (path_at front place).rest scene + number
+  behind_root : place ≡ 0 → bound hand.search.kind hand.search.film (without (path_at front place).rest scene) ≤ number
 
-  pub reached_static : 1 < length hand.search.film.casts → front.firsts first ≡ None → (number : ℕ)
-      → number ≡ bound hand.search.kind hand.search.film (without (all_scenes hand.search.film) first) → ReachesFirst hand front found first number
-  reached_static more none number is = record {
-    known_of = omega (arith, is, known-static (search_rules hand.search) hand.lines (without (all_scenes hand.search.film) first));
+module _ (hand : HandData) (sound : IsHand hand) (front : FrontData) (front_of : IsFrontOf (search_rules hand.search) front)
+    (facts : FrontFacts hand.search.kind hand.search.film front) (filled : IsFilled hand front) (found : List ℕ)
+    (are : AreFound hand front found) (numbers : List ℕ) (place : ℕ) (within : place < length front.paths)
+    (raised : AreRaised hand front found numbers (suc (length (path_at front place).scenes))) where
+  abbrev rest : ℕ
+  rest = (path_at front place).rest
+
+  pub rest_in : LiesIn hand.search.film rest
+  rest_in = rest_lies hand.search.film (path_at front place) (facts.is_open place within).0
+
+  rest_of_root : place ≡ 0 → rest ≡ all_scenes hand.search.film
+  rest_of_root root = ap (λ (p : ℕ). (path_at front p).rest) root ∙ ap (λ (p : PathData). p.rest) facts.first
+
+  -- where a task has one scene, so has the film
+  nothing_left : place ≡ 0 → front.depth ≡ suc (length (path_at front place).scenes) → (scene : ℕ) → has rest scene ≡ true → without rest scene ≡ 0
+  nothing_left root deep scene member =
+      let film = hand.search.film in
+      let none : length (path_at front place).scenes ≡ 0 = ap (λ (p : ℕ). length (path_at front p).scenes) root ∙ ap (λ (p : PathData). length p.scenes) facts.first in
+      let one : length film.casts ≡ 1 = front_of.depth.one (omega (arith, deep, none)) in
+      empty_from_size (without rest scene) (set_is film sound.film (without rest scene) (LiesBelow-without (length film.casts) rest scene rest_in))
+      (omega (
+        arith,
+        one,
+        ap size (rest_of_root root),
+        size-full (length film.casts) sound.film.scene_count.1,
+        size-without rest scene (set_is film sound.film rest rest_in) member,
+      ))
+
+  -- without a line
+  pub reached_static : IsSome (root_of front) → line_of front place ≡ None → (number : ℕ) → number ≡ bound hand.search.kind hand.search.film rest
+      → ReachesFrom hand front found place number
+  reached_static root none number is = record {
+    known_of = omega (arith, is, known-static (search_rules hand.search) hand.lines rest);
+    raised = λ line some. absurd (let e : Some line ≡ None = sym some ∙ none in cc);
     static_bound = omega (arith, is);
-    reaches = λ value whole all. omega (arith, is, whole.firsts root more first member none);
+    reaches = λ value whole all. omega (arith, is, whole.paths root place within none);
+    looks_ahead = λ first some. absurd (none_isnt (line_of front place) none (subst (λ (p : ℕ). IsSome (line_of front p)) (sym first) some));
   }
 
-  module _ (more : 1 < length hand.search.film.casts) (line : ℕ) (has_line : front.firsts first ≡ Some line) where
-    the_line : HasLine hand.lines line (without (all_scenes hand.search.film) first)
-    the_line = (filled.lines.firsts first line has_line).3
+  module _ (line : ℕ) (has_line : line_of front place ≡ Some line) where
+    the_line : HasLine hand.lines line rest
+    the_line = (filled.lines place line within has_line).1
 
-    pub all_for : AllFor hand.search.film front found (without (all_scenes hand.search.film) first)
-    all_for = reach_there hand sound front front_of filled found are first member more line has_line
+    by_path : (scene other : ℕ) → IsPathAfter hand.search.film front place scene other → HasNumber hand front found numbers place scene (slice_index numbers other)
+    by_path scene other after =
+        let reached : ReachesFrom hand front found other (slice_index numbers other) = raised other after.0 (omega (arith, after.3)) in record {
+          is = inr (other, after.0, after.1, refl);
+          known_of = subst (λ (q : ℕ). slice_index numbers other ≤ known (search_rules hand.search) hand.lines q) after.1 reached.known_of;
+          reaches = λ value whole all. omega (arith, reached.reaches value whole all, after.2);
+          behind_root = λ _. subst (λ (q : ℕ). bound hand.search.kind hand.search.film q ≤ slice_index numbers other) after.1 reached.static_bound;
+        }
 
-    module _ (static least : ℕ) (is : static ≡ bound hand.search.kind hand.search.film (without (all_scenes hand.search.film) first))
-        (most : MostFor hand.search.film front found (without (all_scenes hand.search.film) first) least) where
-      pub may_raise_first : (number : ℕ) → number ≡ max static least → MayRaise hand line number
-      may_raise_first number at = record {
+    by_task : (scene : ℕ) → has (open_firsts hand.search.film rest) scene ≡ true → (task : ℕ) → IsTaskAfter hand.search.film front place scene task
+        → HasNumber hand front found numbers place scene (slice_index found task)
+    by_task scene member task after =
+        let wanted : is_wanted front task ≡ true = (filled.wanted task after.0).1 (place, within, some_is (line_of front place) line has_line, (scene, member, after.1)) in record {
+          is = inl (task, after.0, after.1, refl);
+          known_of = subst (λ (q : ℕ). slice_index found task ≤ known (search_rules hand.search) hand.lines q) after.1 (are task after.0 wanted);
+          reaches = λ value whole all. omega (arith, all task after.0 wanted, after.2);
+          behind_root = λ root. omega (
+            arith,
+            bound-empty hand.search.kind hand.search.film sound.film,
+            ap (bound hand.search.kind hand.search.film) (nothing_left root after.3 scene (first_there hand.search.film rest scene member)),
+          );
+        }
+
+    number_after : (scene : ℕ) → has (open_firsts hand.search.film rest) scene ≡ true → (number : ℕ) × HasNumber hand front found numbers place scene number
+    number_after scene member = elim (facts.after place scene within member) [
+      | inl path ↦ (slice_index numbers path.0, by_path scene path.0 path.1)
+      | inr task ↦ (slice_index found task.0, by_task scene member task.0 task.1)
+    ]
+
+    step_small : (scene : ℕ) → has (open_firsts hand.search.film rest) scene ≡ true → (number : ℕ)
+        → number ≤ known (search_rules hand.search) hand.lines (without rest scene) → step_cost hand.search.film rest scene + number < 2 ^ 64
+    step_small scene member number most =
+        let film = hand.search.film in
+        omega (
+          arith,
+          most,
+          known_small hand (without rest scene) sound (LiesBelow-without (length film.casts) rest scene rest_in),
+          step_limit film rest scene sound.film (set_is film sound.film rest rest_in) (first_there film rest scene member),
+        )
+
+    -- each open first reaches something, which fits a word
+    pub all_for : AllFor hand.search.film front found numbers rest
+    all_for scene member =
+        let after = number_after scene member in (
+          step_cost hand.search.film rest scene + after.0,
+          (after.0, after.1.is, refl),
+          step_small scene member after.0 after.1.known_of,
+        )
+
+    module _ (static least : ℕ) (static_is : static ≡ bound hand.search.kind hand.search.film rest)
+        (most : MostFor hand.search.film front found numbers rest least) where
+      least_steps : (scene : ℕ) → has (open_firsts hand.search.film rest) scene ≡ true
+          → least ≤ step_cost hand.search.film rest scene + known (search_rules hand.search) hand.lines (without rest scene)
+      least_steps scene member =
+          let after = number_after scene member in
+          omega (arith, after.1.known_of, most scene (step_cost hand.search.film rest scene + after.0) member (after.0, after.1.is, refl))
+
+      pub may_raise : (number : ℕ) → number ≡ max static least → MayRaise hand line number
+      may_raise number at = record {
         there = the_line.there;
         justified = subst (λ (q : ℕ). IsJustified (search_rules hand.search) hand.lines (record { set = q; bound = number })) (sym the_line.leaves)
-            (subst (λ (n : ℕ). IsJustified (search_rules hand.search) hand.lines (record { set = without (all_scenes hand.search.film) first; bound = n })) (sym at)
-            (greater_justified (search_rules hand.search) hand.lines (without (all_scenes hand.search.film) first) static least is
-            (some_rest hand sound front front_of filled found are first member more)
-            (least_steps hand sound front front_of filled found are first member more line has_line least most)));
+            (subst (λ (n : ℕ). IsJustified (search_rules hand.search) hand.lines (record { set = rest; bound = n })) (sym at)
+            (greater_justified (search_rules hand.search) hand.lines rest static least static_is (facts.remains place within) least_steps));
       }
 
-      pub reached_raised : LeastFor hand.search.film front found (without (all_scenes hand.search.film) first) least → (number : ℕ) → number ≡ max static least
-          → (after : HandData) → after ≡ record hand { lines = after.lines } → GrowTo hand.lines after.lines → number ≤ (line_at after.lines line).bound
-          → ReachesFirst after front found first number
-      reached_raised greatest number at after only grow raised =
-          subst (λ (h : HandData). ReachesFirst h front found first number) (sym only) (record {
-            known_of = line_makes_known hand.search hand.lines after.lines line (without (all_scenes hand.search.film) first) number the_line grow raised;
-            static_bound = omega (arith, at, is);
-            reaches = λ value whole all. (
-                let film = hand.search.film in
-                let rest = without (all_scenes film) first in
-                let some = open_begins_least film sound.film rest (rest_lies film sound.film first) (some_rest hand sound front front_of filled found are first member more) in
-                let one = all_for some.0 some.1 in
-                let steps = least_reaches hand sound front front_of filled found are first member more line has_line value all in
-                let lower : value - step_cost film (all_scenes film) first ≤ least
-                = greatest (value - step_cost film (all_scenes film) first) (omega (arith, steps some.0 one.0 some.1 one.1, one.2)) steps in
-                omega (arith, lower, at)
-                );
-          })
+      module _ (least_for : LeastFor hand.search.film front found numbers rest least) (number : ℕ) (at : number ≡ max static least) where
+        some_first : (scene : ℕ) × (has (open_firsts hand.search.film rest) scene ≡ true)
+        some_first =
+            let one = open_begins_least hand.search.film sound.film rest rest_in (facts.remains place within) in (one.0, one.1)
+
+        -- what a number reaches by each open first, the least does
+        by_each : (value : ℕ) → value < 2 ^ 64 → ((scene : ℕ) (member : has (open_firsts hand.search.film rest) scene ≡ true)
+            → value ≤ step_cost hand.search.film rest scene + (number_after scene member).0) → value ≤ least
+        by_each value small each = least_for value small (λ scene reach member (n, is, reach_is).
+            omega (
+              arith,
+              reach_is,
+              each scene member,
+              one_number hand.search.kind hand.search.film front facts found numbers (without rest scene) n (number_after scene member).0 is (number_after scene member).1.is,
+            ))
+
+        reach : (value : ℕ) → IsWhole hand.search front value → AllReach front found value → value ≤ (path_at front place).paid + number
+        reach value whole all =
+            let first = number_after some_first.0 some_first.1 in
+            let less = by_each (value - (path_at front place).paid)
+            (omega (arith, first.1.reaches value whole all, step_small some_first.0 some_first.1 first.0 first.1.known_of))
+            (λ scene member. omega (arith, (number_after scene member).1.reaches value whole all)) in
+            omega (arith, less, at)
+
+        -- that of the empty path reaches the look-ahead
+        module _ (root : place ≡ 0) where
+          abbrev scenes : List ℕ
+          scenes = members (open_firsts hand.search.film rest)
+
+          among : (scene : ℕ) → has (open_firsts hand.search.film rest) scene ≡ true → Contains scenes scene
+          among scene member = Contains-members (open_firsts hand.search.film rest) scene (firsts_set hand.search.film rest sound.film rest_in) member
+
+          ahead_least : least_step (search_rules hand.search) rest (bound hand.search.kind hand.search.film rest) scenes ≤ least
+          ahead_least =
+              let film = hand.search.film in
+              let lower = least_step_le (search_rules hand.search) rest (bound hand.search.kind film rest) scenes in
+              by_each (least_step (search_rules hand.search) rest (bound hand.search.kind film rest) scenes)
+              (omega (
+                arith,
+                lower some_first.0 (among some_first.0 some_first.1),
+                (number_after some_first.0 some_first.1).1.behind_root root,
+                step_small some_first.0 some_first.1 (number_after some_first.0 some_first.1).0 (number_after some_first.0 some_first.1).1.known_of,
+              ))
+              (λ scene member. omega (arith, lower scene (among scene member), (number_after scene member).1.behind_root root))
+
+          pub root_ahead : ahead (search_rules hand.search) (all_scenes hand.search.film) ≤ number
+          root_ahead =
+              subst (λ (q : ℕ). ahead (search_rules hand.search) q ≤ number) (rest_of_root root)
+              (omega (arith, ahead_least, static_is, at))
+
+        -- the line was raised to the number
+        pub reached_raised : (after : HandData) → after ≡ record hand { lines = after.lines } → GrowTo hand.lines after.lines → number ≤ (line_at after.lines line).bound
+            → ReachesFrom after front found place number
+        reached_raised after only grow high = subst (λ (h : HandData). ReachesFrom h front found place number) (sym only) (record {
+          known_of = line_makes_known hand.search hand.lines after.lines line rest number the_line grow high;
+          raised = λ other some. subst (λ (l : ℕ). number ≤ (line_at after.lines l).bound) (same_line (line_of front place) line other has_line some) high;
+          static_bound = omega (arith, static_is, at);
+          reaches = λ value whole all. reach value whole all;
+          looks_ahead = λ first some. root_ahead first;
+        })
+
+-- ---- numbers that stay
+
+-- a path's number, where more is known
+module _ (hand after : HandData) (learns : Learns hand after) (front : FrontData) (found : List ℕ) where
+  pub reaches_still : (place number : ℕ) → ((line : ℕ) → line_of front place ≡ Some line → line < length hand.lines)
+      → ReachesFrom hand front found place number → ReachesFrom after front found place number
+  reaches_still place number there was = subst (λ (h : HandData). ReachesFrom h front found place number) (sym learns.only) (record {
+    known_of = omega (arith, was.known_of, known-grows (search_rules hand.search) hand.lines after.lines (path_at front place).rest learns.grow);
+    raised = λ line some. omega (arith, was.raised line some, learns.grow.no_lower line (there line some));
+    static_bound = was.static_bound;
+    reaches = was.reaches;
+    looks_ahead = was.looks_ahead;
+  })
+
+-- one path more of a layer has its number
+module _ (hand after : HandData) (learns : Learns hand after) (front : FrontData) (filled : IsFilled hand front) (found numbers : List ℕ)
+    (place number count : ℕ) (within : place < length front.paths) (room : place < length numbers) (here : length (path_at front place).scenes ≡ count)
+    (reached : ReachesFrom after front found place number) where
+  abbrev then : List ℕ
+  then = slice_set numbers place number
+
+  still : (p : ℕ) → p < length front.paths → p ≢ place → ReachesFrom hand front found p (slice_index numbers p) → ReachesFrom after front found p (slice_index then p)
+  still p there other was =
+      subst (ReachesFrom after front found p) (sym (get_or-set_other numbers place p number 0 other))
+      (reaches_still hand after learns front found p (slice_index numbers p) (λ line some. (filled.lines p line there some).1.there) was)
+
+  pub longer_still : AreRaised hand front found numbers (count + 1) → AreRaised after front found then (count + 1)
+  longer_still longer p there long = still p there (λ same. omega (arith, long, here, ap (λ (q : ℕ). length (path_at front q).scenes) same)) (longer p there long)
+
+  pub one_more_raised : ((p : ℕ) → p < place → count ≤ length (path_at front p).scenes → ReachesFrom hand front found p (slice_index numbers p))
+      → (p : ℕ) → p < place + 1 → count ≤ length (path_at front p).scenes → ReachesFrom after front found p (slice_index then p)
+  one_more_raised before p earlier long = elim (cases_eq p place) [
+    | inl same ↦ subst (λ (q : ℕ). ReachesFrom after front found q (slice_index then q)) (sym same)
+        (subst (ReachesFrom after front found place) (sym (get_or-set_same numbers place number 0 room)) reached)
+    | inr other ↦ still p (omega (arith, earlier, within)) other (before p (omega (arith, earlier, other)) long)
+  ]
+
+-- a path of another layer is passed over
+pub one_more_passed : (hand : HandData) (front : FrontData) (found numbers : List ℕ) (place count : ℕ) → place < length front.paths → length (path_at front place).scenes ≢ count
+    → AreRaised hand front found numbers (count + 1) → ((p : ℕ) → p < place → count ≤ length (path_at front p).scenes → ReachesFrom hand front found p (slice_index numbers p))
+    → (p : ℕ) → p < place + 1 → count ≤ length (path_at front p).scenes → ReachesFrom hand front found p (slice_index numbers p)
+one_more_passed hand front found numbers place count within other longer before p earlier long = elim (cases_eq p place) [
+  | inl same ↦ longer p (omega (arith, same, within)) (omega (arith, long, ap (λ (q : ℕ). length (path_at front q).scenes) same, other))
+  | inr before_it ↦ before p (omega (arith, earlier, before_it)) long
+]

@@ -1,11 +1,11 @@
 -- What a hand knows is small, and stays.
 use Rattle.std.proofs.Common.{◌≡◌, ℕ, ◌<◌, ◌≤◌, ◌^◌, false, List, [], refl, sym, ap, ◌∙◌, subst, arith}
-use Rattle.strip_mask.specs.Set.{has, without}
+use Rattle.strip_mask.specs.Set.{has}
 use Rattle.strip_mask.proofs.ByMembers.{has-empty}
 use Rattle.strip_kind.specs.declared.kind.Kind.{Kind}
 use Rattle.strip_pay.specs.Film.{FilmData}
 use Rattle.strip_film.specs.declared.shared.Line.{Line}
-use Rattle.strip_film.specs.Film.{IsFilm, LiesIn, all_scenes}
+use Rattle.strip_film.specs.Film.{IsFilm, LiesIn}
 use Rattle.strip_film.proofs.Small.{finish_small}
 use Rattle.strip_bound.specs.Bounds.{bound}
 use Rattle.strip_bound.proofs.Finish.{bound_finishes}
@@ -17,7 +17,7 @@ use Rattle.strip_hand.specs.Hand.{HandData, IsHand}
 use Rattle.strip_hand.specs.Search.{SearchData, search_rules}
 use Rattle.strip_front.specs.Calls.{AreFound, Learns}
 use Rattle.strip_front.specs.Filled.{HasLine, IsFilled}
-use Rattle.strip_front.specs.Front.{FrontData, task_at}
+use Rattle.strip_front.specs.Front.{FrontData, path_at, task_at}
 use Rattle.strip_front.proofs.Grown.{line_grows}
 
 -- what is known of a set is at most the cost of finishing it
@@ -47,13 +47,10 @@ learns_then before between after one two = record {
 module _ (before after : HandData) (front : FrontData) (grow : GrowTo before.lines after.lines) where
   pub filled_grows : IsFilled before front → IsFilled (record after { search = before.search }) front
   filled_grows filled = record {
-    lines = record {
-      root = λ line at. line_grows before.lines after.lines line (all_scenes before.search.film) grow (filled.lines.root line at);
-      firsts = λ scene line at. (
-          let old = filled.lines.firsts scene line at in
-          (old.0, old.1, old.2, line_grows before.lines after.lines line (without (all_scenes before.search.film) scene) grow old.3)
-          );
-    };
+    lines = λ place line within at. (
+      (filled.lines place line within at).0,
+      line_grows before.lines after.lines line (path_at front place).rest grow (filled.lines place line within at).1,
+    );
     wanted = filled.wanted;
   }
 

@@ -1,4 +1,5 @@
-pub mod Tasks
+pub mod Layers
+pub mod Onward
 pub mod Front
 pub mod Shown
 pub mod Filled

@@ -1,24 +1,27 @@
 -- What trying a path of the front does.
-use Rattle.std.specs.Prelude.{◌≡◌, ◌+◌, ◌<◌, ◌≤◌, ℕ, Bool, true, false, Some, None, Result, Ok, Err, IsSome, ◌↔◌, ◌⊎◌, [], ◌∷◌}
-use Rattle.strip_mask.specs.Set.{has, without}
-use Rattle.strip_film.specs.Film.{all_scenes}
-use Rattle.strip_film.specs.Shoot.{step_cost}
-use Rattle.strip_bound.specs.Bounds.{bound}
-use Rattle.strip_rule.specs.Rule.{open_firsts}
-use Rattle.strip_film.specs.Path.{PathData}
-use Rattle.strip_film.specs.Ranks.{IsSooner}
-use Rattle.strip_film.specs.Rules.{Rules, rank}
-use Rattle.strip_film.specs.Shown.{CursorData}
-use Rattle.strip_film.specs.Turns.{GoBy, TurnsData}
+use Rattle.std.specs.Prelude.{◌≡◌, ◌↔◌, ◌+◌, ◌<◌, ◌≤◌, ℕ, Bool, true, false, Option, Some, None, Result, Ok, Err, IsSome}
 use Rattle.strip_io.specs.declared.files.Memory.{Memory}
+use Rattle.strip_film.specs.Path.{PathData}
+use Rattle.strip_film.specs.Shown.{CursorData}
 use Rattle.strip_hand.specs.Calls.{IsSpent, MakesLine, Refuses}
 use Rattle.strip_hand.specs.Hand.{HandData}
-use Rattle.strip_hand.specs.Search.{SearchData, search_rules}
+use Rattle.strip_hand.specs.Search.{search_rules}
 use Rattle.strip_front.specs.declared.down.Tried.{Tried}
 use Rattle.strip_front.specs.declared.down.Tried.TheVariants.{Line, Passed, Spent}
 use Rattle.strip_front.specs.Calls.{IsCutShort}
-use Rattle.strip_front.specs.Filled.{HasLine, HasLines, IsWhole}
-use Rattle.strip_front.specs.Front.{FrontData}
+use Rattle.strip_front.specs.Filled.{HasLines, IsWhole}
+use Rattle.strip_front.specs.Front.{FrontData, line_of, path_at, root_of}
+
+-- the line that trying a path made, if it made one; and whether the budget was spent
+abbrev pub line_from : Tried → Option ℕ
+line_from Passed = None
+line_from (Line line) = Some line
+line_from Spent = None
+
+abbrev pub has_spent : Tried → Bool
+has_spent Passed = false
+has_spent (Line line) = false
+has_spent Spent = true
 
 -- what a path reaches, by what it paid and the static bound of what remains
 abbrev pub reach : HandData → PathData → ℕ
@@ -45,31 +48,14 @@ pub record IsEnlisted (hand : HandData) (cursor : CursorData) (front : FrontData
   pub lines : HasLines hand front
   pub whole : spent ≡ false → IsWhole hand.search front hand.told
   pub cut : spent ≡ true → IsCutShort hand cursor
-  pub root : IsSome front.root ↔ IsSome cursor.last
+  pub root : IsSome (root_of front) ↔ IsSome cursor.last
 
--- the open firsts of all scenes wait for their turn, by their ranks
-pub record AreFirstTurns (rules : Rules) (turns : TurnsData) : Type 0 where
-  pub left : turns.left ≡ rules.firsts (all_scenes rules.film)
-  pub ranks : GoBy (rank rules (all_scenes rules.film)) turns
-
--- the scene is an open first of all scenes that has had its turn, while these still wait
-abbrev pub HadTurn : SearchData → ℕ → ℕ → Type 0
-HadTurn search left scene = (has (open_firsts search.film (all_scenes search.film)) scene ≡ true) × (has left scene ≡ false)
-
--- each scene that waits comes later
-abbrev pub GoesBefore : SearchData → ℕ → ℕ → Type 0
-GoesBefore search left scene = (other : ℕ) → has left other ≡ true → IsSooner (rank (search_rules search) (all_scenes search.film)) scene other
-
--- the empty path was enlisted, and then those of the scenes that have had their turn were tried alone, while these still wait: the
--- cursor's last path is the empty one, or that of a scene that goes before each that waits; the hand knows the lines of those that were
--- enlisted; and those that weren't reach the least cost, or the budget was spent
-pub record AreTried (hand : HandData) (cursor : CursorData) (front : FrontData) (left : ℕ) (spent : Bool) : Type 0 where
-  pub root : (line : ℕ) × (front.root ≡ Some line) × HasLine hand.lines line (all_scenes hand.search.film)
-  pub last : (path : PathData) × (cursor.last ≡ Some path)
-      × ((path.scenes ≡ []) ⊎ ((scene : ℕ) × GoesBefore hand.search left scene × (path.scenes ≡ scene ∷ [])))
-  pub firsts : (scene line : ℕ) → front.firsts scene ≡ Some line
-      → HadTurn hand.search left scene × HasLine hand.lines line (without (all_scenes hand.search.film) scene)
-  pub past : spent ≡ false → (scene : ℕ) → HadTurn hand.search left scene → front.firsts scene ≡ None
-      → hand.told ≤ step_cost hand.search.film (all_scenes hand.search.film) scene
-      + bound hand.search.kind hand.search.film (without (all_scenes hand.search.film) scene)
+-- the empty path was enlisted, and those that stand before a place were tried: the cursor's last path is one of these; the hand knows the
+-- lines of those that were enlisted; those that weren't reach the least cost, or the budget was spent; and the others have no lines yet
+pub record AreTried (hand : HandData) (cursor : CursorData) (front : FrontData) (place : ℕ) (spent : Bool) : Type 0 where
+  pub root : IsSome (root_of front)
+  pub lines : HasLines hand front
+  pub last : (path : PathData) × (cursor.last ≡ Some path) × (before : ℕ) × (before < place) × (path.scenes ≡ (path_at front before).scenes)
+  pub past : spent ≡ false → (before : ℕ) → before < place → line_of front before ≡ None → hand.told ≤ reach hand (path_at front before)
+  pub later : (other : ℕ) → place ≤ other → line_of front other ≡ None
   pub cut : spent ≡ true → IsCutShort hand cursor

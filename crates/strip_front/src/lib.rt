@@ -1,12 +1,19 @@
 //! The front of a search: the tasks that it is parted into, and the lines of the paths before these.
 #![tactic(auto)]
 
+mod by_set;
 mod down;
 mod front;
 pub mod laws;
+mod layer;
 mod marks;
+mod opening;
+mod shorter;
+mod tasks;
 mod up;
 
+pub use by_set::PathsBySet;
 pub use down::go_down;
-pub use front::{Front, layers};
+pub use front::Front;
+pub use opening::layers;
 pub use up::close_up;

@@ -1,11 +1,11 @@
 // Which tasks are asked for.
-ghost use Rattle.std.specs.Prelude.{◌≡◌, ◌↔◌, ℕ, ◌<◌, true, length, IsTrue};
-ghost use Rattle.strip_mask.specs.Set.{LiesBelow, has, without};
-ghost use Rattle.strip_kind.specs.declared.kind.Kind.{Kind};
-ghost use Rattle.strip_film.specs.Film.{all_scenes};
+ghost use Rattle.std.specs.Prelude.{◌≡◌, ◌≢◌, ◌<◌, ℕ, length, IsSome};
+ghost use Rattle.std.specs.List.{AllPairs};
+ghost use Rattle.strip_film.specs.Film.{LiesIn};
 ghost use Rattle.strip_lines.specs.Lines.{rules_of};
+ghost use Rattle.strip_kind.specs.declared.kind.Kind.{Kind};
 ghost use Rattle.strip_front.specs.Filled.{Follows, IsWanted};
-ghost use Rattle.strip_front.specs.Front.{IsFrontOf, task_at};
+ghost use Rattle.strip_front.specs.Front.{IsFrontOf, line_of, path_at, task_at};
 ghost use Rattle.strip_front.specs.Marked.{MarksMore};
 ghost use Rattle.strip_front.specs.Shown.{front_data};
 
@@ -14,50 +14,54 @@ use strip_film::Film;
 use strip_mask::Mask;
 use strip_rule::open_firsts;
 
-/// Asks for the tasks that follow from the front's lines: for each first scene with a line those that
-/// its open firsts leave; in a film of one scene the one task, where the empty path has a line. A turn
-/// for each such scene with each task.
+/// Asks for the tasks that follow from the front's lines: for each path with a line those that its open
+/// firsts leave. A look for each of them.
 pub(crate) fn mark_wanted(film: &Film, front: &mut Front)
     requires { (kind : Kind) × IsFrontOf (rules_of kind film.now) (front_data front.old) }
     ensures { MarksMore (front_data front.old) (front_data front.new) (IsWanted film.now (front_data front.old)) }
 {
     film.keeps_limits();
-    if film.scenes() == 1 {
-        front.wanted[0] |= front.root.is_some();
-        return;
-    }
-    for first in open_firsts(film, film.all()).iter() {
-        if front.firsts[first as usize].is_some() {
-            mark_after(film, first, front);
-        }
+    for place in 0..front.lines.len() {
+        mark_behind(film, place, front);
     }
 }
 
-/// Asks for the tasks that the open firsts leave after this first scene.
-fn mark_after(film: &Film, first: u32, front: &mut Front)
-    requires first { has (all_scenes film.now) first ≡ true }
-    requires wanted { length front.old.wanted.items ≡ length front.old.tasks.items }
+/// Asks for the tasks that follow from the path at this place, where it has a line.
+fn mark_behind(film: &Film, place: usize, front: &mut Front)
+    requires front { (kind : Kind) × IsFrontOf (rules_of kind film.now) (front_data front.old) }
+    requires place { place < length (front_data front.old).paths }
     ensures { MarksMore (front_data front.old) (front_data front.new)
-        (λ task. Follows film.now (without (all_scenes film.now) first) (task_at (front_data front.old) task).rest) }
+        (λ task. IsSome (line_of (front_data front.old) place)
+        × Follows film.now (path_at (front_data front.old) place).rest (task_at (front_data front.old) task).rest) }
 {
     film.keeps_limits();
-    let rest = film.all().without(first);
-    let seconds = open_firsts(film, rest);
-    for place in 0..front.tasks.len() {
-        let follows = leave(seconds, rest, front.tasks[place].rest());
-        front.wanted[place] |= follows;
+    if front.lines[place].is_some() {
+        let rest = front.paths.paths()[place].rest();
+        mark_after(film, rest, front);
     }
 }
 
-/// Whether one of the scenes leaves this of what remains.
-fn leave(scenes: Mask, rest: Mask, left: Mask) -> bool
-    requires { LiesBelow 64 scenes.0 }
-    ensures { IsTrue result ↔ ((scene : ℕ) × (has scenes.0 scene ≡ true) × (left.0 ≡ without rest.0 scene)) }
+/// Asks for the tasks that the open firsts of this set leave.
+fn mark_after(film: &Film, rest: Mask, front: &mut Front)
+    requires lies { LiesIn film.now rest.0 }
+    requires wanted { length (front_data front.old).wanted ≡ length (front_data front.old).tasks }
+    requires apart { AllPairs (λ a b. a.rest ≢ b.rest) (front_data front.old).tasks }
+    ensures { MarksMore (front_data front.old) (front_data front.new)
+        (λ task. Follows film.now rest.0 (task_at (front_data front.old) task).rest) }
 {
-    for scene in scenes.iter() {
-        if rest.without(scene) == left {
-            return true;
-        }
+    film.keeps_limits();
+    for scene in open_firsts(film, rest).iter() {
+        ask_for(front, rest.without(scene));
     }
-    false
+}
+
+/// Asks for the task that leaves these scenes, where there is one.
+fn ask_for(front: &mut Front, rest: Mask)
+    requires wanted { length (front_data front.old).wanted ≡ length (front_data front.old).tasks }
+    requires apart { AllPairs (λ a b. a.rest ≢ b.rest) (front_data front.old).tasks }
+    ensures { MarksMore (front_data front.old) (front_data front.new) (λ task. (task_at (front_data front.old) task).rest ≡ rest.0) }
+{
+    if let Some(task) = front.tasks.place_of(rest) {
+        front.wanted[task] = true;
+    }
 }

@@ -1,5 +1,5 @@
 // Which events may come.
-ghost use Rattle.std.specs.Prelude.{◌≡◌, ◌≢◌, ◌↔◌, ℕ, ◌+◌, ◌<◌, ◌≤◌, true, length, map, IsTrue, Some};
+ghost use Rattle.std.specs.Prelude.{◌≡◌, ◌≢◌, ◌↔◌, ℕ, ◌+◌, ◌<◌, ◌≤◌, true, length, map, slice_index_or, IsTrue, Some};
 ghost use Rattle.std.specs.Option.{option_map};
 ghost use Rattle.strip_mask.specs.Set.{has, without};
 ghost use Rattle.strip_film.specs.Film.{LiesIn};
@@ -11,7 +11,7 @@ ghost use Rattle.strip_bound.specs.Kept.{Keeps};
 ghost use Rattle.strip_rule.specs.Rule.{open_firsts};
 ghost use Rattle.strip_lines.specs.Lines.{IsJustified, known};
 ghost use Rattle.strip_count.specs.Paths.{ComesAfter};
-ghost use Rattle.strip_count.specs.Parts.{lies_in};
+ghost use Rattle.strip_count.specs.Parts.{lies_in, no_task};
 ghost use Rattle.strip_race.specs.Shown.{probe_data};
 ghost use Rattle.strip_hand.specs.Search.{GoesBy, depth_of, search_rules};
 ghost use Rattle.strip_race.specs.World.{part_at};
@@ -98,7 +98,7 @@ impl World {
         match self.parts.get(part as usize) {
             Some(state) => {
                 state.claimer == Some(who)
-                    && lies_in(self.film.scenes().min(2), &self.tasks, part, path)
+                    && lies_in(depth_of(&self.tasks), &self.tasks, part, path)
             }
             None => false,
         }
@@ -240,6 +240,13 @@ fn lies_in_film(film: &Film, set: Mask) -> bool
 {
     film.keeps_limits();
     set.lies_below(film.scenes() as u32)
+}
+
+/// How many scenes a task has.
+fn depth_of(tasks: &[Path]) -> usize
+    ensures { result ≡ length (slice_index_or (map path_data tasks.now) 0 no_task).scenes }
+{
+    tasks.first().map_or(0, |task| task.scenes().len())
 }
 
 /// Whether the path lies in the part: it is shorter than the tasks, or begins with the part's task.

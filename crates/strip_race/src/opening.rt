@@ -20,7 +20,7 @@ use strip_table::{STRIPES, Stripe};
 
 impl World {
     /// The world that a search of the film with bounds of this kind opens with: its start path, which is
-    /// complete, its tasks, paths of two scenes or of the one that the film has, and its limits. It takes
+    /// complete, its tasks, paths of as many scenes each, and its limits. It takes
     /// all the memory that the world ever needs, and fails only where that runs out.
     pub fn new(
         alloc: Global,

@@ -19,6 +19,7 @@ ghost use Rattle.strip_solve.specs.Searched.{IsProofOf, IsSearchedFrom, IsTrimme
 ghost use Rattle.strip_solve.specs.Solved.{IsSolved, IsStart, IsVaried};
 
 use std::alloc::Global;
+use std::marker::Brand;
 use std::sync::Wait;
 use std::thread::Threads;
 use strip_bound::{BoundTables, Kept, static_reach};
@@ -37,6 +38,7 @@ use strip_proof::{Plan, Status};
 use strip_race::Limits;
 use strip_reduce::{ReduceFault, Reduced, expand, orient, reduce};
 use strip_start::{greedy, improve, vary};
+use strip_store::{Bounded, Store};
 use strip_team::{Ended, Gate, OpenGate, alone_through};
 use strip_trim::trim;
 
@@ -197,7 +199,7 @@ fn search<G: Gate>(
     })
 }
 
-/// The end of such a search by several workers.
+/// The end of such a search by several workers, who share what they work out of the static bounds.
 fn search_beside<R: Threads + Wait + Sync, G: Gate>(
     rt: &R,
     alloc: Global,
@@ -216,16 +218,48 @@ fn search_beside<R: Threads + Wait + Sync, G: Gate>(
     let kept = Kept::new(film, options.kind, |q, need| {
         static_reach(film, &tables, options.kind, Mask(q), need)
     });
-    let begun = varied(&kept, start, options.tries);
+    search_stored::<Brand, R, _, G>(rt, alloc, &kept, start, options, workers, gate)
+}
+
+/// The same by a bound that is at hand, where the locks of the store know whose bounds they guard.
+fn search_stored<
+    N: Bounded + Send + Sync,
+    R: Threads + Wait + Sync,
+    F: Fn(u64, u64) -> u64 + Sync,
+    G: Gate,
+>(
+    rt: &R,
+    alloc: Global,
+    kept: &Kept<F>,
+    start: &Path,
+    options: SearchOptions,
+    workers: u32,
+    gate: &G,
+) -> Result<Searched, Memory>
+    requires kind { kept.now.kind ≡ N.kind }
+    requires film { kept.now.film.now ≡ N.film }
+    requires keeps { Keeps (F.pre kept.now.f) (F.post kept.now.f) kept.now.kind kept.now.film.now }
+    requires start { IsComplete kept.now.film.now (path_data start.now) }
+    requires options { MayBe options }
+    requires workers { (2 ≤ workers) × (workers ≤ 64) }
+    ensures { IfOk result (IsSearchedFrom kept.now.kind kept.now.film.now (path_data start.now) options.nodes) }
+{
+    let store: Store<N> = Store::new(alloc, kept)?;
+    let stored = Kept::new(
+        kept.film(),
+        kept.kind(),
+        |q, need| store.reach(rt, kept, Mask(q), need),
+    );
+    let begun = varied(&stored, start, options.tries);
     // The caller has a memo too.
-    let mut memo = Memo::among(alloc, &kept, workers + 1)?;
+    let mut memo = Memo::among(alloc, &stored, workers + 1)?;
     let limits = Limits {
         workers,
         cap: options.nodes,
         entries: options.entries,
     };
-    let ended = race(rt, alloc, &kept, &mut memo, &begun, limits, gate)?;
-    let trimmed = trimmed(alloc, &kept, &mut memo, &ended)?;
+    let ended = race(rt, alloc, &stored, &mut memo, &begun, limits, gate)?;
+    let trimmed = trimmed(alloc, &stored, &mut memo, &ended)?;
     Ok(Searched {
         begun,
         ended,

@@ -2,25 +2,15 @@
 use Rattle.std.proofs.Common.{◌≡◌, ℕ, suc, ◌<◌, ◌≤◌, Bool, true, false, Option, Some, None, List, length, replicate, refl, sym, ap, ◌∙◌, subst, arith}
 use Rattle.std.specs.Prelude.{IsSome, slice_index}
 use Rattle.std.proofs.lemmas.List.{get_or-replicate, length-replicate}
-use Rattle.strip_film.specs.Path.{PathData}
-use Rattle.strip_film.specs.Rules.{Rules}
 use Rattle.strip_film.specs.Shown.{CursorData}
 use Rattle.strip_lines.proofs.Grown.{grow_self}
 use Rattle.strip_hand.specs.Hand.{HandData, RecordData}
 use Rattle.strip_hand.specs.Search.{SearchData, search_rules}
 use Rattle.strip_front.specs.Calls.{GoesDown, IsCutShort, count_in}
-use Rattle.strip_front.specs.Front.{FrontData, IsEmptyFront, IsFrontOf}
+use Rattle.strip_front.specs.Front.{FrontData, IsFrontOf, root_of}
 use Rattle.strip_front.specs.Filled.{IsFilled, IsWhole}
 use Rattle.strip_team.specs.Team.{GoesOn, HasFront, HasWorked, IsCut, IsFresh, OwnsFront, beginning}
 use Rattle.strip_team.proofs.Moved.{carried, found_still}
-
--- the front of a search stays one
-pub front_stays : (rules : Rules) (before after : FrontData) → IsEmptyFront rules before → after.tasks ≡ before.tasks
-    → length after.wanted ≡ length before.wanted → IsFrontOf rules after
-front_stays rules before after empty tasks wanted = record {
-  tasks = tasks ∙ empty.tasks;
-  wanted = wanted ∙ ap (λ (xs : List Bool). length xs) empty.wanted ∙ length-replicate (length before.tasks) false ∙ sym (ap (λ (xs : List PathData). length xs) tasks);
-}
 
 -- a number for each of the tasks, all of them 0
 pub zeros : (found : List ℕ) (n count : ℕ) → found ≡ replicate n 0 → n ≡ count
@@ -49,9 +39,10 @@ not_yet_down hand claimed = record {
 -- the front was gone down, and nothing was found of any task
 module _ (before after : HandData) (cursor : CursorData) (front : FrontData) (found : List ℕ) (spent : Bool) (claimed : HasFront before)
     (down : GoesDown before after cursor) (front_of : IsFrontOf (search_rules before.search) front)
+    (same_tasks : before.search.tasks ≡ front.tasks)
     (none : (length found ≡ length front.tasks) × ((task : ℕ) → task < length front.tasks → slice_index found task ≡ 0))
     (filled : IsFilled after front) (whole : spent ≡ false → IsWhole after.search front after.told) (short : spent ≡ true → IsCutShort after cursor)
-    (root : spent ≡ true → 1 ≤ after.search.cap → length after.lines ≤ count_in after 0 → IsSome front.root) (some_lines : 1 ≤ before.search.cap) where
+    (root : spent ≡ true → 1 ≤ after.search.cap → length after.lines ≤ count_in after 0 → IsSome (root_of front)) (some_lines : 1 ≤ before.search.cap) where
   same_search : after.search ≡ before.search
   same_search = ap (λ (h : HandData). h.search) down.only
 
@@ -72,6 +63,7 @@ module _ (before after : HandData) (cursor : CursorData) (front : FrontData) (fo
   pub begins : OwnsFront after → HasWorked after front found spent
   begins owns = record {
     front_of = subst (λ (search : SearchData). IsFrontOf (search_rules search) front) (sym same_search) front_of;
+    tasks = ap (λ (search : SearchData). search.tasks) same_search ∙ same_tasks;
     filled = filled;
     long = none.0;
     known = λ task within wanted. omega (arith, none.1 task within);
@@ -100,7 +92,8 @@ module _ (hand fresh : HandData) (front : FrontData) (found none : List ℕ) (wa
   nothing_bare : HasWorked bare front none false
   nothing_bare = record {
     front_of = was.front_of;
-    filled = record { lines = record { root = was.filled.lines.root; firsts = was.filled.lines.firsts }; wanted = was.filled.wanted };
+    tasks = was.tasks;
+    filled = record { lines = was.filled.lines; wanted = was.filled.wanted };
     long = zeroes.0;
     known = λ task within wanted. omega (arith, zeroes.1 task within);
     whole = was.whole;

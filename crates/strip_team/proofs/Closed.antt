@@ -24,7 +24,7 @@ use Rattle.strip_hand.specs.Hand.{HandData, IsHand}
 use Rattle.strip_hand.specs.Search.{SearchData, depth_of, search_rules}
 use Rattle.strip_race.proofs.True.{tasks_apart}
 use Rattle.strip_front.specs.Calls.{AllReach, GoesDown, Learns}
-use Rattle.strip_front.specs.Front.{FrontData}
+use Rattle.strip_front.specs.Front.{FrontData, root_of}
 use Rattle.strip_front.specs.Filled.{IsWhole}
 use Rattle.strip_team.specs.Closed.{EndsFrom, HasAll, IsClosed, IsSettled, known_of_all, record_in}
 use Rattle.strip_team.specs.declared.ended.Ended.{Ended}
@@ -61,13 +61,13 @@ module _ (kind : Kind) (film : FilmData) (before after : HandData) (front : Fron
   reach : spent ≡ false → AllReach front found after.told
   reach not task within wanted =
       let count : length front.tasks ≡ length before.search.tasks
-      = ap (λ (tasks : List PathData). length tasks) (was.front_of.tasks ∙ sym by.tasks) in
+      = ap (λ (tasks : List PathData). length tasks) (sym was.tasks) in
       let most = was.reach not task within wanted (all (suc task) (omega (arith, within, count))) in
       omega (arith, most, on.told)
 
   -- what closing up answered is known of all scenes
   pub closed : bound ≤ known_of_all after after.lines
-      → ((line : ℕ) → front.root ≡ Some line → (bound ≤ (line_at after.lines line).bound) × (ahead (search_rules after.search) (all_scenes film) ≤ bound))
+      → ((line : ℕ) → root_of front ≡ Some line → (bound ≤ (line_at after.lines line).bound) × (ahead (search_rules after.search) (all_scenes film) ≤ bound))
       → (IsWhole after.search front after.told → AllReach front found after.told → after.told ≤ bound)
       → IsClosed kind film after spent bound
   closed most root reaches = record {
@@ -77,7 +77,7 @@ module _ (kind : Kind) (film : FilmData) (before after : HandData) (front : Fron
     whole = λ not. reaches (held.whole not) (reach not);
     cut = held.cut;
     reaches = λ so. (
-        let line = some_of front.root (held.root so) in
+        let line = some_of (root_of front) (held.root so) in
         subst (λ (f : FilmData). ahead (search_rules after.search) (all_scenes f) ≤ bound) (sym by_then.same_film) (root line.0 line.1).1);
   }
 

@@ -6,7 +6,7 @@ use Rattle.strip_hand.specs.Calls.{Claims}
 use Rattle.strip_hand.specs.Hand.{HandData, RecordData}
 use Rattle.strip_hand.specs.Search.{SearchData, search_rules}
 use Rattle.strip_front.specs.Calls.{AreFound}
-use Rattle.strip_front.specs.Front.{FrontData, IsFrontOf}
+use Rattle.strip_front.specs.Front.{FrontData, IsFrontOf, root_of}
 use Rattle.strip_front.specs.Filled.{IsFilled, IsWhole}
 use Rattle.strip_front.proofs.Grown.{grow_same}
 use Rattle.strip_front.proofs.Small.{filled_grows, found_grows}
@@ -77,15 +77,16 @@ module _ (before after : HandData) (on : GoesOn before after) where
   whole_falls : (front : FrontData) → IsWhole before.search front before.told → IsWhole before.search front after.told
   whole_falls front held = record {
     none = λ none. omega (arith, on.told, held.none none);
-    firsts = λ some two scene has none. omega (arith, on.told, held.firsts some two scene has none);
+    paths = λ some place within none. omega (arith, on.told, held.paths some place within none);
   }
 
   -- what the hand found before, with other numbers
   pub carried : (front : FrontData) (found more : List ℕ) (spent short : Bool) → HasWorked before front found spent → length more ≡ length front.tasks
-      → AreFound after front more → (short ≡ false → spent ≡ false) → (short ≡ false → ReachFound after front more) → (short ≡ true → IsSome front.root)
+      → AreFound after front more → (short ≡ false → spent ≡ false) → (short ≡ false → ReachFound after front more) → (short ≡ true → IsSome (root_of front))
       → (short ≡ true → IsCut after) → HasWorked after front more short
   carried front found more spent short was long are not reach root cut = record {
     front_of = subst (λ (search : SearchData). IsFrontOf (search_rules search) front) (sym on.search) was.front_of;
+    tasks = ap (λ (search : SearchData). search.tasks) on.search ∙ was.tasks;
     filled = subst (λ (search : SearchData). IsFilled (record after { search = search }) front) (sym on.search)
         (filled_grows before after front on.grow was.filled);
     long = long;

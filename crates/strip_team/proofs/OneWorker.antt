@@ -7,7 +7,6 @@ use Rattle.std.specs.Option.{unwrap_or}
 use Rattle.strip_kind.specs.declared.kind.Kind.{Kind}
 use Rattle.strip_pay.specs.Film.{FilmData}
 use Rattle.strip_film.specs.Path.{PathData}
-use Rattle.strip_lines.specs.Lines.{rules_of}
 use Rattle.strip_lines.proofs.Grown.{grow_self}
 use Rattle.strip_count.specs.Parts.{AreCounted}
 use Rattle.strip_hand.specs.Calls.{Claims}
@@ -20,7 +19,6 @@ use Rattle.strip_race.specs.Opened.{opened}
 use Rattle.strip_race.specs.Sound.{IsWorker}
 use Rattle.strip_race.specs.Steps.{claim_reply, claimed}
 use Rattle.strip_race.specs.World.{PartData, WorldData, no_part, no_worker, part_at, worker_at}
-use Rattle.strip_front.specs.Tasks.{tasks_of}
 use Rattle.strip_team.specs.Closed.{AreCountedBy, HasAll, IsSettled, record_in}
 use Rattle.strip_team.specs.Team.{HasFront, IsSearchBy}
 
@@ -121,11 +119,10 @@ front_claimed film kind start tasks limits world after reply is step claims =
       others = λ part apart. takes.4 part apart ∙ ap (λ (w : WorldData). (hand_data w).records part) is ∙ nobody_there film kind start tasks limits part;
     }
 
--- its search is one of the film by its tasks
-pub search_by : (film : FilmData) (kind : Kind) (search : SearchData) (cap start : ℕ)
-    → search ≡ record { film = film; kind = kind; cap = cap; start = start; tasks = tasks_of (rules_of kind film) } → IsSearchBy kind film search
-search_by film kind search cap start is = record {
+-- its search is one of the film
+pub search_by : (film : FilmData) (kind : Kind) (search : SearchData) (cap start : ℕ) (tasks : List PathData)
+    → search ≡ record { film = film; kind = kind; cap = cap; start = start; tasks = tasks } → IsSearchBy kind film search
+search_by film kind search cap start tasks is = record {
   same_film = ap (λ (s : SearchData). s.film) is;
   same_kind = ap (λ (s : SearchData). s.kind) is;
-  tasks = ap (λ (s : SearchData). s.tasks) is ∙ (λ i. tasks_of (search_rules (sym is i)));
 }

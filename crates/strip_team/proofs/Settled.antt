@@ -9,7 +9,7 @@ use Rattle.strip_hand.specs.Calls.{Claims}
 use Rattle.strip_hand.specs.Hand.{HandData}
 use Rattle.strip_hand.specs.Search.{search_rules}
 use Rattle.strip_front.specs.Calls.{AreFound}
-use Rattle.strip_front.specs.Front.{FrontData, is_wanted, task_at}
+use Rattle.strip_front.specs.Front.{FrontData, is_wanted, line_of, root_of, task_at}
 use Rattle.strip_front.specs.Filled.{IsFilled}
 use Rattle.strip_walk.specs.declared.found.Found.{Found}
 use Rattle.strip_walk.specs.Found.{IsCutShort, IsFound}
@@ -34,11 +34,11 @@ found_with hand front found task bound within most was other inside asked = elim
 
 -- the empty path has a line where a task is asked for
 pub wanted_root : (hand : HandData) (front : FrontData) (task : ℕ) → IsFilled hand front → task < length front.tasks → is_wanted front task ≡ true
-    → IsSome front.root
-wanted_root hand front task filled within wanted = elim ((filled.wanted task within).0 wanted) [
-  | inl follows ↦ (let line = some_of (front.firsts follows.1.0) follows.1.1 in (filled.lines.firsts follows.1.0 line.0 line.1).0)
-  | inr one ↦ one.1
-]
+    → IsSome (root_of front)
+wanted_root hand front task filled within wanted =
+    let follows = (filled.wanted task within).0 wanted in
+    let line = some_of (line_of front follows.0) follows.2 in
+    (filled.lines follows.0 line.0 follows.1 line.1).0
 
 pub both_false : (a b c : Bool) → c ≡ (a || b) → c ≡ false → (a ≡ false) × (b ≡ false)
 both_false false b c is not = (refl, sym is ∙ not)

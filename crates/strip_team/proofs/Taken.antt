@@ -1,11 +1,11 @@
 -- A part was claimed: what may be walked, and what a walk leaves.
-use Rattle.std.proofs.Common.{◌≡◌, ℕ, suc, ◌<◌, Bool, true, Some, Result, Ok, List, length, slice_index_or, slice_set, false, ◌||◌, inl, refl, sym, ap, ◌∙◌, subst, arith}
-use Rattle.std.proofs.lemmas.List.{get_or-map, get_or_default}
+use Rattle.std.proofs.Common.{◌≡◌, ℕ, suc, ◌<◌, Bool, true, Some, Result, Ok, List, length, map, slice_index_or, slice_set, false, ◌||◌, inl, refl, sym, ap, ◌∙◌, subst, arith, All}
+use Rattle.std.proofs.lemmas.List.{get_or-map, get_or_default, length-map}
+use Rattle.strip_film.specs.Rules.{IsOpen}
 use Rattle.strip_kind.specs.declared.kind.Kind.{Kind}
 use Rattle.strip_pay.specs.Film.{FilmData}
 use Rattle.strip_io.specs.declared.files.Memory.{Memory}
 use Rattle.strip_film.specs.declared.path.Path.{Path}
-use Rattle.strip_film.specs.Film.{IsFilm}
 use Rattle.strip_film.specs.Path.{PathData}
 use Rattle.strip_film.specs.Shown.{CursorData, path_data}
 use Rattle.strip_lines.specs.Lines.{rules_of}
@@ -16,9 +16,8 @@ use Rattle.strip_hand.specs.Hand.{HandData, IsHand, no_path_yet}
 use Rattle.strip_hand.specs.Search.{SearchData, search_rules}
 use Rattle.strip_front.specs.declared.front.Front.{Front}
 use Rattle.strip_front.specs.Shown.{front_data}
-use Rattle.strip_front.specs.Front.{FrontData, is_wanted, task_at}
-use Rattle.strip_front.specs.Tasks.{tasks_of}
-use Rattle.strip_front.proofs.Tasks.{tasks_open}
+use Rattle.strip_front.specs.Front.{FrontData, is_wanted, task_at, IsFrontOf}
+use Rattle.strip_front.proofs.FrontFacts.{front_open}
 use Rattle.strip_walk.specs.declared.found.Found.{Found}
 use Rattle.strip_walk.specs.Found.{MayExplore}
 use Rattle.strip_walk.specs.Walked.{Explores}
@@ -56,9 +55,12 @@ stands_still hand part recorded = (
 )
 
 -- the path and the flag that stand at a place of a front
-pub task_read : (front : Front) (task : ℕ) (path : Path) → task < length front.tasks.items → path ≡ slice_index_or front.tasks.items task path
-    → path_data path ≡ task_at (front_data front) task
-task_read front task path within read = ap path_data read ∙ sym (get_or-map path_data front.tasks.items task path no_task within)
+pub task_read : (front : FrontData) (seen : List Path) (task : ℕ) (path : Path) → map path_data seen ≡ front.tasks → task < length front.tasks
+    → path ≡ slice_index_or seen task path → path_data path ≡ task_at front task
+task_read front seen task path are within read =
+    ap path_data read
+    ∙ sym (get_or-map path_data seen task path no_task (omega (arith, within, ap length are, length-map seen path_data)))
+    ∙ ap (λ (tasks : List PathData). slice_index_or tasks task no_task) are
 
 pub wanted_read : (front : Front) (task : ℕ) (flag : Bool) → task < length front.wanted.items → flag ≡ slice_index_or front.wanted.items task flag
     → is_wanted (front_data front) task ≡ flag
@@ -73,13 +75,13 @@ module _ (kind : Kind) (film : FilmData) (hand : HandData) (front : FrontData) (
   same_search : hand.search ≡ taken.0.search
   same_search = ap (λ (h : HandData). h.search) claims.0
 
-  rules_same : search_rules hand.search ≡ rules_of kind film
-  rules_same = λ i. rules_of (by.same_kind i) (by.same_film i)
-
-  of_film : front.tasks ≡ tasks_of (rules_of kind film)
-  of_film =
-      taken.1.front_of.tasks ∙ ap (λ (search : SearchData). tasks_of (search_rules search)) (sym same_search)
-      ∙ ap tasks_of rules_same
+  -- the tasks are open paths
+  all_open : All (IsOpen (rules_of kind film)) front.tasks
+  all_open =
+      subst (λ (k : Kind). All (IsOpen (rules_of k film)) front.tasks) by.same_kind
+      (subst (λ (f : FilmData). All (IsOpen (rules_of hand.search.kind f)) front.tasks) by.same_film
+      (front_open hand.search.kind hand.search.film front limits.film
+      (subst (λ (s : SearchData). IsFrontOf (search_rules s) front) (sym same_search) taken.1.front_of)))
 
   pub within : task < length front.tasks
   within =
@@ -87,14 +89,14 @@ module _ (kind : Kind) (film : FilmData) (hand : HandData) (front : FrontData) (
         arith,
         claims.1,
         ap (λ (search : SearchData). length search.tasks) same_search,
-        ap (λ (tasks : List PathData). length tasks) (by.tasks ∙ ap tasks_of rules_same ∙ sym of_film),
+        ap (λ (tasks : List PathData). length tasks) taken.1.tasks,
       )
 
   pub may_walk : MayExplore hand (beginning part) (task_at front task)
   may_walk =
       subst (λ (p : ℕ). MayExplore hand (beginning p) (task_at front task)) (sym is)
-      (may_walk_task kind film front task of_film within (tasks_open film (subst IsFilm by.same_film limits.film) kind) hand (by.same_film, by.same_kind)
-      (by.tasks ∙ ap tasks_of rules_same) claims.3)
+      (may_walk_task kind film front task within all_open hand (by.same_film, by.same_kind)
+      (ap (λ (search : SearchData). search.tasks) same_search ∙ taken.1.tasks) claims.3)
 
   pub walked_task : (answer : Found) (after : HandData) (short : Bool) → is_wanted front task ≡ true → IsHand after
       → WalksTask hand part (task_at front task) (Ok answer) after → short ≡ (spent || answer.spent)

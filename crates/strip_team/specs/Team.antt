@@ -12,18 +12,16 @@ use Rattle.strip_count.specs.Paths.{ComesAfter}
 use Rattle.strip_hand.specs.Calls.{Claims}
 use Rattle.strip_hand.specs.Hand.{HandData, RecordData, no_path_yet}
 use Rattle.strip_hand.specs.Search.{SearchData, depth_of, search_rules}
-use Rattle.strip_front.specs.Tasks.{tasks_of}
-use Rattle.strip_front.specs.Front.{FrontData, IsFrontOf, is_wanted, task_at}
+use Rattle.strip_front.specs.Front.{FrontData, IsFrontOf, is_wanted, root_of, task_at}
 use Rattle.strip_front.specs.Filled.{IsFilled, IsWhole}
 use Rattle.strip_front.specs.Calls.{AreFound, count_in}
 use Rattle.strip_walk.specs.declared.found.Found.{Found}
 use Rattle.strip_walk.specs.Walked.{Explores, Walks}
 
--- the search is one of the film by its tasks, with static bounds of this kind
+-- the search is one of the film, with static bounds of this kind
 pub record IsSearchBy (kind : Kind) (film : FilmData) (search : SearchData) : Type 0 where
   pub same_film : search.film ≡ film
   pub same_kind : search.kind ≡ kind
-  pub tasks : search.tasks ≡ tasks_of (search_rules search)
 
 -- the front was claimed and no other part, and nothing is enlisted in it yet
 pub record HasFront (hand : HandData) : Type 0 where
@@ -59,12 +57,13 @@ ReachFound hand front found =
 -- cost told; and it was spent only where the search was cut short, once the empty path had its line
 pub record HasWorked (hand : HandData) (front : FrontData) (found : List ℕ) (spent : Bool) : Type 0 where
   pub front_of : IsFrontOf (search_rules hand.search) front
+  pub tasks : hand.search.tasks ≡ front.tasks
   pub filled : IsFilled hand front
   pub long : length found ≡ length front.tasks
   pub known : AreFound hand front found
   pub whole : spent ≡ false → IsWhole hand.search front hand.told
   pub reach : spent ≡ false → ReachFound hand front found
-  pub root : spent ≡ true → IsSome front.root
+  pub root : spent ≡ true → IsSome (root_of front)
   pub cut : spent ≡ true → IsCut hand
 
 -- the hand went on, or another one took over: the search is the same, no more was told, what was known is known, and each record stays

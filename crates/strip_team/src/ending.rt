@@ -27,13 +27,13 @@ use strip_lines::laws::the_rules_are_true;
 pub fn close<H: Hand, F: Fn(u64, u64) -> u64>(
     kept: &Kept<F>,
     hand: &mut H,
-    front: &Front,
+    front: &mut Front,
     walked: &Walked,
 ) -> Result<u64, Memory>
     requires sound { H.is_sound hand.old }
     requires keeps { Keeps (F.pre kept.now.f) (F.post kept.now.f) kept.now.kind kept.now.film.now }
     requires search { IsSearchBy kept.now.kind kept.now.film.now (H.shows hand.old).search }
-    requires worked { HasWorked (H.shows hand.old) (front_data front.now) walked.now.found.items walked.now.spent }
+    requires worked { HasWorked (H.shows hand.old) (front_data front.old) walked.now.found.items walked.now.spent }
     requires all { HasAll (H.shows hand.old) }
     ensures sound { H.is_sound hand.new }
     ensures home { H.home hand.new ≡ H.home hand.old }

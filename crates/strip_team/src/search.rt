@@ -5,7 +5,7 @@ ghost use Rattle.strip_film.specs.Path.{IsComplete};
 ghost use Rattle.strip_film.specs.Shown.{path_data};
 ghost use Rattle.strip_lines.specs.Lines.{rules_of};
 ghost use Rattle.strip_front.specs.Shown.{front_data};
-ghost use Rattle.strip_front.specs.Tasks.{tasks_of};
+ghost use Rattle.strip_front.specs.Front.{IsFrontOf};
 ghost use Rattle.strip_race.specs.Hand.{IsOwned, hand_data};
 ghost use Rattle.strip_race.specs.Opened.{AreLimits, search_of};
 ghost use Rattle.strip_team.specs.Ended.{IsEnded};
@@ -26,6 +26,9 @@ use strip_hand::Hand;
 use strip_io::Memory;
 use strip_memo::Memo;
 use strip_race::{Limits, World};
+
+/// How many scenes a task has, where one worker walks them all.
+const TASK_SCENES: usize = 2;
 
 /// Searches the film for a cheapest order, with one worker: it goes down the front, walks each task that is
 /// asked for, and closes the front up. It begins with a complete path, holds at most `cap` lines, at most
@@ -73,7 +76,7 @@ pub fn alone_through<F: Fn(u64, u64) -> u64, G: Gate>(
     ensures memo { IsMemo kept.now.kind kept.now.film.now memo.new }
     ensures ended { IfOk result (λ ended. IsEnded kept.now.kind kept.now.film.now (path_data start.now) cap (ended_data ended)) }
 {
-    let mut front = layers(alloc, kept)?;
+    let mut front = layers(alloc, kept, TASK_SCENES)?;
     let limits = Limits {
         workers: 1,
         cap,
@@ -84,7 +87,7 @@ pub fn alone_through<F: Fn(u64, u64) -> u64, G: Gate>(
     gate.opened(asked_for(&front), 1);
     let worker = Worker { gate, number: 0 };
     work(kept, &mut world, &front, &worker, memo, &mut walked)?;
-    let number = close(kept, &mut world, &front, &walked)?;
+    let number = close(kept, &mut world, &mut front, &walked)?;
     let best = *world.best(0);
     tell(alloc, kept, &best, world.into_lines(), number, walked.spent)
 }
@@ -104,7 +107,7 @@ fn open<F: Fn(u64, u64) -> u64>(
     limits: &Limits,
 ) -> Result<World, Memory>
     requires start { IsComplete kept.now.film.now (path_data start.now) }
-    requires front { (front_data front.now).tasks ≡ tasks_of (rules_of kept.now.kind kept.now.film.now) }
+    requires front { IsFrontOf (rules_of kept.now.kind kept.now.film.now) (front_data front.now) }
     requires limits { AreLimits limits.now }
     requires one_worker { limits.now.workers ≡ 1 }
     ensures sound { IfOk result IsOwned }
@@ -112,11 +115,18 @@ fn open<F: Fn(u64, u64) -> u64>(
     ensures front { IfOk result (λ world. HasFront (hand_data world)) }
     ensures search { IfOk result (λ world. world.search
         ≡ search_of kept.now.film.now kept.now.kind (path_data start.now)
-        (tasks_of (rules_of kept.now.kind kept.now.film.now)) limits.now) }
+        (front_data front.now).tasks limits.now) }
 {
     kept.film().keeps_limits();
     tasks_are_starts();
-    let mut world = World::new(alloc, kept.film(), kept.kind(), start, &front.tasks, limits)?;
+    let mut world = World::new(
+        alloc,
+        kept.film(),
+        kept.kind(),
+        start,
+        front.tasks(),
+        limits,
+    )?;
     world.claim();
     Ok(world)
 }

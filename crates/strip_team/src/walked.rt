@@ -22,13 +22,13 @@ impl Walked {
     /// it has worked where it claimed nothing yet, and the front was gone down by another hand and wasn't cut
     /// short.
     pub fn new(alloc: Global, front: &Front) -> Result<Walked, Memory>
-        ensures found { IfOk result (λ walked. walked.found.items ≡ replicate (length front.now.tasks.items) 0) }
+        ensures found { IfOk result (λ walked. walked.found.items ≡ replicate (length (front_data front.now).tasks) 0) }
         ensures spent { IfOk result (λ walked. walked.spent ≡ false) }
         ensures worked { IfOk result (λ walked. (hand fresh : HandData) (found : List ℕ)
             → HasWorked hand (front_data front.now) found false → IsFresh hand fresh
             → HasWorked fresh (front_data front.now) walked.found.items walked.spent) }
     {
-        let found = vec![in alloc; 0; front.tasks.len()]?;
+        let found = vec![in alloc; 0; front.tasks().len()]?;
         Ok(Walked {
             found,
             spent: false,

@@ -36,9 +36,11 @@ pub fn go_down_front<H: Hand, F: Fn(u64, u64) -> u64>(
     requires search { IsSearchBy kept.now.kind kept.now.film.now (H.shows hand.old).search }
     requires some_lines { 1 ≤ (H.shows hand.old).search.cap }
     requires claimed { HasFront (H.shows hand.old) }
+    requires tasks { (H.shows hand.old).search.tasks ≡ (front_data front.old).tasks }
     requires front { IsEmptyFront (search_rules (H.shows hand.old).search) (front_data front.old) }
     ensures sound { H.is_sound hand.new }
     ensures home { H.home hand.new ≡ H.home hand.old }
+    ensures tasks { (front_data front.new).tasks ≡ (front_data front.old).tasks }
     ensures down { (cursor : CursorData) × GoesDown (H.shows hand.old) (H.shows hand.new) cursor }
     ensures worked { IfOk result (λ walked. OwnsFront (H.shows hand.new)
         → HasWorked (H.shows hand.new) (front_data front.new) walked.found.items walked.spent) }
@@ -111,7 +113,7 @@ fn walk_part<H: Hand, F: Fn(u64, u64) -> u64, G: Gate>(
     let task = part as usize - 1;
     if front.wanted[task] {
         worker.begin(part);
-        let found = walk(kept, hand, &front.tasks[task], part, memo)?;
+        let found = walk(kept, hand, &front.tasks()[task], part, memo)?;
         hand.keeps_limits();
         walked.found[task] = found.bound;
         walked.spent |= found.spent;

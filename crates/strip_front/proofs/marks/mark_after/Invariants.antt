@@ -1,17 +1,15 @@
-use Rattle.std.proofs.Common.{◌≡◌, ◌↔◌, ◌⊎◌, ◌<◌, ◌≤◌, ℕ, length, true}
-use Rattle.strip_mask.specs.Set.{without}
-use Rattle.strip_film.specs.Film.{all_scenes}
-use Rattle.strip_front.specs.Filled.{Follows}
-use Rattle.strip_front.specs.Front.{is_wanted, task_at}
+use Rattle.std.proofs.Common.{◌≡◌, ◌++◌}
+use Rattle.strip_mask.specs.Set.{members}
+use Rattle.strip_mask.specs.Iter.{rest_of}
+use Rattle.strip_rule.specs.Rule.{open_firsts}
+use Rattle.strip_front.specs.Marked.{MarksMore}
 use Rattle.strip_front.specs.Shown.{front_data}
+use Rattle.strip_front.proofs.Asked.{Leaves}
 use Rattle.strip_front.proofs.marks.mark_after.Given as goal
 
--- the tasks so far are asked for where they follow; the others are as they were
-abbrev pub invariant-loop-place : goal.invariant-loop-place
-invariant-loop-place l = record {
-  only : front_data l.front ≡ record (front_data l.fn.front) { wanted = l.front.wanted.items };
-  count : length l.front.wanted.items ≡ length l.fn.front.wanted.items;
-  marked : (task : ℕ) → task < l.place → (is_wanted (front_data l.front) task ≡ true)
-      ↔ ((is_wanted (front_data l.fn.front) task ≡ true) ⊎ Follows l.film (without (all_scenes l.film) l.fn.first) (task_at (front_data l.fn.front) task).rest);
-  still : (task : ℕ) → l.place ≤ task → is_wanted (front_data l.front) task ≡ is_wanted (front_data l.fn.front) task;
+-- the tasks that the scenes so far leave are asked for; these and those to come are the open firsts
+abbrev pub invariant-loop-scene : goal.invariant-loop-scene
+invariant-loop-scene l = record {
+  marks : MarksMore (front_data l.fn.front) (front_data l.front) (Leaves (front_data l.fn.front) l.rest.0 l.yielded);
+  turns : l.yielded ++ rest_of l.scene-iterator ≡ members (open_firsts l.film l.rest.0);
 }

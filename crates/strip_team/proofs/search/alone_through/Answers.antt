@@ -4,8 +4,7 @@ use Rattle.strip_film.specs.Path.{PathData}
 use Rattle.strip_film.specs.Shown.{path_data}
 use Rattle.strip_hand.specs.Hand.{HandData}
 use Rattle.strip_hand.specs.Search.{SearchData}
-use Rattle.strip_lines.specs.Lines.{rules_of}
-use Rattle.strip_front.specs.Tasks.{tasks_of}
+use Rattle.strip_front.specs.Shown.{front_data}
 use Rattle.strip_race.specs.Hand.{hand_data}
 use Rattle.strip_race.specs.Opened.{search_of}
 use Rattle.strip_race.specs.World.{worker_at}
@@ -19,13 +18,13 @@ use Rattle.strip_team.proofs.search.alone_through.Goals as goal
 
 pub go_down_front-requires-clause-search : goal.go_down_front-requires-clause-search
 go_down_front-requires-clause-search g c =
-    search_by c.args.kept.now.film.now c.args.kept.now.kind c.in_ok-world.world.search c.args.cap (path_data c.args.start.now).paid
+    search_by c.args.kept.now.film.now c.args.kept.now.kind c.in_ok-world.world.search c.args.cap (path_data c.args.start.now).paid (front_data c.in_ok-front.front).tasks
     c.in_ok-world.ensures.search
 
 pub work-requires-clause-search : goal.work-requires-clause-search
 work-requires-clause-search g c = λ κs outlives.
     subst (IsSearchBy c.args.kept.now.kind c.args.kept.now.film.now) (sym (ap (λ (h : HandData). h.search) c.go_down_front.ensures.down.1.only))
-    (search_by c.args.kept.now.film.now c.args.kept.now.kind c.in_ok-world.world.search c.args.cap (path_data c.args.start.now).paid
+    (search_by c.args.kept.now.film.now c.args.kept.now.kind c.in_ok-world.world.search c.args.cap (path_data c.args.start.now).paid (front_data c.in_ok-front.front).tasks
     c.in_ok-world.ensures.search)
 
 pub work-requires-clause-worked : goal.work-requires-clause-worked
@@ -39,7 +38,7 @@ pub close-requires-clause-search : goal.close-requires-clause-search
 close-requires-clause-search g c =
     subst (IsSearchBy c.args.kept.now.kind c.args.kept.now.film.now)
     (sym (c.work.ensures.goes_on.search ∙ ap (λ (h : HandData). h.search) c.go_down_front.ensures.down.1.only))
-    (search_by c.args.kept.now.film.now c.args.kept.now.kind c.in_ok-world.world.search c.args.cap (path_data c.args.start.now).paid
+    (search_by c.args.kept.now.film.now c.args.kept.now.kind c.in_ok-world.world.search c.args.cap (path_data c.args.start.now).paid (front_data c.in_ok-front.front).tasks
     c.in_ok-world.ensures.search)
 
 pub close-requires-clause-all : goal.close-requires-clause-all
@@ -53,7 +52,7 @@ returns-clause-ended g c =
     let film = c.args.kept.now.film.now in
     let world = c.close.new.hand in
     let one_worker = c.close.ensures.home ∙ c.work.ensures.home ∙ c.go_down_front.ensures.home ∙ c.in_ok-world.ensures.one_worker in
-    let same_search = search_stays (search_of film kind (path_data c.args.start.now) (tasks_of (rules_of kind film)) (record { workers = 1; cap = c.args.cap; entries = c.args.entries }))
+    let same_search = search_stays (search_of film kind (path_data c.args.start.now) (front_data c.in_ok-front.front).tasks (record { workers = 1; cap = c.args.cap; entries = c.args.entries }))
     (hand_data c.in_ok-world.world) (hand_data c.go_down_front.new.hand) (hand_data c.work.new.hand) (hand_data world) c.go_down_front.ensures.down.0
     c.in_ok-world.ensures.search c.go_down_front.ensures.down.1 c.work.ensures.goes_on c.close.ensures.learns in
     let left = subst (λ (path : PathData). IsSettled (hand_data world) path c.into_lines.result.items) (sym c.best.ensures)

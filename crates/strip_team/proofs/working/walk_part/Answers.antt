@@ -1,7 +1,5 @@
 use Rattle.std.proofs.Common.{◌≡◌, ◌<◌, ◌-◌, ◌∙◌, ◌||◌, ℕ, suc, Ok, length, ap, subst, sym, refl, arith}
-use Rattle.std.proofs.lemmas.List.{length-map}
 use Rattle.strip_film.specs.Path.{PathData}
-use Rattle.strip_film.specs.Shown.{path_data}
 use Rattle.strip_front.specs.Shown.{front_data}
 use Rattle.strip_front.specs.Front.{is_wanted}
 use Rattle.strip_walk.specs.Found.{MayExplore}
@@ -27,16 +25,6 @@ index-requires g c =
     c.requires.search c.keeps_limits.ensures c.requires.claimed in
     omega (arith, below, c.requires.claimed.1.front_of.wanted, c.args.front.now.wanted.ok.0)
 
-pub index-requires-then-index : goal.index-requires-then-index
-index-requires-then-index g c =
-    let task : ℕ = c.args.part - 1 in
-    let part : c.args.part ≡ suc task = omega (arith, c.if-part-eq0.false) in
-    let front = front_data c.args.front.now in
-    let hand = g.H.Hand.shows c.args.hand.now in
-    let below = within c.args.kept.now.kind c.args.kept.now.film.now hand front c.args.walked.now.found.items c.args.walked.now.spent c.args.part task part
-    c.requires.search c.keeps_limits.ensures c.requires.claimed in
-    omega (arith, below, length-map c.args.front.now.tasks.items path_data, c.args.front.now.tasks.ok.0)
-
 pub walk-requires-clause-may : goal.walk-requires-clause-may
 walk-requires-clause-may g c =
     let task : ℕ = c.args.part - 1 in
@@ -46,7 +34,7 @@ walk-requires-clause-may g c =
     let below = within c.args.kept.now.kind c.args.kept.now.film.now hand front c.args.walked.now.found.items c.args.walked.now.spent c.args.part task part
     c.requires.search c.keeps_limits.ensures c.requires.claimed in
     subst (λ (path : PathData). MayExplore hand (beginning c.args.part) path)
-    (sym (task_read c.args.front.now task c.index-then-index.result.now (omega (arith, below, length-map c.args.front.now.tasks.items path_data)) c.index-then-index.ensures))
+    (sym (task_read front c.tasks.result.now task c.index-tasks-task.result c.tasks.ensures below c.index-tasks-task.is))
     (may_walk c.args.kept.now.kind c.args.kept.now.film.now hand front c.args.walked.now.found.items c.args.walked.now.spent c.args.part task part
     c.requires.search c.keeps_limits.ensures c.requires.claimed)
 
@@ -70,7 +58,7 @@ returns-in_ok-found-clause-worked g c =
     c.requires.search c.keeps_limits.ensures c.requires.claimed in
     let asked : task < length c.args.front.now.wanted.items = omega (arith, below, c.requires.claimed.1.front_of.wanted) in
     let walks = subst (λ (path : PathData). WalksTask hand c.args.part path (Ok c.in_ok-found.found) (g.H.Hand.shows c.walk.new.hand))
-    (task_read c.args.front.now task c.index-then-index.result.now (omega (arith, below, length-map c.args.front.now.tasks.items path_data)) c.index-then-index.ensures)
+    (task_read front c.tasks.result.now task c.index-tasks-task.result c.tasks.ensures below c.index-tasks-task.is)
     c.in_ok-found.ensures.walked in
     walked_task c.args.kept.now.kind c.args.kept.now.film.now hand front c.args.walked.now.found.items c.args.walked.now.spent c.args.part task part
     c.requires.search c.keeps_limits.ensures c.requires.claimed c.in_ok-found.found (g.H.Hand.shows c.walk.new.hand)

@@ -1,4 +1,4 @@
-use Rattle.std.proofs.Common.{rules, ◌∙◌, sym, length}
+use Rattle.std.proofs.Common.{rules, ◌∙◌, sym, length, ap}
 use Rattle.std.proofs.lemmas.List.{length-map}
 use Rattle.strip_film.specs.Shown.{path_data}
 use Rattle.strip_front.specs.Shown.{front_data}
@@ -8,5 +8,5 @@ use Rattle.strip_team.proofs.walked.Walked.new.Goals as goal
 pub returns-clause-worked : goal.returns-clause-worked
 returns-clause-worked c = λ hand fresh found was is.
     nothing hand fresh (front_data c.args.front.now) found c.in_ok-found.found.items was is
-    (zeros c.in_ok-found.found.items c.len.result (length (front_data c.args.front.now).tasks)
-    (c.in_ok-found.ensures.items_if_clones_equal (search rules)) (c.len.ensures ∙ c.args.front.now.tasks.ok.0 ∙ sym (length-map c.args.front.now.tasks.items path_data)))
+    (zeros c.in_ok-found.found.items (length c.tasks.result.now) (length (front_data c.args.front.now).tasks)
+    (c.in_ok-found.ensures.items_if_clones_equal (search rules)) (sym (length-map c.tasks.result.now path_data) ∙ ap length c.tasks.ensures))

@@ -1,0 +1,22 @@
+use Rattle.std.proofs.Common.{◌≡◌, ◌∙◌, true, false, Result, Ok, Err, [], ◌∷◌, ap, arith, map, nat_eq, sym}
+use Rattle.std.specs.Result.{IsOk, OnOk}
+use Rattle.std.proofs.lemmas.List.{map-append}
+use Rattle.indexmap.specs.IndexSet.{insert_key}
+use Rattle.strip_film.specs.Shown.{path_data}
+use Rattle.strip_front.specs.Shown.{paths_of}
+use Rattle.strip_front.proofs.Rests.{rests, rests_pushed}
+use Rattle.strip_front.proofs.by_set.PathsBySet.push.Goals as goal
+
+-- what holds where there is a value, where there is one
+on_ok : {T E : Type 0} (result : Result T E) (P : Type 0) → IsOk result → OnOk result P → P
+on_ok (Ok value) P ok holds = holds
+on_ok (Err error) P ok holds = absurd (let e : false ≡ true = ok in cc)
+
+pub invariant_of-self-2 : goal.invariant_of-self-2
+invariant_of-self-2 c = record {
+  by_set = on_ok c.insert.result (c.insert.new.self.keys ≡ insert_key nat_eq c.reserve.new.self.keys c.rest.result.0)
+      (c.insert.ensures.succeeds (omega (arith, c.in_ok-reserve.ensures.ok))) c.insert.ensures.keys
+      ∙ rests_pushed c.reserve.new.self.keys (paths_of c.args.self.now) (path_data c.args.path.now) c.rest.result.0
+      (c.reserve.ensures.keys ∙ c.args.self.now.by_set) c.rest.ensures c.requires.new
+      ∙ sym (ap rests (ap (map path_data) c.in_ok-push.ensures.items ∙ map-append path_data c.args.self.now.paths.items (c.args.path.now ∷ [])));
+}

@@ -1,0 +1,29 @@
+use Rattle.std.proofs.Common.{◌∙◌, ℕ, List, ap, fold, map}
+use Rattle.strip_mask.specs.Iter.{rest_of}
+use Rattle.strip_mask.proofs.Turns.{turn_member, turns_all}
+use Rattle.strip_film.specs.Path.{PathData}
+use Rattle.strip_film.specs.Shown.{path_data}
+use Rattle.strip_film.proofs.Paths.{rest_lies}
+use Rattle.strip_rule.specs.Rule.{open_firsts}
+use Rattle.strip_front.specs.Layers.{with_path}
+use Rattle.strip_front.specs.Shown.{paths_of}
+use Rattle.strip_front.proofs.Extended.{all_extended, extended}
+use Rattle.strip_front.proofs.Open.{first_ready}
+use Rattle.strip_front.proofs.layer.put_paths_after.Goals as goal
+
+pub open_firsts-requires : goal.open_firsts-requires
+open_firsts-requires c = rw c.rest.ensures (rest_lies c.args.film.now (path_data c.args.path.now) c.requires.path)
+
+pub extend-requires-clause-ready : goal.extend-requires-clause-ready
+extend-requires-clause-ready c =
+    first_ready c.args.film.now (path_data c.args.path.now).rest c.in-Some.scene
+    (turn_member (open_firsts c.args.film.now (path_data c.args.path.now).rest) c.in-Some.scene c.loop-scene.yielded (rest_of c.loop-scene.scene-iterator) (rest_of c.next.new.self) c.loop-scene.invariant.turns c.in-Some.ensures.steps)
+
+pub returns : goal.returns
+returns c =
+    let film = c.args.film.now in
+    let path : PathData = path_data c.args.path.now in
+    c.loop-scene.invariant.so_far
+    ∙ ap (λ (scenes : List ℕ). fold with_path (paths_of c.args.paths.now) (map (extended film path) scenes))
+    (turns_all (open_firsts film path.rest) c.loop-scene.yielded (rest_of c.loop-scene.scene-iterator) c.loop-scene.invariant.turns c.in-None.ensures.steps.0)
+    ∙ ap (fold with_path (paths_of c.args.paths.now)) (all_extended film path c.requires.path)

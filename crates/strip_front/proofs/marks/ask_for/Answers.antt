@@ -1,0 +1,11 @@
+use Rattle.std.proofs.Common.{◌∙◌, sym}
+use Rattle.strip_front.specs.Shown.{front_data}
+use Rattle.strip_front.proofs.Asked.{ask_found, ask_nothing}
+use Rattle.strip_front.proofs.marks.ask_for.Goals as goal
+
+pub returns-in-Some : goal.returns-in-Some
+returns-in-Some c =
+    ask_found (front_data c.args.front.now) c.args.rest.0 c.requires.wanted c.requires.apart c.in-Some.task (sym c.place_of.ensures ∙ c.in-Some.is)
+
+pub returns-in_default : goal.returns-in_default
+returns-in_default c = ask_nothing (front_data c.args.front.now) c.args.rest.0 (sym c.in_default.ensures)

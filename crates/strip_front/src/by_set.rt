@@ -1,0 +1,88 @@
+// Paths by what they leave.
+ghost use Rattle.std.specs.Prelude.{◌≡◌, ◌≢◌, ◌==◌, [], ◌++◌, ◌∷◌, None, map, IfOk};
+ghost use Rattle.std.specs.List.{AllPairs, position};
+ghost use Rattle.strip_film.specs.Shown.{path_data};
+
+use indexmap::IndexSet;
+use std::alloc::Global;
+use strip_film::Path;
+use strip_io::Memory;
+use strip_mask::Mask;
+
+/// Paths in an order, each found by what it leaves.
+#[derive(Debug, Drop)]
+pub struct PathsBySet {
+    paths: Vec<Path>,
+    // What each path leaves, in the same order.
+    sets: IndexSet<u64>,
+    pub ghost by_set: { sets.keys ≡ map (λ path. path.rest) (map path_data paths.items) },
+}
+
+impl PathsBySet {
+    ghost use Rattle.strip_front.specs.Layers.{with_path};
+    ghost use Rattle.strip_front.specs.Shown.{paths_of};
+
+    /// No paths.
+    pub(crate) fn new(alloc: Global) -> PathsBySet
+        ensures { paths_of result ≡ [] }
+    {
+        PathsBySet {
+            paths: Vec::new(alloc),
+            sets: IndexSet::new(alloc),
+        }
+    }
+
+    /// These paths, in their order.
+    pub(crate) fn of(alloc: Global, paths: Vec<Path>) -> Result<PathsBySet, Memory>
+        requires apart { AllPairs (λ a b. a.rest ≢ b.rest) (map path_data paths.items) }
+        ensures { IfOk result (λ by_set. by_set.paths ≡ paths) }
+    {
+        let mut sets = IndexSet::new(alloc);
+        for path in &paths {
+            sets.insert(path.rest().0)?;
+        }
+        Ok(PathsBySet { paths, sets })
+    }
+
+    /// The paths in their order.
+    pub fn paths(&self) -> &[Path]
+        ensures { result.now ≡ self.now.paths.items }
+    {
+        &self.paths
+    }
+
+    /// The place of the first path that leaves these scenes.
+    pub fn place_of(&self, rest: Mask) -> Option<usize>
+        ensures { result ≡ position (λ path. path.rest == rest.0) (paths_of self.now) }
+    {
+        self.sets.get_index_of(&rest.0)
+    }
+
+    /// Adds the path behind the others, or puts it in the place of the one that leaves the same scenes and
+    /// pays more.
+    pub(crate) fn put(&mut self, path: &Path) -> Result<(), Memory>
+        ensures { IfOk result (λ _. paths_of self.new ≡ with_path (paths_of self.old) (path_data path.now)) }
+    {
+        match self.place_of(path.rest()) {
+            None => self.push(path)?,
+            Some(place) => {
+                if path.paid() < self.paths[place].paid() {
+                    self.paths[place] = *path;
+                }
+            }
+        }
+        Ok(())
+    }
+
+    /// Adds the path, which leaves other scenes than each of the others, behind them.
+    fn push(&mut self, path: &Path) -> Result<(), Memory>
+        requires new { position (λ other. other.rest == (path_data path.now).rest) (paths_of self.old) ≡ None }
+        ensures { IfOk result (λ _. self.new.paths.items ≡ self.old.paths.items ++ path.now ∷ []) }
+    {
+        // Room first, so that where memory is refused both lists stay as they are.
+        self.sets.reserve(1)?;
+        self.paths.push(*path)?;
+        self.sets.insert(path.rest().0)?;
+        Ok(())
+    }
+}

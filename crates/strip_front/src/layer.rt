@@ -1,0 +1,50 @@
+// The layers of a search.
+ghost use Rattle.std.specs.Prelude.{◌≡◌, [], All, fold, IfOk};
+ghost use Rattle.std.specs.List.{flat_map};
+ghost use Rattle.strip_film.specs.Path.{IsPath};
+ghost use Rattle.strip_film.specs.Shown.{path_data};
+ghost use Rattle.strip_front.specs.Layers.{layer, paths_after, with_path};
+ghost use Rattle.strip_front.specs.Shown.{paths_of};
+
+use crate::by_set::PathsBySet;
+use std::alloc::Global;
+use strip_film::{Film, Path};
+use strip_io::Memory;
+use strip_rule::open_firsts;
+
+/// The layer of no scenes: the empty path.
+pub(crate) fn first_layer(alloc: Global, film: &Film) -> Result<PathsBySet, Memory>
+    ensures { IfOk result (λ first. paths_of first ≡ layer film.now 0) }
+{
+    let mut first = PathsBySet::new(alloc);
+    first.put(&Path::start(film))?;
+    Ok(first)
+}
+
+/// The layer of one scene more than this one.
+pub(crate) fn layer_after(
+    alloc: Global,
+    film: &Film,
+    before: &PathsBySet,
+) -> Result<PathsBySet, Memory>
+    requires paths { All (IsPath film.now) (paths_of before.now) }
+    ensures { IfOk result (λ after. paths_of after ≡ fold with_path [] (flat_map (paths_after film.now) (paths_of before.now))) }
+{
+    let mut after = PathsBySet::new(alloc);
+    for path in before.paths() {
+        put_paths_after(film, path, &mut after)?;
+    }
+    Ok(after)
+}
+
+/// Puts the open paths that go on from this one with one scene more to the others.
+fn put_paths_after(film: &Film, path: &Path, paths: &mut PathsBySet) -> Result<(), Memory>
+    requires path { IsPath film.now (path_data path.now) }
+    ensures { IfOk result (λ _. paths_of paths.new ≡ fold with_path (paths_of paths.old) (paths_after film.now (path_data path.now))) }
+{
+    film.keeps_limits();
+    for scene in open_firsts(film, path.rest()).iter() {
+        paths.put(&path.extend(film, scene))?;
+    }
+    Ok(())
+}

@@ -1,0 +1,130 @@
+// The paths before the tasks, in the order in which a search goes through them.
+ghost use Rattle.std.specs.Prelude.{◌≡◌, ◌≢◌, ◌↔◌, ◌++◌, ◌+◌, ◌<◌, ◌≤◌, ℕ, List, All, Contains, IsTrue, IfOk, length, map};
+ghost use Rattle.std.specs.List.{AllPairs};
+ghost use Rattle.strip_pay.specs.Film.{FilmData};
+ghost use Rattle.strip_film.specs.Film.{LiesIn};
+ghost use Rattle.strip_film.specs.Path.{IsPath, PathData};
+ghost use Rattle.strip_film.specs.Rules.{rank};
+ghost use Rattle.strip_film.specs.Shown.{path_data, turns_data};
+ghost use Rattle.strip_film.specs.Turns.{GoBy};
+ghost use Rattle.strip_bound.specs.Kept.{Keeps};
+ghost use Rattle.strip_rule.specs.Rule.{open_firsts};
+ghost use Rattle.strip_lines.specs.Lines.{rules_of};
+ghost use Rattle.strip_front.specs.Front.{AreShorter, IsDepth};
+ghost use Rattle.strip_front.specs.Layers.{layer};
+ghost use Rattle.strip_front.specs.Onward.{AreOnward};
+ghost use Rattle.strip_front.specs.Shown.{paths_of};
+
+use crate::by_set::PathsBySet;
+use crate::layer::{first_layer, layer_after};
+use std::alloc::Global;
+use strip_bound::Kept;
+use strip_film::{MAX_COUNT, Path, Turns};
+use strip_io::Memory;
+use strip_mask::Mask;
+use strip_rule::open_firsts;
+
+/// The paths that are shorter than so many scenes, each before those that come after it, and the last of
+/// their layers. For each path but those of the last layer a call of the stored bound for each open first.
+pub(crate) fn shorter_paths<F: Fn(u64, u64) -> u64>(
+    alloc: Global,
+    kept: &Kept<F>,
+    depth: usize,
+) -> Result<(Vec<Path>, PathsBySet), Memory>
+    requires keeps { Keeps (F.pre kept.now.f) (F.post kept.now.f) kept.now.kind kept.now.film.now }
+    requires depth { IsDepth kept.now.film.now depth }
+    ensures shorter { IfOk result (λ both. AreShorter (rules_of kept.now.kind kept.now.film.now) depth (map path_data both.0.items)) }
+    ensures last { IfOk result (λ both. (before : ℕ) → depth ≡ before + 1 → paths_of both.1 ≡ layer kept.now.film.now before) }
+{
+    let film = kept.film();
+    film.keeps_limits();
+    let mut last = first_layer(alloc, film)?;
+    let mut shorter = last.paths().to_vec(alloc)?;
+    for count in 1..depth {
+        last = layer_after(alloc, film, &last)?;
+        shorter = with_layer(alloc, kept, &shorter, &last, count)?;
+    }
+    Ok((shorter, last))
+}
+
+/// The paths, which have fewer than `count` scenes, with those of the next layer, which have as many, each
+/// behind the one from which it goes on.
+fn with_layer<F: Fn(u64, u64) -> u64>(
+    alloc: Global,
+    kept: &Kept<F>,
+    shorter: &[Path],
+    next: &PathsBySet,
+    count: usize,
+) -> Result<Vec<Path>, Memory>
+    requires keeps { Keeps (F.pre kept.now.f) (F.post kept.now.f) kept.now.kind kept.now.film.now }
+    requires some { 1 ≤ count }
+    requires most { count < length kept.now.film.now.casts }
+    requires shorter { AreShorter (rules_of kept.now.kind kept.now.film.now) count (map path_data shorter.now) }
+    requires layer { paths_of next.now ≡ layer kept.now.film.now count }
+    ensures { IfOk result (λ paths. AreShorter (rules_of kept.now.kind kept.now.film.now) (count + 1) (map path_data paths.items)) }
+{
+    kept.film().keeps_limits();
+    let mut paths = Vec::new(alloc);
+    for path in shorter {
+        paths.push(*path)?;
+        if path.scenes().len() + 1 == count {
+            push_kept(kept, path, next, &mut paths)?;
+        }
+    }
+    Ok(paths)
+}
+
+/// Pushes the paths of the layer that go on from this path, by rank.
+fn push_kept<F: Fn(u64, u64) -> u64>(
+    kept: &Kept<F>,
+    path: &Path,
+    layer: &PathsBySet,
+    paths: &mut Vec<Path>,
+) -> Result<(), Memory>
+    requires keeps { Keeps (F.pre kept.now.f) (F.post kept.now.f) kept.now.kind kept.now.film.now }
+    requires path { IsPath kept.now.film.now (path_data path.now) }
+    requires layer { All (IsPath kept.now.film.now) (paths_of layer.now) }
+    requires apart { AllPairs (λ a b. a.rest ≢ b.rest) (paths_of layer.now) }
+    ensures { IfOk result (λ _. (more : List PathData) × (map path_data paths.new.items ≡ map path_data paths.old.items ++ more)
+        × AreOnward (rules_of kept.now.kind kept.now.film.now) (paths_of layer.now) (path_data path.now) more) }
+{
+    let film = kept.film();
+    film.keeps_limits();
+    let mut turns = turns_of(kept, path.rest());
+    while let Some(scene) = turns.take_next() {
+        let longer = path.extend(film, scene);
+        if has(layer, &longer) {
+            paths.push(longer)?;
+        }
+    }
+    Ok(())
+}
+
+/// Whether one of the paths is along these scenes.
+fn has(paths: &PathsBySet, path: &Path) -> bool
+    ensures { (film : FilmData) → All (IsPath film) (paths_of paths.now) → AllPairs (λ a b. a.rest ≢ b.rest) (paths_of paths.now)
+        → IsPath film (path_data path.now) → IsTrue result ↔ Contains (paths_of paths.now) (path_data path.now) }
+{
+    match paths.place_of(path.rest()) {
+        Some(place) => paths.paths()[place].scenes() == path.scenes(),
+        None => false,
+    }
+}
+
+/// The open firsts of a set of scenes, which take their turns by rank. One call of the stored bound for
+/// each.
+fn turns_of<F: Fn(u64, u64) -> u64>(kept: &Kept<F>, rest: Mask) -> Turns
+    requires keeps { Keeps (F.pre kept.now.f) (F.post kept.now.f) kept.now.kind kept.now.film.now }
+    requires lies { LiesIn kept.now.film.now rest.0 }
+    ensures left { (turns_data result).left ≡ open_firsts kept.now.film.now rest.0 }
+    ensures by_rank { GoBy (rank (rules_of kept.now.kind kept.now.film.now) rest.0) (turns_data result) }
+{
+    let film = kept.film();
+    film.keeps_limits();
+    let firsts = open_firsts(film, rest);
+    let mut ranks = [0; MAX_COUNT];
+    for first in firsts.iter() {
+        ranks[first as usize] = kept.rank(rest, first);
+    }
+    Turns::of(firsts, &ranks)
+}

@@ -1,0 +1,5 @@
+use Rattle.strip_store.proofs.tests.times_asked.Given as goal
+
+-- the locks guard bounds of this film
+abbrev pub ghosts-asked_thrice : goal.ghosts-asked_thrice
+ghosts-asked_thrice g a = record { film = a.kept.now.film.now; kind = a.kept.now.kind }

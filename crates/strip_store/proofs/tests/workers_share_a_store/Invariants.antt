@@ -1,0 +1,5 @@
+use Rattle.strip_store.proofs.tests.workers_share_a_store.Given as goal
+
+-- the locks guard bounds of this film
+abbrev pub ghosts-reached_by_store : goal.ghosts-reached_by_store
+ghosts-reached_by_store g a = record { film = a.kept.now.film.now; kind = a.kept.now.kind }

@@ -1,0 +1,110 @@
+// The drawers, each behind its lock.
+ghost use Rattle.std.specs.Prelude.{◌≡◌, ◌≤◌, ◌⊎◌, true, vec_len};
+ghost use Rattle.strip_film.specs.Film.{LiesIn};
+ghost use Rattle.strip_bound.specs.Bounds.{bound};
+ghost use Rattle.strip_bound.specs.Kept.{Keeps};
+ghost use Rattle.strip_store.specs.Entry.{IsEntry};
+
+use crate::bounded::Bounded;
+use crate::drawer::{DRAWERS, Drawer, drawer_of};
+use crate::entry::Entry;
+use std::alloc::Global;
+use std::sync::{Mutex, Wait};
+use strip_bound::Kept;
+use strip_io::Memory;
+use strip_kind::Kind;
+use strip_mask::Mask;
+
+/// A store of static bounds that workers share: 64 drawers, each behind its own lock. A set has one place,
+/// and the last set that came there stands.
+#[derive(Drop)]
+pub struct Store<N: Bounded> {
+    drawers: Vec<Mutex<Drawer<N>>>,
+    pub ghost count: { vec_len drawers ≡ 64 },
+}
+
+impl<N: Bounded> Store<N> {
+    /// A store that knows nothing yet. It takes all the memory that it ever needs: for groups and arrivals
+    /// 2^21 entries of 24 bytes, some 50 MB, and at most four for each set where the film has few; for the
+    /// kinds that are cheap to ask for 64 entries, which stay as they are.
+    pub fn new<F: Fn(u64, u64) -> u64>(alloc: Global, kept: &Kept<F>) -> Result<Store<N>, Memory> {
+        let bits = bits_of(kept.kind(), kept.film().scenes());
+        let mut drawers = Vec::new(alloc);
+        for _turn in 0..64usize {
+            let drawer: Drawer<N> = Drawer::new(alloc, bits)?;
+            drawers.push(Mutex::new(drawer))?;
+        }
+        Ok(Store { drawers })
+    }
+
+    /// A number that is at most the static bound of the set, in units of money, and at least `need` or the
+    /// bound: the one that is kept, or else one that is asked for and then kept for all workers. It waits
+    /// for the lock of the set's drawer, and asks while it has none. The bounds that are cheap to ask for
+    /// are asked for each time.
+    pub fn reach<R: Wait, F: Fn(u64, u64) -> u64>(
+        &self,
+        rt: &R,
+        kept: &Kept<F>,
+        q: Mask,
+        need: u64,
+    ) -> u64
+        requires kind { kept.now.kind ≡ N.kind }
+        requires film { kept.now.film.now ≡ N.film }
+        requires keeps { Keeps (F.pre kept.now.f) (F.post kept.now.f) kept.now.kind kept.now.film.now }
+        requires lies { LiesIn kept.now.film.now q.0 }
+        ensures most { result ≤ bound kept.now.kind kept.now.film.now q.0 }
+        ensures reaches { (need ≤ result) ⊎ (result ≡ bound kept.now.kind kept.now.film.now q.0) }
+    {
+        if is_cheap(kept.kind()) {
+            return kept.reach(q, need);
+        }
+        let drawer = &self.drawers[drawer_of(q)];
+        let found = drawer.lock(rt).find(q, need);
+        if let Some(value) = found {
+            return value;
+        }
+        let entry = asked(kept, q, need);
+        drawer.lock(rt).put(entry);
+        entry.value
+    }
+}
+
+/// What the stored bound answers of the set, asked for as much as is needed.
+fn asked<F: Fn(u64, u64) -> u64>(kept: &Kept<F>, q: Mask, need: u64) -> Entry
+    requires keeps { Keeps (F.pre kept.now.f) (F.post kept.now.f) kept.now.kind kept.now.film.now }
+    requires lies { LiesIn kept.now.film.now q.0 }
+    ensures set { result.set ≡ q.0 }
+    ensures entry { IsEntry kept.now.kind kept.now.film.now result }
+    ensures reaches { (need ≤ result.value) ⊎ (result.is_whole ≡ true) }
+{
+    let needed = match kept.kind() {
+        Kind::Arrivals => need,
+        // The whole bound is answered whatever is asked for.
+        Kind::Plain | Kind::Pairs | Kind::Groups => u64::MAX,
+    };
+    let value = kept.reach(q, needed);
+    Entry {
+        set: q.0,
+        value,
+        is_whole: value < needed,
+    }
+}
+
+/// How many bits tell a set's place in its drawer: at most four entries for each set in all drawers
+/// together, and at least one a drawer.
+fn bits_of(kind: Kind, scenes: usize) -> u32
+    ensures { result ≤ 15 }
+{
+    if is_cheap(kind) {
+        return 0;
+    }
+    scenes.saturating_sub(4).min(15) as u32
+}
+
+/// Whether the bound costs too little to be kept.
+fn is_cheap(kind: Kind) -> bool {
+    match kind {
+        Kind::Plain | Kind::Pairs => true,
+        Kind::Groups | Kind::Arrivals => false,
+    }
+}

@@ -1,0 +1,137 @@
+// Stores of the bounds of the triangle, a film of three scenes of two of three actors each.
+ghost use Rattle.std.specs.Prelude.{◌≡◌};
+ghost use Rattle.strip_film.specs.Film.{LiesIn};
+ghost use Rattle.strip_bound.specs.Kept.{Keeps};
+
+use crate::bounded::Bounded;
+use crate::store::Store;
+use std::alloc::Global;
+use std::marker::Brand;
+use std::sync::Wait;
+use std::sync::atomic::{AtomicU64, Ordering};
+use std::test::Fail;
+use std::thread;
+use std::thread::Threads;
+use strip_bound::{BoundTables, Kept, static_bound, static_reach};
+use strip_film::Film;
+use strip_kind::Kind;
+use strip_mask::Mask;
+
+fn triangle(alloc: Global) -> Result<Film, Fail> {
+    let casts = Vec::from_slice(alloc, &[0b011, 0b110, 0b101])?;
+    let days = Vec::from_slice(alloc, &[1, 1, 1])?;
+    let rates = Vec::from_slice(alloc, &[1, 2, 3])?;
+    let holds = Vec::from_slice(alloc, &[1, 2, 3])?;
+    let film = Film::of(casts, days, rates, holds, Vec::new(alloc)).ok_or("within the limits")?;
+    Ok(film)
+}
+
+fn all_of(film: &Film) -> Mask
+    ensures { LiesIn film.now result.0 }
+{
+    film.keeps_limits();
+    film.all()
+}
+
+/// What a store answers of all scenes, asked for 1, for the bound and for 1 again.
+fn asked_thrice<R: Wait, N: Bounded, F: Fn(u64, u64) -> u64>(
+    rt: &R,
+    alloc: Global,
+    kept: &Kept<F>,
+) -> Result<[u64; 3], Fail>
+    requires kind { kept.now.kind ≡ N.kind }
+    requires film { kept.now.film.now ≡ N.film }
+    requires keeps { Keeps (F.pre kept.now.f) (F.post kept.now.f) kept.now.kind kept.now.film.now }
+{
+    let store: Store<N> = Store::new(alloc, kept)?;
+    let all = all_of(kept.film());
+    let first = store.reach(rt, kept, all, 1);
+    let whole = store.reach(rt, kept, all, u64::MAX);
+    Ok([first, whole, store.reach(rt, kept, all, 1)])
+}
+
+/// How often the bound is worked out by a store of this kind that is asked thrice; none where an answer is
+/// wrong.
+fn times_asked<R: Wait>(rt: &R, alloc: Global, kind: Kind) -> Result<Option<u64>, Fail> {
+    let film = triangle(alloc)?;
+    let tables = BoundTables::of(alloc, &film)?;
+    let times = AtomicU64::new(0);
+    let kept = Kept::new(&film, kind, |q, need| {
+        times.fetch_add(1, Ordering::SeqCst);
+        static_reach(&film, &tables, kind, Mask(q), need)
+    });
+    let [first, whole, again] = asked_thrice::<R, Brand, _>(rt, alloc, &kept)?;
+    let bound = static_bound(&film, &tables, kind, all_of(&film));
+    if first == 0 || first > bound || whole != bound || again > bound {
+        return Ok(None);
+    }
+    Ok(Some(times.load(Ordering::SeqCst)))
+}
+
+#[test]
+fn a_bound_is_worked_out_once(rt: HostRuntime) -> Result<(), Fail> {
+    let alloc = rt.alloc();
+    assert!(&rt; times_asked(&rt, alloc, Kind::Groups)? == Some(1));
+    assert!(&rt; times_asked(&rt, alloc, Kind::Arrivals)? == Some(2));
+    assert!(&rt; times_asked(&rt, alloc, Kind::Pairs)? == Some(3));
+    Ok(())
+}
+
+/// What a stored bound answers of a set, asked for each of these in a thread.
+fn reached<R: Threads + Wait + Sync, F: Fn(u64, u64) -> u64 + Sync>(
+    rt: &R,
+    kept: &Kept<F>,
+    set: Mask,
+    needs: Vec<u64>,
+) -> Result<Vec<u64>, Fail>
+    requires keeps { Keeps (F.pre kept.now.f) (F.post kept.now.f) kept.now.kind kept.now.film.now }
+    requires lies { LiesIn kept.now.film.now set.0 }
+{
+    let all = thread::map_vec(
+        rt,
+        needs,
+        &|need: u64| -> u64
+            requires { Keeps (F.pre kept.now.f) (F.post kept.now.f) kept.now.kind kept.now.film.now × LiesIn kept.now.film.now set.0 }
+        { kept.reach(set, need) },
+    )?;
+    Ok(all)
+}
+
+/// The same of all scenes, where the threads share a store.
+fn reached_by_store<
+    R: Threads + Wait + Sync,
+    N: Bounded + Send + Sync,
+    F: Fn(u64, u64) -> u64 + Sync,
+>(rt: &R, alloc: Global, kept: &Kept<F>, needs: Vec<u64>) -> Result<Vec<u64>, Fail>
+    requires kind { kept.now.kind ≡ N.kind }
+    requires film { kept.now.film.now ≡ N.film }
+    requires keeps { Keeps (F.pre kept.now.f) (F.post kept.now.f) kept.now.kind kept.now.film.now }
+{
+    let store: Store<N> = Store::new(alloc, kept)?;
+    let stored = Kept::new(
+        kept.film(),
+        kept.kind(),
+        |q, need| store.reach(rt, kept, Mask(q), need),
+    );
+    reached(rt, &stored, all_of(kept.film()), needs)
+}
+
+#[test]
+fn workers_share_a_store(rt: HostRuntime) -> Result<(), Fail> {
+    let alloc = rt.alloc();
+    let film = triangle(alloc)?;
+    let tables = BoundTables::of(alloc, &film)?;
+    let kind = Kind::Arrivals;
+    let kept = Kept::new(
+        &film,
+        kind,
+        |q, need| static_reach(&film, &tables, kind, Mask(q), need),
+    );
+    let needs = Vec::from_slice(alloc, &[u64::MAX, 12, u64::MAX, 1])?;
+    let all = reached_by_store::<HostRuntime, Brand, _>(&rt, alloc, &kept, needs)?;
+    let bound = static_bound(&film, &tables, kind, all_of(&film));
+    assert!(&rt; all.len() == 4);
+    assert!(&rt; all.iter().all(|value| *value <= bound));
+    assert!(&rt; all[0] == bound);
+    Ok(())
+}
