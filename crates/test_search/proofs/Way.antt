@@ -1,8 +1,9 @@
 -- A search over a hand stays on its way.
-use Rattle.std.proofs.Common.{◌≡◌, ℕ, suc, ◌<◌, ◌≤◌, Some, List, length, slice_set, All, sym, ap, ◌∙◌, subst, arith}
+use Rattle.std.proofs.Common.{◌≡◌, ℕ, suc, ◌<◌, ◌≤◌, Some, List, length, slice_set, sym, ap, ◌∙◌, subst, arith}
 use Rattle.std.proofs.lemmas.List.{length-set}
 use Rattle.strip_kind.specs.declared.kind.Kind.{Kind}
 use Rattle.strip_pay.specs.Film.{FilmData}
+use Rattle.strip_film.specs.Film.{IsFilm}
 use Rattle.strip_film.specs.Path.{PathData}
 use Rattle.strip_film.specs.Rules.{IsOpen}
 use Rattle.strip_film.specs.Shown.{CursorData}
@@ -11,7 +12,7 @@ use Rattle.strip_hand.specs.Calls.{Claims}
 use Rattle.strip_hand.specs.Hand.{HandData}
 use Rattle.strip_hand.specs.Search.{SearchData, search_rules}
 use Rattle.strip_front.specs.Front.{FrontData, task_at}
-use Rattle.strip_front.specs.Tasks.{tasks_of}
+use Rattle.strip_front.proofs.FrontFacts.{front_open}
 use Rattle.strip_front.proofs.Grown.{grow_same}
 use Rattle.strip_front.proofs.Small.{filled_grows, found_grows}
 use Rattle.strip_walk.specs.declared.found.Found.{Found}
@@ -20,7 +21,7 @@ use Rattle.strip_walk.specs.Walked.{Walks}
 use Rattle.strip_walk.proofs.Bounds.{bound_known}
 use Rattle.strip_team.specs.Team.{beginning}
 use Rattle.strip_team.proofs.Settled.{found_with}
-use Rattle.strip_team.proofs.Tasks.{may_walk_task}
+use Rattle.strip_team.proofs.Tasks.{may_walk_task, open_task}
 use Rattle.test_search.specs.Way.{IsOnItsWay}
 
 -- ---- the hand goes on
@@ -30,7 +31,8 @@ module _ (kind : Kind) (film : FilmData) (before after : HandData) (front : Fron
   -- the later hand, by the search of the earlier one
   later_way : IsOnItsWay kind film (record after { search = before.search }) front found
   later_way = record {
-    search = record { same_film = was.search.same_film; same_kind = was.search.same_kind; tasks = was.search.tasks };
+    search = was.search;
+    tasks = was.tasks;
     front_of = was.front_of;
     filled = filled_grows before after front grow was.filled;
     long = was.long;
@@ -50,17 +52,18 @@ module _ (kind : Kind) (film : FilmData) (before after : HandData) (front : Fron
       (ap (λ (h : HandData). h.search) claims.0)
 
   -- the part's task
-  tasks_same : after.search.tasks ≡ front.tasks
-  tasks_same = way_claimed.search.tasks ∙ sym was.front_of.tasks
-
   pub within : task < length front.tasks
   within =
       let count = ap (λ (h : HandData). length h.search.tasks) claims.0 in
-      omega (arith, claims.1, count, ap (λ (tasks : List PathData). length tasks) tasks_same)
+      omega (arith, claims.1, count, ap (λ (tasks : List PathData). length tasks) way_claimed.tasks)
 
-  pub may_walk : All (IsOpen (rules_of kind film)) (tasks_of (rules_of kind film)) → MayExplore after (beginning (suc task)) (task_at front task)
-  may_walk all = may_walk_task kind film front task was.front_of.tasks within all after (way_claimed.search.same_film, way_claimed.search.same_kind)
-      way_claimed.search.tasks claims.3
+  pub task_open : IsFilm film → IsOpen (rules_of kind film) (task_at front task)
+  task_open is = open_task kind film front task within (front_open kind film front is was.front_of)
+
+  pub may_walk : IsFilm film → MayExplore after (beginning (suc task)) (task_at front task)
+  may_walk is =
+      may_walk_task kind film front task within (front_open kind film front is was.front_of) after (way_claimed.search.same_film, way_claimed.search.same_kind)
+      way_claimed.tasks claims.3
 
 -- ---- a task is walked
 
@@ -78,6 +81,7 @@ module _ (kind : Kind) (film : FilmData) (before after : HandData) (front : Fron
   pub way_walked : IsOnItsWay kind film after front (slice_set found task answer.bound)
   way_walked = record {
     search = then_way.search;
+    tasks = then_way.tasks;
     front_of = then_way.front_of;
     filled = then_way.filled;
     long = length-set found task answer.bound ∙ then_way.long;

@@ -7,17 +7,12 @@ use Rattle.strip_hand.specs.Hand.{HandData}
 use Rattle.strip_front.specs.Calls.{AreFound}
 use Rattle.strip_front.specs.Filled.{IsFilled}
 use Rattle.strip_front.specs.Front.{FrontData, IsFrontOf}
-use Rattle.strip_front.specs.Tasks.{tasks_of}
+use Rattle.strip_team.specs.Team.{IsSearchBy}
 
--- the hand's search is one of the film by its tasks, with static bounds of this kind
-pub record IsSearchBy (kind : Kind) (film : FilmData) (hand : HandData) : Type 0 where
-  pub same_film : hand.search.film ≡ film
-  pub same_kind : hand.search.kind ≡ kind
-  pub tasks : hand.search.tasks ≡ tasks_of (rules_of kind film)
-
--- the front was gone down, and what was found of each task is at most what is known of what remains after it
+-- the front of its tasks was gone down, and what was found of each task is at most what is known of what remains after it
 pub record IsOnItsWay (kind : Kind) (film : FilmData) (hand : HandData) (front : FrontData) (found : List ℕ) : Type 0 where
-  pub search : IsSearchBy kind film hand
+  pub search : IsSearchBy kind film hand.search
+  pub tasks : hand.search.tasks ≡ front.tasks
   pub front_of : IsFrontOf (rules_of kind film) front
   pub filled : IsFilled hand front
   pub long : length found ≡ length front.tasks

@@ -44,13 +44,13 @@ fn without_notes<F: Fn(u64, u64) -> u64>(
     let film = kept.film();
     film.keeps_limits();
     tasks_are_starts();
-    let mut front = layers(alloc, kept)?;
+    let mut front = layers(alloc, kept, 2)?;
     let limits = Limits {
         workers: 1,
         cap: CAP,
         entries: ENTRIES,
     };
-    let world = World::new(alloc, film, kept.kind(), start, &front.tasks, &limits)?;
+    let world = World::new(alloc, film, kept.kind(), start, front.tasks(), &limits)?;
     let mut hand = Forgetful {
         world,
         last_note: None,

@@ -1,48 +1,81 @@
 // The tasks that a search of a film is parted into.
-use crate::films::ring;
+ghost use Rattle.std.specs.Prelude.{◌≤◌};
+
+use crate::films::{film, ring};
 use std::alloc::Global;
 use std::test::Fail;
 use strip_bound::{BoundTables, Kept, static_reach};
+use strip_film::Film;
 use strip_front::{Front, layers};
 use strip_kind::Kind;
 use strip_mask::Mask;
 
 /// Whether the front's tasks are the paths along these scenes, in this order.
-fn are_along(front: &Front, scenes: &[[u8; 2]]) -> bool {
-    if front.tasks.len() != scenes.len() {
+fn are_along(front: &Front, scenes: &[&[u8]]) -> bool {
+    if front.tasks().len() != scenes.len() {
         return false;
     }
-    for (task, two) in front.tasks.iter().zip(scenes.iter()) {
-        if task.scenes() != two.as_slice() {
+    for (task, along) in front.tasks().iter().zip(scenes.iter()) {
+        if task.scenes() != *along {
             return false;
         }
     }
     true
 }
 
-/// Whether the tasks of the ring, with static bounds of this kind, are the paths along these scenes.
-fn has_tasks(alloc: Global, kind: Kind, scenes: &[[u8; 2]]) -> Result<bool, Fail> {
-    let film = ring(alloc)?;
-    let tables = BoundTables::of(alloc, &film)?;
-    let kept = Kept::new(&film, kind, |q, need| {
-        static_reach(&film, &tables, kind, Mask(q), need)
+/// Whether the tasks of the film, of so many scenes at most and with static bounds of this kind, are the
+/// paths along these scenes.
+fn has_tasks(
+    alloc: Global,
+    film: &Film,
+    kind: Kind,
+    most: usize,
+    scenes: &[&[u8]],
+) -> Result<bool, Fail>
+    requires { (2 ≤ most) × (most ≤ 4) }
+{
+    let tables = BoundTables::of(alloc, film)?;
+    let kept = Kept::new(film, kind, |q, need| {
+        static_reach(film, &tables, kind, Mask(q), need)
     });
-    let front = layers(alloc, &kept)?;
+    let front = layers(alloc, &kept, most)?;
     Ok(are_along(&front, scenes))
 }
 
 // The path of the scenes 1 and 0 pays less than that of 0 and 1, and stands in its place.
+static PAIRS: [&'static [u8]; 6] = [&[1, 0], &[0, 2], &[0, 3], &[1, 2], &[1, 3], &[2, 3]];
+
+// The pairs pay 10, 15, 13, 9, 13 and 14. Of 1, 0, 2 at 19 and 1, 2, 0 at 17, of 1, 0, 3 at 19 and 0, 3, 1 at
+// 19, of 0, 2, 3 at 25 and 0, 3, 2 at 19 the one that pays less stands in the first one's place; 1, 2, 3 pays 17.
+static TRIPLES: [&'static [u8]; 4] = [&[1, 2, 0], &[1, 0, 3], &[0, 3, 2], &[1, 2, 3]];
+
+// With the last scene the triples pay 24, 24, 22 and 22: the third is the first of the cheapest.
+static WHOLE: [&'static [u8]; 1] = [&[0, 3, 2, 1]];
+
 #[test]
 fn the_ring_has_six_tasks(rt: HostRuntime) -> Result<(), Fail> {
-    let scenes = [[1, 0], [0, 2], [0, 3], [1, 2], [1, 3], [2, 3]];
-    assert!(&rt; has_tasks(rt.alloc(), Kind::Plain, &scenes)?);
+    let alloc = rt.alloc();
+    assert!(&rt; has_tasks(alloc, &ring(alloc)?, Kind::Plain, 2, &PAIRS)?);
+    Ok(())
+}
+
+#[test]
+fn tasks_have_up_to_four_scenes(rt: HostRuntime) -> Result<(), Fail> {
+    let alloc = rt.alloc();
+    let ring = ring(alloc)?;
+    assert!(&rt; has_tasks(alloc, &ring, Kind::Plain, 3, &TRIPLES)?);
+    assert!(&rt; has_tasks(alloc, &ring, Kind::Plain, 4, &WHOLE)?);
+    let one_scene = film(alloc, &[0b1], &[1], &[1])?;
+    assert!(&rt; has_tasks(alloc, &one_scene, Kind::Plain, 4, &[&[0]])?);
     Ok(())
 }
 
 // The order of another program of the same rules.
+static BY_PROMISE: [&'static [u8]; 6] = [&[0, 3], &[1, 2], &[1, 0], &[2, 3], &[0, 2], &[1, 3]];
+
 #[test]
 fn tasks_that_promise_more_come_first(rt: HostRuntime) -> Result<(), Fail> {
-    let scenes = [[0, 3], [1, 2], [1, 0], [2, 3], [0, 2], [1, 3]];
-    assert!(&rt; has_tasks(rt.alloc(), Kind::Groups, &scenes)?);
+    let alloc = rt.alloc();
+    assert!(&rt; has_tasks(alloc, &ring(alloc)?, Kind::Groups, 2, &BY_PROMISE)?);
     Ok(())
 }

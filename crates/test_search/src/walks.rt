@@ -5,14 +5,14 @@ ghost use Rattle.strip_lines.specs.Lines.{rules_of};
 ghost use Rattle.strip_front.specs.Front.{IsEmptyFront};
 ghost use Rattle.strip_front.specs.Shown.{front_data};
 ghost use Rattle.strip_hand.specs.Calls.{Claims};
-ghost use Rattle.test_search.specs.Way.{IsOnItsWay, IsSearchBy};
+ghost use Rattle.test_search.specs.Way.{IsOnItsWay};
+ghost use Rattle.strip_team.specs.Team.{IsSearchBy};
 ghost use Rattle.strip_memo.specs.Memo.{IsMemo};
 
 use std::alloc::Global;
 use std::test::Fail;
 use strip_bound::Kept;
 use strip_film::{Cursor, Running};
-use strip_front::laws::tasks_are_open;
 use strip_front::{Front, close_up, go_down};
 use strip_hand::Hand;
 use strip_memo::Memo;
@@ -27,7 +27,8 @@ pub(crate) fn search<H: Hand, F: Fn(u64, u64) -> u64>(
 ) -> Result<u64, Fail>
     requires sound { H.is_sound hand.old }
     requires keeps { Keeps (F.pre kept.now.f) (F.post kept.now.f) kept.now.kind kept.now.film.now }
-    requires search { IsSearchBy kept.now.kind kept.now.film.now (H.shows hand.old) }
+    requires search { IsSearchBy kept.now.kind kept.now.film.now (H.shows hand.old).search }
+    requires tasks { (H.shows hand.old).search.tasks ≡ (front_data front.old).tasks }
     requires front { IsEmptyFront (rules_of kept.now.kind kept.now.film.now) (front_data front.old) }
     ensures sound { H.is_sound hand.new }
     ensures home { H.home hand.new ≡ H.home hand.old }
@@ -47,7 +48,8 @@ fn begin<H: Hand, F: Fn(u64, u64) -> u64>(
 ) -> Result<Vec<u64>, Fail>
     requires sound { H.is_sound hand.old }
     requires keeps { Keeps (F.pre kept.now.f) (F.post kept.now.f) kept.now.kind kept.now.film.now }
-    requires search { IsSearchBy kept.now.kind kept.now.film.now (H.shows hand.old) }
+    requires search { IsSearchBy kept.now.kind kept.now.film.now (H.shows hand.old).search }
+    requires tasks { (H.shows hand.old).search.tasks ≡ (front_data front.old).tasks }
     requires front { IsEmptyFront (rules_of kept.now.kind kept.now.film.now) (front_data front.old) }
     ensures sound { H.is_sound hand.new }
     ensures home { H.home hand.new ≡ H.home hand.old }
@@ -58,7 +60,7 @@ fn begin<H: Hand, F: Fn(u64, u64) -> u64>(
         return Err("the front first".into());
     }
     go_down(kept, hand, &mut Cursor::of(0), front)?;
-    let found = vec![in alloc; 0; front.tasks.len()]?;
+    let found = vec![in alloc; 0; front.tasks().len()]?;
     Ok(found)
 }
 
@@ -91,7 +93,7 @@ fn take_tasks<H: Hand, F: Fn(u64, u64) -> u64>(
     ensures way { IfOk result (λ _. IsOnItsWay kept.now.kind kept.now.film.now (H.shows hand.new) (front_data front.now) found.new.items) }
 {
     let mut memo = Memo::new(alloc, kept)?;
-    for _ in 0..front.tasks.len() {
+    for _ in 0..front.tasks().len() {
         take_task(kept, hand, front, found, &mut memo)?;
     }
     Ok(())
@@ -115,7 +117,6 @@ fn take_task<H: Hand, F: Fn(u64, u64) -> u64>(
     ensures way { IfOk result (λ _. IsOnItsWay kept.now.kind kept.now.film.now (H.shows hand.new) (front_data front.now) found.new.items) }
 {
     kept.film().keeps_limits();
-    tasks_are_open();
     let part = claimed(hand)?;
     if part == 0 {
         return Err("a task after the front".into());
@@ -123,7 +124,7 @@ fn take_task<H: Hand, F: Fn(u64, u64) -> u64>(
     let task = part as usize - 1;
     if front.wanted[task] {
         let mut cursor = Cursor::of(part);
-        let mut running = Running::of(kept.film(), &front.tasks[task]);
+        let mut running = Running::of(kept.film(), &front.tasks()[task]);
         found[task] = explore(kept, hand, &mut cursor, &mut running, memo)?.bound;
     }
     Ok(())

@@ -42,8 +42,8 @@ fn world<F: Fn(u64, u64) -> u64>(
         cap,
         entries: 64,
     };
-    let front = layers(alloc, kept)?;
-    let world = World::new(alloc, film, kept.kind(), start, &front.tasks, &limits)?;
+    let front = layers(alloc, kept, 2)?;
+    let world = World::new(alloc, film, kept.kind(), start, front.tasks(), &limits)?;
     Ok(world)
 }
 

@@ -1,5 +1,5 @@
 -- Paths of the front that may be enlisted, and a line that may be raised.
-use Rattle.std.proofs.Common.{◌≡◌, ◌≢◌, ℕ, zero, suc, ◌+◌, ◌<◌, ◌≤◌, min, true, Some, List, [], ◌∷◌, ◌++◌, length, Contains, inl, inr, refl, sym, ap, ◌∙◌, subst, arith}
+use Rattle.std.proofs.Common.{◌≡◌, ◌≢◌, ℕ, zero, suc, ◌+◌, ◌<◌, ◌≤◌, true, Some, List, [], ◌∷◌, ◌++◌, length, All, Contains, inl, inr, refl, sym, ap, ◌∙◌, subst, arith}
 use Rattle.std.proofs.lemmas.Bool.{lt-ltb}
 use Rattle.std.proofs.lemmas.List.Elements.{Contains-append_cases}
 use Rattle.strip_mask.specs.Set.{has, without}
@@ -26,7 +26,7 @@ use Rattle.strip_lines.specs.Lines.{IsJustified, known, line_at, rules_of}
 use Rattle.strip_lines.proofs.Grown.{known-static}
 use Rattle.strip_film.specs.declared.shared.Line.{Line as LineOf}
 use Rattle.strip_hand.specs.Hand.{no_path_yet}
-use Rattle.strip_hand.specs.Search.{GoesBy, SearchData, search_rules}
+use Rattle.strip_hand.specs.Search.{AreStarts, GoesBy, SearchData, search_rules}
 use Rattle.strip_book.specs.View.{ViewData, record_at}
 use Rattle.strip_book.specs.Rule.{first_view}
 use Rattle.strip_book.specs.Pass.{MayEnlist, MayRaise}
@@ -60,14 +60,13 @@ module _ (kind : Kind) (film : FilmData) (view : ViewData) (by : GoesBy kind fil
     static_there = static ∙ ap (λ (r : Rules). r.bound path.rest) same_rules
 
     -- the path without a scene
-    pub may_enlist_whole : record_at 0 view.entries ≡ Some no_path_yet → path.scenes ≡ [] → 0 < length film.casts → MayEnlist view 0 path number
-    may_enlist_whole stands scenes long = record {
+    pub may_enlist_whole : record_at 0 view.entries ≡ Some no_path_yet → path.scenes ≡ [] → 2 ≤ depth_of view.search → MayEnlist view 0 path number
+    may_enlist_whole stands scenes deep = record {
       next = record {
         entry = no_path_yet;
         stands = stands;
         is_open = subst (λ (r : Rules). IsOpen r path) same_rules (is, subst (AreFirsts (open_firsts film) (all_scenes film)) (sym scenes) tt);
-        lies = lt-ltb (length path.scenes) (min 2 (length view.search.film.casts))
-            (omega (arith, ap (λ (xs : List ℕ). length xs) scenes, long, ap (λ (f : FilmData). length f.casts) by.0));
+        lies = lt-ltb (length path.scenes) (depth_of view.search) (omega (arith, ap (λ (xs : List ℕ). length xs) scenes, deep));
         later = tt;
         some = some_;
         below = omega (arith, below, static_there, start);
@@ -77,14 +76,13 @@ module _ (kind : Kind) (film : FilmData) (view : ViewData) (by : GoesBy kind fil
 
     -- the path of one scene, behind that without one
     pub may_enlist_one : (whole : PathData) (count first : ℕ) → record_at 0 view.entries ≡ Some (record { last = Some whole; number = count }) → whole.scenes ≡ [] → path.scenes ≡ first ∷ []
-        → has (open_firsts film (all_scenes film)) first ≡ true → 2 ≤ length film.casts → MayEnlist view 0 path number
-    may_enlist_one whole count first stands none scenes opens long = record {
+        → has (open_firsts film (all_scenes film)) first ≡ true → 2 ≤ depth_of view.search → MayEnlist view 0 path number
+    may_enlist_one whole count first stands none scenes opens deep = record {
       next = record {
         entry = record { last = Some whole; number = count };
         stands = stands;
         is_open = subst (λ (r : Rules). IsOpen r path) same_rules (is, subst (AreFirsts (open_firsts film) (all_scenes film)) (sym scenes) (opens, tt));
-        lies = lt-ltb (length path.scenes) (min 2 (length view.search.film.casts))
-            (omega (arith, ap (λ (xs : List ℕ). length xs) scenes, long, ap (λ (f : FilmData). length f.casts) by.0));
+        lies = lt-ltb (length path.scenes) (depth_of view.search) (omega (arith, ap (λ (xs : List ℕ). length xs) scenes, deep));
         later = subst (λ (xs : List ℕ). IsEarlier (search_rules view.search) (all_scenes view.search.film) xs path.scenes) (sym none)
             (subst (IsEarlier (search_rules view.search) (all_scenes view.search.film) []) (sym scenes) tt);
         some = some_;
@@ -113,6 +111,21 @@ each_more P done x each one i there = elim (Contains-append_cases done (x ∷ []
     | inr none ↦ absurd (contains_none i none)
   ]
 ]
+
+-- ---- a search whose one task is a path of its film
+
+all_of_one : {X : Type 0} (P : X → Type 0) (x : X) → P x → All P (x ∷ [])
+all_of_one P x holds zero d within = holds
+all_of_one P x holds (suc k) d within = absurd (omega (arith, within))
+
+pub one_start : (film : FilmData) (kind : Kind) (cap start : ℕ) (task : PathData) → IsPath film task
+    → AreStarts (record { film = film; kind = kind; cap = cap; start = start; tasks = task ∷ [] })
+one_start film kind cap start task is = record {
+  paths = all_of_one (IsPath film) task is;
+  long = all_of_one (λ path. length path.scenes ≡ length task.scenes) task refl;
+  apart = λ i j d lt within. absurd (omega (arith, lt, within));
+  few = omega arith;
+}
 
 -- ---- parts whose task is the path without a scene
 

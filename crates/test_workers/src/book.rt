@@ -10,10 +10,11 @@ ghost use Rattle.strip_bound.specs.Kept.{Keeps};
 ghost use Rattle.strip_rule.specs.Rule.{open_firsts};
 ghost use Rattle.strip_lines.specs.Lines.{line_at};
 ghost use Rattle.strip_hand.specs.Hand.{no_path_yet};
-ghost use Rattle.strip_hand.specs.Search.{GoesBy};
+ghost use Rattle.strip_hand.specs.Search.{GoesBy, depth_of};
 ghost use Rattle.strip_book.specs.Pass.{IsPassOf, known};
 ghost use Rattle.strip_book.specs.View.{record_at};
 
+use crate::least::task_of_two;
 use std::alloc::Global;
 use std::test::Fail;
 use strip_book::{Book, BookPass};
@@ -51,6 +52,7 @@ pub(crate) fn enlist_two<F: Fn(u64, u64) -> u64>(
     requires pass { IsPassOf book.now pass.old }
     requires goes_by { GoesBy kept.now.kind kept.now.film.now (known pass.old).search }
     requires start { (known pass.old).search.start ≡ 14 }
+    requires deep { 2 ≤ depth_of (known pass.old).search }
     requires stands { record_at 0 (known pass.old).entries ≡ Some no_path_yet }
     ensures pass { IsPassOf book.now pass.new }
     ensures weight { (known pass.new).weight ≡ (known pass.old).weight }
@@ -63,7 +65,7 @@ pub(crate) fn enlist_two<F: Fn(u64, u64) -> u64>(
     let whole = Path::start(film);
     let all = whole.rest();
     let bound = kept.at(all);
-    if all.is_empty() || bound >= 14 || film.scenes() < 2 || first >= 64 {
+    if all.is_empty() || bound >= 14 || first >= 64 {
         return None;
     }
     let firsts = open_firsts(film, all);
@@ -127,12 +129,13 @@ pub(crate) fn raise_whole<F: Fn(u64, u64) -> u64>(
     true
 }
 
-/// The lines of a book with room for one, in which two paths are enlisted and the first one's line is
+/// The lines of a book with room for one and a task of two scenes, in whose front two paths are enlisted and the first one's line is
 /// raised to 13; and whether the second was told that the lines are spent.
 fn lines_of_one<F: Fn(u64, u64) -> u64>(alloc: Global, kept: &Kept<F>) -> Result<Vec<Line>, Fail>
     requires { Keeps (F.pre kept.now.f) (F.post kept.now.f) kept.now.kind kept.now.film.now }
 {
-    let (book, mut pass) = Book::new(alloc, kept.film(), kept.kind(), 14, &[], 1)?;
+    let task = task_of_two(kept.film()).ok_or("a task")?;
+    let (book, mut pass) = Book::new(alloc, kept.film(), kept.kind(), 14, &[task], 1)?;
     pass.begin(&book, 0);
     let two = enlist_two(kept, &book, &mut pass, 0).ok_or("a candidate")?;
     if two.line != 0 || two.then != (Listed::Spent { lines: 1 }) {

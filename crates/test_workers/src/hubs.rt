@@ -1,19 +1,19 @@
 // What the hub of one worker finds of what that of another did: the line of all scenes, which each first
 // step justifies at 60, and the least cost. The start path pays 70, and the other 60.
-ghost use Rattle.std.specs.Prelude.{◌≡◌, ℕ, suc, None, IfOk};
+ghost use Rattle.std.specs.Prelude.{◌≡◌, ◌≤◌, ℕ, suc, None, IfOk};
 ghost use Rattle.strip_film.specs.Film.{all_scenes};
 ghost use Rattle.strip_film.specs.Path.{IsComplete};
 ghost use Rattle.strip_film.specs.Shown.{cursor_data, path_data};
 ghost use Rattle.strip_bound.specs.Kept.{Keeps};
 ghost use Rattle.strip_hand.specs.Calls.{StandsAt};
 ghost use Rattle.strip_hand.specs.Hand.{Knows};
-ghost use Rattle.strip_hand.specs.Search.{GoesBy};
+ghost use Rattle.strip_hand.specs.Search.{GoesBy, depth_of};
 ghost use Rattle.strip_book.specs.Pass.{known, table_of};
 ghost use Rattle.strip_crew.specs.Crew.{ArePassesOf, Weigh};
 ghost use Rattle.test_workers.specs.Hubs.{HasWhole};
 
 use crate::book::each_first_reaches;
-use crate::least::path;
+use crate::least::{path, task_of_two};
 use std::alloc::Global;
 use std::marker::Brand;
 use std::sync::Wait;
@@ -92,6 +92,7 @@ fn enlist_whole<H: Hand, F: Fn(u64, u64) -> u64>(
     requires sound { H.is_sound hand.old }
     requires keeps { Keeps (F.pre kept.now.f) (F.post kept.now.f) kept.now.kind kept.now.film.now }
     requires goes_by { GoesBy kept.now.kind kept.now.film.now (H.shows hand.old).search }
+    requires deep { 2 ≤ depth_of (H.shows hand.old).search }
     requires front { cursor_data cursor.old ≡ record { task = 0; last = None } }
     requires stands { StandsAt (H.shows hand.old) (cursor_data cursor.old) }
     ensures sound { H.is_sound hand.new }
@@ -139,6 +140,7 @@ fn note_whole<H: Hand, F: Fn(u64, u64) -> u64>(kept: &Kept<F>, hand: &mut H) -> 
     requires sound { H.is_sound hand.old }
     requires keeps { Keeps (F.pre kept.now.f) (F.post kept.now.f) kept.now.kind kept.now.film.now }
     requires goes_by { GoesBy kept.now.kind kept.now.film.now (H.shows hand.old).search }
+    requires deep { 2 ≤ depth_of (H.shows hand.old).search }
     ensures sound { H.is_sound hand.new }
     ensures search { IfOk result (λ _. (H.shows hand.new).search ≡ (H.shows hand.old).search) }
 {
@@ -165,6 +167,7 @@ fn take_turns<H: Hand, F: Fn(u64, u64) -> u64>(
     requires sound { (H.is_sound first.old) × (H.is_sound second.old) }
     requires keeps { Keeps (F.pre kept.now.f) (F.post kept.now.f) kept.now.kind kept.now.film.now }
     requires goes_by { GoesBy kept.now.kind kept.now.film.now (H.shows first.old).search }
+    requires deep { 2 ≤ depth_of (H.shows first.old).search }
     requires same { (H.shows second.old).search ≡ (H.shows first.old).search }
     requires path { IsComplete kept.now.film.now (path_data path.now) }
 {
@@ -196,6 +199,7 @@ fn share<N: Named, R: Wait, F: Fn(u64, u64) -> u64>(
     requires passes { ArePassesOf least.now book.now passes }
     requires weight { (rest : ℕ) × Weigh (suc (suc rest)) passes }
     requires goes_by { GoesBy kept.now.kind kept.now.film.now (known passes.lines).search }
+    requires deep { 2 ≤ depth_of (known passes.lines).search }
     requires path { IsComplete kept.now.film.now (path_data path.now) }
 {
     let HubParts {
@@ -212,7 +216,8 @@ fn share<N: Named, R: Wait, F: Fn(u64, u64) -> u64>(
     take_turns(kept, &mut first, &mut second, path)
 }
 
-/// What two workers are told in a search that begins with a path and has the front as its one part.
+/// What two workers are told in a search that begins with a path and has the front and one task of two
+/// scenes.
 fn shared<R: Wait, F: Fn(u64, u64) -> u64>(
     rt: &R,
     alloc: Global,
@@ -226,8 +231,9 @@ fn shared<R: Wait, F: Fn(u64, u64) -> u64>(
 {
     let film = kept.film();
     film.keeps_limits();
-    let (least, told) = Least::new(alloc, film, start, 1)?;
-    let (book, lines) = Book::new(alloc, film, kept.kind(), start.paid(), &[], 1)?;
+    let task = task_of_two(film).ok_or("a task")?;
+    let (least, told) = Least::new(alloc, film, start, 2)?;
+    let (book, lines) = Book::new(alloc, film, kept.kind(), start.paid(), &[task], 1)?;
     let passes = HubParts { told, lines };
     share::<Brand, R, F>(rt, alloc, kept, &least, &book, passes, path)
 }

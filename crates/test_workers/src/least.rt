@@ -1,6 +1,6 @@
 // The least cost and the next part, as several workers use them.
-ghost use Rattle.std.specs.Prelude.{◌<◌, All, IfOk, IfSome};
-ghost use Rattle.strip_film.specs.Path.{IsComplete};
+ghost use Rattle.std.specs.Prelude.{◌≡◌, ◌<◌, All, IfOk, IfSome, length};
+ghost use Rattle.strip_film.specs.Path.{IsComplete, IsPath};
 ghost use Rattle.strip_film.specs.Shown.{path_data};
 ghost use Rattle.strip_least.specs.Pass.{IsPassOf, known};
 
@@ -44,6 +44,23 @@ pub(crate) fn path(film: &Film, scenes: &[u32]) -> Result<Path, Fail>
 {
     let path = complete(film, scenes).ok_or("a complete path")?;
     Ok(path)
+}
+
+/// The path of the first scene and then the second, if they can be shot so: a task of two scenes.
+pub(crate) fn task_of_two(film: &Film) -> Option<Path>
+    ensures path { IfSome result (λ task. IsPath film.now (path_data task)) }
+    ensures two { IfSome result (λ task. length (path_data task).scenes ≡ 2) }
+{
+    laws::what_remains_lies_in_the_film();
+    let start = Path::start(film);
+    if !ready(film, start.rest()).has(0) {
+        return None;
+    }
+    let one = start.extend(film, 0);
+    if !ready(film, one.rest()).has(1) {
+        return None;
+    }
+    Some(one.extend(film, 1))
 }
 
 // The second pass is told of the first one's path before anything is joined.

@@ -1,8 +1,10 @@
-// Races of several workers on the ring, a film of four scenes and four actors, each of whom shares a scene
-// with the one before and one with the next, by plain bounds. The actors get 20 for the days that they
-// work. The order of the rows costs 28, since the fourth actor waits two days. Where the first one alone
-// waits he waits two, at 1 each, and an order costs 22. A day of any other costs 2 or more, and in each
-// order somebody waits, so that none costs less.
+// Races of several workers on the ring, a film of five scenes and five actors, each of whom shares a scene
+// with the one before and one with the next, by plain bounds. The actors get 30 for the days that they
+// work. The order of the rows costs 45, since the fifth actor waits three days, at 5 each. Where the first
+// one alone waits he waits three, at 1 each, and an order costs 33. Between two days that follow one another
+// two actors or more have one scene on either side, as the ring has two ways from the scenes before to those
+// behind. So the distances of the actors' scenes add up to eight days or more, of which five don't make
+// anybody wait; and each of the other three costs 1 or more, so that no order costs less.
 ghost use Rattle.std.specs.Prelude.{◌≤◌};
 
 use crate::least::path;
@@ -20,10 +22,10 @@ use strip_race::Limits;
 use strip_team::{Ended, Gate, OpenGate};
 
 fn ring(alloc: Global) -> Result<Film, Fail> {
-    let casts = Vec::from_slice(alloc, &[0b1001, 0b0011, 0b0110, 0b1100])?;
-    let days = Vec::from_slice(alloc, &[1, 1, 1, 1])?;
-    let rates = Vec::from_slice(alloc, &[1, 2, 3, 4])?;
-    let holds = Vec::from_slice(alloc, &[1, 2, 3, 4])?;
+    let casts = Vec::from_slice(alloc, &[0b10001, 0b00011, 0b00110, 0b01100, 0b11000])?;
+    let days = Vec::from_slice(alloc, &[1, 1, 1, 1, 1])?;
+    let rates = Vec::from_slice(alloc, &[1, 2, 3, 4, 5])?;
+    let holds = Vec::from_slice(alloc, &[1, 2, 3, 4, 5])?;
     let film = Film::of(casts, days, rates, holds, Vec::new(alloc)).ok_or("within the limits")?;
     Ok(film)
 }
@@ -41,7 +43,7 @@ pub(crate) fn raced<R: Threads + Wait + Sync, G: Gate>(
     requires cap { (1 ≤ cap) × (cap ≤ 16777216) }
 {
     let film = ring(alloc)?;
-    let start = path(&film, &[0, 1, 2, 3])?;
+    let start = path(&film, &[0, 1, 2, 3, 4])?;
     let tables = BoundTables::of(alloc, &film)?;
     let kept = Kept::new(
         &film,
@@ -63,7 +65,7 @@ fn is_won<R: Threads + Wait + Sync>(rt: &R, alloc: Global, workers: u32) -> Resu
     requires { (1 ≤ workers) × (workers ≤ 64) }
 {
     let ended = raced(rt, alloc, workers, 1000, &OpenGate)?;
-    Ok(!ended.spent && ended.cost == 22 && ended.bound == 22)
+    Ok(!ended.spent && ended.cost == 33 && ended.bound == 33)
 }
 
 /// Whether a race of so many workers runs out where so few lines may be made that they don't prove the
@@ -78,7 +80,7 @@ fn runs_out<R: Threads + Wait + Sync>(
     requires cap { (1 ≤ cap) × (cap ≤ 16777216) }
 {
     let ended = raced(rt, alloc, workers, cap, &OpenGate)?;
-    Ok(ended.spent && ended.held == u64::from(cap) && ended.bound <= 22 && ended.cost >= 22)
+    Ok(ended.spent && ended.held == u64::from(cap) && ended.bound <= 33 && ended.cost >= 33)
 }
 
 #[test]
@@ -89,14 +91,15 @@ fn a_race_ends_with_the_least_cost(rt: HostRuntime) -> Result<(), Fail> {
     Ok(())
 }
 
-// The front makes five lines, so that with one it is cut short, and with five the workers begin and can
-// make none.
+// Each path with fewer scenes than a task gets a line, one for each set that can remain. Two workers have
+// tasks of three scenes and 1 + 5 + 10 lines before them, and 64 tasks of four scenes and 10 lines more. So
+// with one line the front is cut short, and with as many as it makes the workers begin and can make none.
 #[test]
 fn a_race_runs_out_of_lines(rt: HostRuntime) -> Result<(), Fail> {
     let alloc = rt.alloc();
     assert!(&rt; runs_out(&rt, alloc, 2, 1)?);
     assert!(&rt; runs_out(&rt, alloc, 64, 1)?);
-    assert!(&rt; runs_out(&rt, alloc, 2, 5)?);
-    assert!(&rt; runs_out(&rt, alloc, 64, 5)?);
+    assert!(&rt; runs_out(&rt, alloc, 2, 16)?);
+    assert!(&rt; runs_out(&rt, alloc, 64, 26)?);
     Ok(())
 }

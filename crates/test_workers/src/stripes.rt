@@ -5,6 +5,7 @@ ghost use Rattle.strip_hand.specs.Hand.{Knows};
 ghost use Rattle.strip_book.specs.Pass.{IsPassOf, known, table_of};
 
 use crate::book::{enlist_two, triangle};
+use crate::least::task_of_two;
 use std::alloc::Global;
 use std::marker::Brand;
 use std::sync::Wait;
@@ -56,7 +57,8 @@ fn ask_for_all<R: Wait, F: Fn(u64, u64) -> u64>(
     requires { Keeps (F.pre kept.now.f) (F.post kept.now.f) kept.now.kind kept.now.film.now }
 {
     let film = kept.film();
-    let (book, mut pass) = Book::new(alloc, film, kept.kind(), 14, &[], 1)?;
+    let task = task_of_two(film).ok_or("a task")?;
+    let (book, mut pass) = Book::new(alloc, film, kept.kind(), 14, &[task], 1)?;
     pass.begin(&book, 0);
     let two = enlist_two(kept, &book, &mut pass, 0).ok_or("a candidate")?;
     film.keeps_limits();

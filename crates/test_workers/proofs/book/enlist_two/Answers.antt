@@ -9,7 +9,7 @@ use Rattle.strip_film.specs.Shown.{path_data}
 use Rattle.strip_film.proofs.Paths.{rest_lies}
 use Rattle.strip_bound.specs.Bounds.{bound}
 use Rattle.strip_rule.specs.Rule.{open_firsts}
-use Rattle.strip_hand.specs.Search.{SearchData}
+use Rattle.strip_hand.specs.Search.{SearchData, depth_of}
 use Rattle.test_workers.proofs.Front.{may_enlist_one, may_enlist_whole}
 use Rattle.test_workers.proofs.book.enlist_two.Goals as goal
 
@@ -44,7 +44,7 @@ enlist-requires-clause-may g c =
     (omega (arith, paid, c.if-bound-ge14.false))
     c.requires.stands
     (ap (λ (p : PathData). p.scenes) c.start-whole.ensures.start)
-    (subst (λ (f : FilmData). 0 < length f.casts) c.film-film.ensures c.keeps_limits.ensures.scene_count.0)
+    c.requires.deep
 
 pub extend-path-requires-clause-path : goal.extend-path-requires-clause-path
 extend-path-requires-clause-path g c = c.start-whole.ensures.path
@@ -74,4 +74,4 @@ enlist-then-requires-clause-may g c =
     (path_data c.start-whole.result) _ c.args.first made.counted.is none
     (ap (λ (p : PathData). p.scenes) c.extend-path.ensures.extended ∙ ap (λ (xs : List ℕ). xs ++ c.args.first ∷ []) none)
     (subst (λ (f : FilmData). has (open_firsts f (all_scenes f)) c.args.first ≡ true) c.film-film.ensures opens)
-    (subst (λ (f : FilmData). 2 ≤ length f.casts) c.film-film.ensures (omega (arith, c.if-scenes-lt2.false, c.scenes.ensures)))
+    (subst (λ (s : SearchData). 2 ≤ depth_of s) (sym made.stays.search) c.requires.deep)
