@@ -36,5 +36,6 @@ done << 'FILMS'
 5 24 12 arrivals
 5 28 12 arrivals
 5 32 12 arrivals
-3 20 12 groups
+7 18 14 groups
+9 22 10 groups
 FILMS
