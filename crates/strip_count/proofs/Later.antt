@@ -48,7 +48,7 @@ module _ (rules : Rules) where
 
 -- ---- facts on tests
 
-mark_two : (a q b : Bool) → (a ≡ true → b ≡ true) → (q ≡ true → b ≡ true) → (q ≡ true → a ≡ false) → mark a + mark q ≤ mark b
+pub mark_two : (a q b : Bool) → (a ≡ true → b ≡ true) → (q ≡ true → b ≡ true) → (q ≡ true → a ≡ false) → mark a + mark q ≤ mark b
 mark_two a true b first second apart =
     let none : mark a ≡ 0 = ap mark (apart refl) in let whole : mark b ≡ 1 = ap mark (second refl) in omega (arith, none, whole)
 mark_two a false b first second apart = (let le : mark a ≤ mark b = mark_le a b first in omega (arith, le))

@@ -6,3 +6,4 @@ pub mod Later
 pub mod Shares
 pub mod Rows
 pub mod Lesser
+pub mod Apart

@@ -1,5 +1,5 @@
 //! Laws of the definitions. Each function does nothing: its contract is the law.
-ghost use Rattle.std.specs.Prelude.{◌≡◌, ◌≢◌, ◌↔◌, ℕ, suc, ◌+◌, ◌*◌, ◌<◌, ◌≤◌, ◌==◌, ◌⊎◌, nat_eq, Bool, true, false, Option, Some, List, [], ◌∷◌, ◌++◌, count_by, length};
+ghost use Rattle.std.specs.Prelude.{◌≡◌, ◌≢◌, ◌↔◌, ℕ, suc, ◌+◌, ◌*◌, ◌<◌, ◌≤◌, ◌==◌, ◌⊎◌, nat_eq, Bool, true, false, Option, Some, List, [], ◌∷◌, ◌++◌, All, count_by, length};
 ghost use Rattle.std.specs.Cmp.Lexicographic.{pointwise};
 ghost use Rattle.strip_mask.specs.Sums.{sum_below};
 ghost use Rattle.strip_pay.specs.Film.{FilmData};
@@ -10,6 +10,7 @@ ghost use Rattle.strip_film.specs.Finish.{rest_after};
 ghost use Rattle.strip_film.specs.Path.{IsPath, PathData};
 ghost use Rattle.strip_film.specs.Ranks.{IsEarlier, IsSooner};
 ghost use Rattle.strip_film.specs.Rules.{IsOpen, Rules, rank};
+ghost use Rattle.strip_count.specs.Apart.{AreApart, IsLeft};
 ghost use Rattle.strip_count.specs.Paths.{ComesAfter, IsUnfinished, factorial, few, is_candidate, number_of, number_up_to, path_count, ways};
 ghost use Rattle.strip_count.specs.Parts.{AreCounted, AreTasks, Enlists, inside, lies_in};
 
@@ -109,4 +110,13 @@ pub fn counted_lines_are_few()
 pub fn a_lesser_cost_has_fewer_candidates()
     ensures few { (rules : Rules) (lesser cost : ℕ) → lesser ≤ cost → few rules lesser ≤ few rules cost }
     ensures ways { (rules : Rules) (lesser cost set : ℕ) → lesser ≤ cost → ways rules lesser set ≤ ways rules cost set }
+{}
+
+/// Lines of which no two have the same set, each of a set that a candidate leaves, are at most as many as the
+/// candidates, in all and of each set.
+pub fn lines_of_different_sets_are_few()
+    ensures most { (rules : Rules) (cost : ℕ) (lines : List Line) → IsFilm rules.film → AreApart lines
+        → All (λ line. IsLeft rules cost line.set) lines → length lines ≤ few rules cost }
+    ensures sets { (rules : Rules) (cost set : ℕ) (lines : List Line) → IsFilm rules.film → AreApart lines
+        → All (λ line. IsLeft rules cost line.set) lines → count_by (λ line. line.set == set) lines ≤ ways rules cost set }
 {}

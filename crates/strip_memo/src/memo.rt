@@ -54,7 +54,8 @@ impl Memo {
     }
 
     /// A memo as `new` makes it, for one of so many workers, 1 to 100, who have one each: the more there
-    /// are, the fewer entries, so that all memos together take at most 128 MB.
+    /// are, the fewer entries, so that all memos together take at most 128 MB. Several workers have 2^17
+    /// entries each at most for groups and arrivals, since they share a store of what they worked out.
     pub fn among<F: Fn(u64, u64) -> u64>(
         alloc: Global,
         kept: &Kept<F>,
@@ -150,6 +151,7 @@ fn bits_of(kind: Kind, scenes: usize, workers: u32) -> u32
 {
     let most = match kind {
         Kind::Plain | Kind::Pairs => 18,
+        Kind::Groups | Kind::Arrivals if workers > 1 => 17,
         Kind::Groups => 19,
         Kind::Arrivals => 20,
     };

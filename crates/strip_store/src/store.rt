@@ -25,7 +25,7 @@ pub struct Store<N: Bounded> {
 
 impl<N: Bounded> Store<N> {
     /// A store that knows nothing yet. It takes all the memory that it ever needs: for groups and arrivals
-    /// 2^21 entries of 24 bytes, some 50 MB, and at most four for each set where the film has few; for the
+    /// 2^20 entries of 24 bytes, some 25 MB, and at most one for each set where the film has few; for the
     /// kinds that are cheap to ask for 64 entries, which stay as they are.
     pub fn new<F: Fn(u64, u64) -> u64>(alloc: Global, kept: &Kept<F>) -> Result<Store<N>, Memory> {
         let bits = bits_of(kept.kind(), kept.film().scenes());
@@ -90,15 +90,15 @@ fn asked<F: Fn(u64, u64) -> u64>(kept: &Kept<F>, q: Mask, need: u64) -> Entry
     }
 }
 
-/// How many bits tell a set's place in its drawer: at most four entries for each set in all drawers
-/// together, and at least one a drawer.
+/// How many bits tell a set's place in its drawer: at most one entry for each set in all drawers together,
+/// and at least one a drawer.
 fn bits_of(kind: Kind, scenes: usize) -> u32
-    ensures { result ≤ 15 }
+    ensures { result ≤ 14 }
 {
     if is_cheap(kind) {
         return 0;
     }
-    scenes.saturating_sub(4).min(15) as u32
+    scenes.saturating_sub(6).min(14) as u32
 }
 
 /// Whether the bound costs too little to be kept.

@@ -1,5 +1,5 @@
 -- Which children were ruled out so far.
-use Rattle.std.proofs.Common.{Bool, ◌&&◌, not, ap, ap₂, refl, ◌≡◌, ℕ, zero, suc, ◌+◌, ◌^◌, ◌<◌, ◌≤◌, inl, inr, min, true, false, MatchBool, nat_lt, List, [], ◌∷◌, ◌++◌, length, replicate, slice_index, Contains, sym, ◌∙◌, subst, arith}
+use Rattle.std.proofs.Common.{Bool, ◌&&◌, not, ap, ap₂, refl, ◌≡◌, ℕ, ◌+◌, ◌^◌, ◌<◌, ◌≤◌, inl, inr, min, true, false, MatchBool, nat_lt, List, [], ◌∷◌, ◌++◌, length, slice_index, Contains, sym, ◌∙◌, subst, arith}
 use Rattle.std.proofs.lemmas.Bool.{cases_eq, cases_lt, le-ltb, lt-ltb}
 use Rattle.std.proofs.lemmas.Bool.Decides.{when_false, when_true}
 use Rattle.std.proofs.lemmas.List.Elements.{Contains-append_cases, Contains-append_left, Contains-append_right, Contains-push, Contains-push_cases}
@@ -154,16 +154,8 @@ module _ (kind : Kind) (film : FilmData) (path : PathData) (is_film : IsFilm fil
           Contains-members scenes scene (is_set_below (length film.casts) scenes is_film.scene_count.1 (λ x has_x. lies x (first_there film path.rest x (firsts x has_x))))
           (ap (λ (set : ℕ). has set scene) (sym left) ∙ is)
 
-nothing : (n i : ℕ) → slice_index (replicate n 0) i ≡ 0
-nothing zero i = refl
-nothing (suc n) zero = refl
-nothing (suc n) (suc i) = nothing n i
-
 -- scenes that all have the same number go by ranks that are all the same
 pub level_by : (film : FilmData) (set : ℕ) (kind : Kind) (turns : TurnsData) → ((reach : ℕ) → promised kind reach ≡ 0)
-    → GoBy (slice_index (replicate 64 0)) turns → GoBy (rank (rules_of kind film) set) turns
+    → GoBy (λ scene. 0) turns → GoBy (rank (rules_of kind film) set) turns
 level_by film set kind turns level goes s t here there sooner =
-    sooner_by (slice_index (replicate 64 0)) (rank (rules_of kind film) set) s t (is s) (is t) (goes s t here there sooner)
-  where
-    is : (scene : ℕ) → slice_index (replicate 64 0) scene ≡ rank (rules_of kind film) set scene
-    is scene = nothing 64 scene ∙ sym (level _)
+    sooner_by (λ scene. 0) (rank (rules_of kind film) set) s t (sym (level _)) (sym (level _)) (goes s t here there sooner)

@@ -53,9 +53,9 @@ pub(crate) struct Weighed {
 }
 
 /// The children of a path that have to be walked, by rank, and the least of the others' steps with their
-/// static bounds.
+/// static bounds, in units of money; `u64::MAX` where there is no other.
 #[derive(Debug, Drop)]
-pub(crate) struct Sifted {
+pub struct Sifted {
     pub visit: Turns,
     pub least: u64,
 }

@@ -7,5 +7,6 @@ mod found;
 mod sifting;
 mod walk;
 
-pub use found::Found;
+pub use found::{Found, Sifted};
+pub use sifting::sift;
 pub use walk::explore;
