@@ -1,0 +1,4 @@
+pub mod Ascent
+pub mod Begun
+pub mod Climbed
+pub mod Shown
