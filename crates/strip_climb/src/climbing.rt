@@ -16,6 +16,8 @@ use crate::climbed::Climbed;
 use crate::walking::walk;
 use std::alloc::Global;
 use strip_bound::Kept;
+use strip_count::laws::lines_of_different_sets_are_few;
+use strip_film::laws::{kept_orders_are_ready_lists, steps_add_up_to_the_pay};
 use strip_film::{Path, Running};
 use strip_io::Memory;
 use strip_mask::Mask;
@@ -43,6 +45,9 @@ pub fn climb<F: Fn(u64, u64) -> u64>(
     ensures memo { IsMemo kept.now.kind kept.now.film.now memo.new }
     ensures climbed { IfOk result (λ climbed. IsClimbed kept.now.kind kept.now.film.now (path_data start.now) cap (climbed_data climbed)) }
 {
+    kept_orders_are_ready_lists();
+    steps_add_up_to_the_pay();
+    lines_of_different_sets_are_few();
     let film = kept.film();
     film.keeps_limits();
     let mut ascent = Ascent::new(alloc, start, cap);
