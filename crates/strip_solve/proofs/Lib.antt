@@ -1,2 +1,3 @@
 mod Back
 mod Readable
+mod Climbs

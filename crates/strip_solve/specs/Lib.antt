@@ -1,3 +1,4 @@
 pub mod Solved
 pub mod Searched
 pub mod Answer
+pub mod Outset

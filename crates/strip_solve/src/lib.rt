@@ -1,6 +1,7 @@
 //! The search of a whole instance: its classes, a start, the search, and the way back.
 #![tactic(auto)]
 
+mod outset;
 mod solve;
 
 pub use solve::{SearchOptions, solve_alone, solve_beside, solve_through};

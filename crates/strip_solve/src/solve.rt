@@ -18,6 +18,7 @@ ghost use Rattle.strip_solve.specs.Answer.{IsAnswerFor, MayBe};
 ghost use Rattle.strip_solve.specs.Searched.{IsProofOf, IsSearchedFrom, IsTrimmed};
 ghost use Rattle.strip_solve.specs.Solved.{IsSolved, IsStart, IsVaried};
 
+use crate::outset::{Outset, set_out};
 use std::alloc::Global;
 use std::marker::Brand;
 use std::sync::Wait;
@@ -57,6 +58,8 @@ pub struct SearchOptions {
     /// How often the order that the search begins with is varied before, 5,000 times for each class where
     /// nothing is said.
     pub tries: Option<u32>,
+    /// In how many steps the bound of all scenes is raised before the search; nothing where it isn't raised so.
+    pub steps: Option<u32>,
 }
 
 /// A plan of the instance, found by one worker. `TooManyClasses` where more than 64 classes are left. It
@@ -182,15 +185,21 @@ fn search<G: Gate>(
     });
     let begun = varied(&kept, start, options.tries);
     let mut memo = Memo::new(alloc, &kept)?;
-    let ended = alone_through(
-        alloc,
-        &kept,
-        &mut memo,
-        &begun,
-        options.nodes,
-        options.entries,
-        gate,
-    )?;
+    let ended = match set_out(alloc, &kept, &mut memo, &begun, options)? {
+        Outset::Over(ended) => ended,
+        Outset::Open(opened) => {
+            let ended = alone_through(
+                alloc,
+                &kept,
+                &mut memo,
+                &opened.from,
+                options.nodes,
+                options.entries,
+                gate,
+            )?;
+            opened.ended_by(ended)
+        }
+    };
     let trimmed = trimmed(alloc, &kept, &mut memo, &ended)?;
     Ok(Searched {
         begun,
@@ -258,7 +267,13 @@ fn search_stored<
         cap: options.nodes,
         entries: options.entries,
     };
-    let ended = race(rt, alloc, &stored, &mut memo, &begun, limits, gate)?;
+    let ended = match set_out(alloc, &stored, &mut memo, &begun, options)? {
+        Outset::Over(ended) => ended,
+        Outset::Open(opened) => {
+            let ended = race(rt, alloc, &stored, &mut memo, &opened.from, limits, gate)?;
+            opened.ended_by(ended)
+        }
+    };
     let trimmed = trimmed(alloc, &stored, &mut memo, &ended)?;
     Ok(Searched {
         begun,

@@ -33,6 +33,7 @@ abbrev pub IsWithin : JobData → Type 0
 IsWithin (Solve job) =
     (1 ≤ job.nodes) × (job.nodes ≤ 16777216) × (64 ≤ job.table) × (job.table ≤ 4194304)
     × IfSome job.tries (λ tries. tries ≤ 100000000) × (1 ≤ job.workers) × (job.workers ≤ 64)
+    × IfSome job.steps (λ steps. (1 ≤ steps) × (steps ≤ 1000))
 IsWithin (Check files) = Unit {0}
 IsWithin (Convert files) = Unit {0}
 IsWithin (Dood files) = Unit {0}
@@ -40,7 +41,7 @@ IsWithin (Sheet files) = Unit {0}
 IsWithin (Gen film) = IsSized film
 IsWithin (Trial job) =
     IsSized job.film × (1 ≤ job.nodes) × (job.nodes ≤ 16777216) × (64 ≤ job.table) × (job.table ≤ 4194304)
-    × IfSome job.tries (λ tries. tries ≤ 100000000)
+    × IfSome job.tries (λ tries. tries ≤ 100000000) × IfSome job.steps (λ steps. (1 ≤ steps) × (steps ≤ 1000))
 
 -- what is due for the job
 abbrev pub IsDueFor : JobData → FilesData → FilesData → Status → List ℕ → Type 0

@@ -1,5 +1,5 @@
 // The command `solve`.
-ghost use Rattle.std.specs.Prelude.{◌≡◌, ◌<◌, ◌≤◌, length, string_bytes, All, Err, IfOk, IfSome};
+ghost use Rattle.std.specs.Prelude.{◌≡◌, ℕ, ◌^◌, ◌<◌, ◌≤◌, length, string_bytes, All, Err, Some, IfOk, IfSome};
 ghost use Rattle.strip_io.specs.Counts.{ReadFailed};
 ghost use Rattle.strip_words.specs.Shown.{solve_data};
 ghost use Rattle.strip_words.specs.Jobs.{Solve as ToSolve};
@@ -64,7 +64,7 @@ fn solve_instance<V: Fn(&Instance, SearchOptions, u32) -> Result<Plan, ReduceFau
     ensures { IfOk result (λ answer. IsSolveAnswer (solve_data job.now) inst.now answer.status (answer_text answer)) }
 {
     written_plans_read_back();
-    let options = options_of(job.kind, job.nodes, job.table, job.tries);
+    let options = options_of(job.kind, job.nodes, job.table, job.tries, job.steps);
     match solver(inst, options, job.workers as u32) {
         Ok(plan) => answer_plan(alloc, inst, plan, job.proof),
         Err(ReduceFault::TooManyClasses { count }) => too_many_classes(alloc, count),
@@ -73,27 +73,35 @@ fn solve_instance<V: Fn(&Instance, SearchOptions, u32) -> Result<Plan, ReduceFau
 }
 
 /// What a search goes by, as a job says it.
-pub(crate) fn options_of(kind: Kind, nodes: u64, table: u64, tries: Option<u64>) -> SearchOptions
+pub(crate) fn options_of(
+    kind: Kind,
+    nodes: u64,
+    table: u64,
+    tries: Option<u64>,
+    steps: Option<u64>,
+) -> SearchOptions
     requires nodes { (1 ≤ nodes) × (nodes ≤ 16777216) }
     requires table { (64 ≤ table) × (table ≤ 4194304) }
     requires tries { IfSome tries (λ number. number ≤ 100000000) }
+    requires steps { IfSome steps (λ number. (1 ≤ number) × (number ≤ 1000)) }
     ensures may_be { MayBe result }
-    ensures said { result ≡ record { kind = kind; nodes = nodes; entries = table; tries = tries } }
+    ensures said { result ≡ record { kind = kind; nodes = nodes; entries = table; tries = tries; steps = steps } }
 {
     SearchOptions {
         kind,
         nodes: nodes as u32,
         entries: table as u32,
-        tries: tries_of(tries),
+        tries: narrow(tries),
+        steps: narrow(steps),
     }
 }
 
-/// How often the order that a search begins with is varied, where a job says it.
-fn tries_of(tries: Option<u64>) -> Option<u32>
-    requires { IfSome tries (λ number. number ≤ 100000000) }
-    ensures { result ≡ tries }
+/// The same number in fewer bits, where there is one.
+fn narrow(number: Option<u64>) -> Option<u32>
+    requires { (n : ℕ) → number ≡ Some n → n < 2 ^ 32 }
+    ensures { result ≡ number }
 {
-    match tries {
+    match number {
         Some(number) => Some(number as u32),
         None => None,
     }
