@@ -4,7 +4,7 @@ use Rattle.strip_words.specs.Words.{Word, IsSpelled, operands_of}
 use Rattle.strip_words.specs.Options.{IsNumber}
 use Rattle.strip_words.specs.declared.item.Item.{Item as CodeItem}
 use Rattle.strip_words.specs.Shown.{items_data}
-use Rattle.strip_words.specs.Solve.{nodes_option, table_option, tries_option, bounds_option, bound_word}
+use Rattle.strip_words.specs.Solve.{nodes_option, table_option, tries_option, steps_option, bounds_option, bound_word}
 use Rattle.strip_words.specs.Gen.{GenData, NameFilm, NameGen, SayTrial, TrialData, NameTrial, gen_command, trial_command}
 use Rattle.strip_words.proofs.Given.{chosen_once, given_number_once, picked_once}
 use Rattle.strip_words.proofs.Solving.{kind_once}
@@ -47,5 +47,6 @@ trial_once words a b (items, rest, spelled, one) names =
     let nodes = chosen_once nodes_option items a.nodes b.nodes spelled.once one.nodes two.nodes in
     let table = chosen_once table_option items a.table b.table spelled.once one.table two.table in
     let tries = given_number_once tries_option items a.tries b.tries spelled.once one.tries two.tries in
+    let steps = given_number_once steps_option items a.steps b.steps spelled.once one.steps two.steps in
     let kind = kind_once a.kind b.kind (picked_once bounds_option items (bound_word a.kind) (bound_word b.kind) spelled.once one.kind two.kind) in
-    λ i. record { film = film i; nodes = nodes i; table = table i; tries = tries i; kind = kind i }
+    λ i. record { film = film i; nodes = nodes i; table = table i; tries = tries i; steps = steps i; kind = kind i }

@@ -6,7 +6,7 @@ use Rattle.strip_kind.specs.declared.kind.Kind.TheVariants.{Plain, Pairs, Groups
 use Rattle.strip_words.specs.Words.{Word, IsSpelled}
 use Rattle.strip_words.specs.declared.item.Item.{Item as CodeItem}
 use Rattle.strip_words.specs.Shown.{items_data}
-use Rattle.strip_words.specs.Solve.{solve, workers_option, nodes_option, table_option, tries_option, bounds_option, bound_word, SolveData, SayJob, NameSolve}
+use Rattle.strip_words.specs.Solve.{solve, workers_option, nodes_option, table_option, tries_option, steps_option, bounds_option, bound_word, SolveData, SayJob, NameSolve}
 use Rattle.strip_pay.proofs.Lists.{same_test}
 use Rattle.strip_words.proofs.Given.{chosen_once, given_number_once, picked_once}
 use Rattle.strip_words.proofs.Spelled.{said}
@@ -46,7 +46,18 @@ solve_once words a b (items, rest, spelled, one) names =
     let nodes = chosen_once nodes_option items a.nodes b.nodes spelled.once one.nodes two.nodes in
     let table = chosen_once table_option items a.table b.table spelled.once one.table two.table in
     let tries = given_number_once tries_option items a.tries b.tries spelled.once one.tries two.tries in
+    let steps = given_number_once steps_option items a.steps b.steps spelled.once one.steps two.steps in
     let kind = kind_once a.kind b.kind (picked_once bounds_option items (bound_word a.kind) (bound_word b.kind) spelled.once one.kind two.kind) in
     let proof = same_test a.proof b.proof (λ is. two.proof.1 (one.proof.0 is)) (λ is. one.proof.1 (two.proof.0 is)) in
     let progress = same_test a.progress b.progress (λ is. two.progress.1 (one.progress.0 is)) (λ is. one.progress.1 (two.progress.0 is)) in
-    λ i. record { file = file i; workers = workers i; nodes = nodes i; table = table i; tries = tries i; kind = kind i; proof = proof i; progress = progress i }
+    λ i. record {
+      file = file i;
+      workers = workers i;
+      nodes = nodes i;
+      table = table i;
+      tries = tries i;
+      steps = steps i;
+      kind = kind i;
+      proof = proof i;
+      progress = progress i;
+    }

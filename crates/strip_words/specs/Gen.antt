@@ -2,7 +2,7 @@
 use Rattle.std.specs.Prelude.{◌≡◌, ℕ, ◌≤◌, Option, List, [], ◌∷◌, codes}
 use Rattle.strip_words.specs.Words.{Word, Command, Item, IsSpelled, operands_of}
 use Rattle.strip_words.specs.Options.{IsNumber, IsChosen, IsGiven, IsPicked}
-use Rattle.strip_words.specs.Solve.{nodes_option, table_option, tries_option, bounds_option, bound_word}
+use Rattle.strip_words.specs.Solve.{nodes_option, table_option, tries_option, steps_option, bounds_option, bound_word}
 use Rattle.strip_kind.specs.declared.kind.Kind.{Kind}
 
 -- a film that is made from a number: how many scenes it has, and how many actors
@@ -37,17 +37,18 @@ abbrev pub trial_command : Command
 trial_command = record {
   word = codes "trial";
   operands = 3;
-  valued = nodes_option.name ∷ table_option.name ∷ tries_option.name ∷ bounds_option.name ∷ [];
+  valued = nodes_option.name ∷ table_option.name ∷ tries_option.name ∷ steps_option.name ∷ bounds_option.name ∷ [];
   flags = [];
 }
 
--- a trial of such a film: the greatest number of lines, the table's entries, how often the start is varied where the words say it, and
--- the static bound
+-- a trial of such a film: the greatest number of lines, the table's entries, how often the start is varied where the words say it, in
+-- how many steps the bound is raised first, where the words say it, and the static bound
 pub record TrialData : Type 0 where
   pub film : GenData
   pub nodes : ℕ
   pub table : ℕ
   pub tries : Option ℕ
+  pub steps : Option ℕ
   pub kind : Kind
 
 -- the items and what follows them say this trial
@@ -56,6 +57,7 @@ pub record SayTrial (items : List Item) (rest : Option (List Word)) (job : Trial
   pub nodes : IsChosen nodes_option items job.nodes
   pub table : IsChosen table_option items job.table
   pub tries : IsGiven tries_option items job.tries
+  pub steps : IsGiven steps_option items job.steps
   pub kind : IsPicked bounds_option items (bound_word job.kind)
 
 -- the words name this trial

@@ -82,6 +82,7 @@ solve_data job = record {
   nodes = job.nodes;
   table = job.table;
   tries = job.tries;
+  steps = job.steps;
   kind = job.kind;
   proof = job.proof;
   progress = job.progress;
@@ -96,7 +97,7 @@ abbrev pub gen_data : GenJob → GenData
 gen_data job = record { number = job.number; scenes = job.scenes; actors = job.actors }
 
 abbrev pub trial_data : TrialJob → TrialData
-trial_data job = record { film = gen_data job.film; nodes = job.nodes; table = job.table; tries = job.tries; kind = job.kind }
+trial_data job = record { film = gen_data job.film; nodes = job.nodes; table = job.table; tries = job.tries; steps = job.steps; kind = job.kind }
 
 abbrev pub job_data : Job → JobData
 job_data (Solve job) = ToSolve (solve_data job)

@@ -17,6 +17,9 @@ table_option = record { name = codes "--table"; least = 64; most = 4194304; defa
 abbrev pub tries_option : FreeOption
 tries_option = record { name = codes "--tries"; least = 0; most = 100000000 }
 
+abbrev pub steps_option : FreeOption
+steps_option = record { name = codes "--steps"; least = 1; most = 1000 }
+
 abbrev pub bounds_option : ChoiceOption
 bounds_option = record { name = codes "--bounds"; choices = codes "plain" ∷ codes "pairs" ∷ codes "groups" ∷ codes "arrivals" ∷ []; default = codes "pairs" }
 
@@ -30,7 +33,7 @@ abbrev pub solve : Command
 solve = record {
   word = codes "solve";
   operands = 1;
-  valued = workers_option.name ∷ nodes_option.name ∷ table_option.name ∷ tries_option.name ∷ bounds_option.name ∷ [];
+  valued = workers_option.name ∷ nodes_option.name ∷ table_option.name ∷ tries_option.name ∷ steps_option.name ∷ bounds_option.name ∷ [];
   flags = proof_flag ∷ progress_flag ∷ [];
 }
 
@@ -42,14 +45,15 @@ bound_word Groups = codes "groups"
 bound_word Arrivals = codes "arrivals"
 
 -- a job to solve a file: how many workers, the greatest number of lines, the table's entries, how often the start is
--- varied where the words say it, the static bound, whether line rows are written, and whether it is told on standard
--- error how the search gets on
+-- varied where the words say it, in how many steps the bound is raised first, where the words say it, the static bound,
+-- whether line rows are written, and whether it is told on standard error how the search gets on
 pub record SolveData : Type 0 where
   pub file : Word
   pub workers : ℕ
   pub nodes : ℕ
   pub table : ℕ
   pub tries : Option ℕ
+  pub steps : Option ℕ
   pub kind : Kind
   pub proof : Bool
   pub progress : Bool
@@ -61,6 +65,7 @@ pub record SayJob (items : List Item) (rest : Option (List Word)) (job : SolveDa
   pub nodes : IsChosen nodes_option items job.nodes
   pub table : IsChosen table_option items job.table
   pub tries : IsGiven tries_option items job.tries
+  pub steps : IsGiven steps_option items job.steps
   pub kind : IsPicked bounds_option items (bound_word job.kind)
   pub proof : (job.proof ≡ true) ↔ Contains items (Flag proof_flag)
   pub progress : (job.progress ≡ true) ↔ Contains items (Flag progress_flag)

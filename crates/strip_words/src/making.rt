@@ -8,7 +8,7 @@ use crate::WordsFault;
 use crate::command::{Command, CommandOption};
 use crate::number::number_of;
 use crate::reader::read;
-use crate::solve::{BOUNDS, NODES, TABLE, TRIES, kind_of};
+use crate::solve::{BOUNDS, NODES, STEPS, TABLE, TRIES, kind_of};
 use std::alloc::Global;
 use strip_kind::Kind;
 
@@ -25,6 +25,7 @@ const TRIAL: Command = Command {
         CommandOption::Number(NODES),
         CommandOption::Number(TABLE),
         CommandOption::Free(TRIES),
+        CommandOption::Free(STEPS),
         CommandOption::Choice(BOUNDS),
     ],
 };
@@ -49,6 +50,8 @@ pub struct TrialJob {
     pub table: u64,
     /// How often the order that the search begins with is varied, 0 to 100,000,000, where the words say it.
     pub tries: Option<u64>,
+    /// In how many steps the bound is raised before the search, 1 to 1,000; nothing where the bound isn't raised so.
+    pub steps: Option<u64>,
     /// The static bound.
     pub kind: Kind,
 }
@@ -73,6 +76,7 @@ pub(crate) fn trial_job(alloc: Global, later: &[String]) -> Result<TrialJob, Wor
     let nodes = NODES.chosen(items)?;
     let table = TABLE.chosen(items)?;
     let tries = TRIES.given(items)?;
+    let steps = STEPS.given(items)?;
     let kind = kind_of(BOUNDS.picked(items)?);
     let operands = reading.operands(alloc)?;
     let film = film_named(operands.as_slice())?;
@@ -81,6 +85,7 @@ pub(crate) fn trial_job(alloc: Global, later: &[String]) -> Result<TrialJob, Wor
         nodes,
         table,
         tries,
+        steps,
         kind,
     })
 }

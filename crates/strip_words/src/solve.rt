@@ -19,6 +19,7 @@ const SOLVE: Command = Command {
         CommandOption::Number(NODES),
         CommandOption::Number(TABLE),
         CommandOption::Free(TRIES),
+        CommandOption::Free(STEPS),
         CommandOption::Choice(BOUNDS),
         CommandOption::Flag(PROOF),
         CommandOption::Flag(PROGRESS),
@@ -52,6 +53,12 @@ pub(crate) const TRIES: FreeOption = FreeOption {
     most: 100_000_000,
 };
 
+pub(crate) const STEPS: FreeOption = FreeOption {
+    name: "--steps",
+    least: 1,
+    most: 1_000,
+};
+
 pub(crate) const BOUNDS: ChoiceOption = ChoiceOption {
     name: "--bounds",
     choices: &["plain", "pairs", "groups", "arrivals"],
@@ -75,6 +82,8 @@ pub struct SolveJob {
     pub table: u64,
     /// How often the order that the search begins with is varied, 0 to 100,000,000, where the words say it.
     pub tries: Option<u64>,
+    /// In how many steps the bound is raised before the search, 1 to 1,000; nothing where the bound isn't raised so.
+    pub steps: Option<u64>,
     /// The static bound.
     pub kind: Kind,
     /// Whether the plan's line rows are printed.
@@ -94,6 +103,7 @@ pub(crate) fn solve_job(alloc: Global, later: &[String]) -> Result<SolveJob, Wor
     let nodes = NODES.chosen(items)?;
     let table = TABLE.chosen(items)?;
     let tries = TRIES.given(items)?;
+    let steps = STEPS.given(items)?;
     let kind = kind_of(BOUNDS.picked(items)?);
     let proof = has_flag(items, PROOF);
     let progress = has_flag(items, PROGRESS);
@@ -105,6 +115,7 @@ pub(crate) fn solve_job(alloc: Global, later: &[String]) -> Result<SolveJob, Wor
         nodes,
         table,
         tries,
+        steps,
         kind,
         proof,
         progress,

@@ -1,7 +1,7 @@
 use Rattle.std.proofs.Common.{◌≤◌, ℕ, Option, None, Some, List, IfSome, inl, inr, arith}
 use Rattle.strip_words.specs.Words.{Word, Item, operands_of}
 use Rattle.strip_words.specs.Options.{NumberOption, FreeOption, IsChosen, IsGiven}
-use Rattle.strip_words.specs.Solve.{workers_option, nodes_option, table_option, tries_option}
+use Rattle.strip_words.specs.Solve.{workers_option, nodes_option, table_option, tries_option, steps_option}
 use Rattle.strip_words.specs.Gen.{GenData, IsSized, NameFilm}
 use Rattle.strip_words.proofs.laws.numbers_lie_within_their_ends.Goals as goal
 
@@ -17,6 +17,11 @@ free : (option : FreeOption) (items : List Item) (n : Option ℕ) → IsGiven op
 free option items None given = tt
 free option items (Some n) given = given.2.within.1
 
+free_within : (option : FreeOption) (items : List Item) (n : Option ℕ) → IsGiven option items n
+    → IfSome n (λ n. (option.least ≤ n) × (n ≤ option.most))
+free_within option items None given = tt
+free_within option items (Some n) given = given.2.within
+
 sized : (operands : List Word) (film : GenData) → NameFilm operands film → IsSized film
 sized operands film named = (named.scene_count.within.0, named.scene_count.within.1, named.actor_count.within.1)
 
@@ -26,9 +31,12 @@ returns c = record {
   nodes = λ words job named. within nodes_option named.0 job.nodes (omega arith) (omega arith) named.3.nodes;
   table = λ words job named. within table_option named.0 job.table (omega arith) (omega arith) named.3.table;
   tries = λ words job named. free tries_option named.0 job.tries named.3.tries;
+  steps = λ words job named. free_within steps_option named.0 job.steps named.3.steps;
   film = λ words film named. sized (operands_of named.0 named.1) film named.3;
   trial = λ words job named.
       let nodes = within nodes_option named.0 job.nodes (omega arith) (omega arith) named.3.nodes in
       let table = within table_option named.0 job.table (omega arith) (omega arith) named.3.table in
-      (sized (operands_of named.0 named.1) job.film named.3.film, nodes.0, nodes.1, table.0, table.1, free tries_option named.0 job.tries named.3.tries);
+      let tries = free tries_option named.0 job.tries named.3.tries in
+      let steps = free_within steps_option named.0 job.steps named.3.steps in
+      (sized (operands_of named.0 named.1) job.film named.3.film, nodes.0, nodes.1, table.0, table.1, tries, steps);
 }

@@ -23,6 +23,11 @@ returns-in_err-tries-clause-bad c = if_err c.from_residual-in_err-tries.result _
     c.in_err-tries.ensures.bad job.tries
     (trial_said (codes "trial" ∷ texts c.args.later.now) c.in_ok-reading.reading.items.items c.as_slice-items.result.now (rest_data c.in_ok-reading.reading.rest) job c.as_slice-items.ensures.value c.in_ok-reading.ensures.ok names).tries)
 
+pub returns-in_err-steps-clause-bad : goal.returns-in_err-steps-clause-bad
+returns-in_err-steps-clause-bad c = if_err c.from_residual-in_err-steps.result _ (λ e is job names.
+    c.in_err-steps.ensures.bad job.steps
+    (trial_said (codes "trial" ∷ texts c.args.later.now) c.in_ok-reading.reading.items.items c.as_slice-items.result.now (rest_data c.in_ok-reading.reading.rest) job c.as_slice-items.ensures.value c.in_ok-reading.ensures.ok names).steps)
+
 pub returns-in_err-picked-clause-bad : goal.returns-in_err-picked-clause-bad
 returns-in_err-picked-clause-bad c = if_err c.from_residual-in_err-picked.result _ (λ e is job names.
     c.in_err-picked.ensures.bad (bound_word job.kind)
@@ -46,6 +51,7 @@ returns-clause-named c =
       nodes = c.in_ok-nodes.nodes;
       table = c.in_ok-table.table;
       tries = c.in_ok-tries.tries;
+      steps = c.in_ok-steps.steps;
       kind = c.kind_of-kind.result;
     }) in
     let says : SayTrial (items_data slice) rest job = record {
@@ -54,6 +60,7 @@ returns-clause-named c =
       nodes = c.in_ok-nodes.ensures.ok;
       table = c.in_ok-table.ensures.ok;
       tries = c.in_ok-tries.ensures.ok;
+      steps = c.in_ok-steps.ensures.ok;
       kind = subst (IsPicked bounds_option (items_data slice)) (sym c.kind_of-kind.ensures) c.in_ok-picked.ensures.ok;
     } in (
       items_data items,
