@@ -108,7 +108,7 @@ stands_begun rules ascent path limit need place (Opened opened) is found enough 
   is,
   climbs_self ascent,
   (let some = found_set path.rest place ascent.lines found in
-  record { there = omega (arith, some.0, same); set = ap (λ (n : ℕ). (line_at ascent.lines n).set) same ∙ some.1 }),
+      record { there = omega (arith, some.0, same); set = ap (λ (n : ℕ). (line_at ascent.lines n).set) same ∙ some.1 }),
 )
 
 -- ---- a line that is made
