@@ -11,22 +11,27 @@ ghost use Rattle.strip_climb.specs.Climbed.{IsClimbed};
 ghost use Rattle.strip_climb.specs.Shown.{climbed_data};
 ghost use Rattle.strip_team.specs.Ended.{IsEnded};
 ghost use Rattle.strip_team.specs.Shown.{ended_data};
+ghost use Rattle.strip_solve.specs.Answer.{MayBe};
 ghost use Rattle.strip_solve.specs.Outset.{IsOpened, IsOutset, IsProvedBy};
 
 use crate::solve::SearchOptions;
 use std::alloc::Global;
+use std::sync::Wait;
+use std::thread::Threads;
 use strip_bound::Kept;
 use strip_climb::{Climbed, climb};
 use strip_count::laws::a_lesser_cost_has_fewer_candidates;
+use strip_crew::race;
 use strip_film::Path;
 use strip_film::laws::{kept_orders_are_ready_lists, steps_add_up_to_the_pay};
 use strip_io::Memory;
 use strip_memo::Memo;
-use strip_team::Ended;
+use strip_race::Limits;
+use strip_team::{Ended, Gate, alone_through};
 
 /// How a search begins: it is over already, or the film is searched from a path.
 #[derive(Debug, Drop)]
-pub(crate) enum Outset {
+enum Outset {
     Over(Ended),
     Open(Opened),
 }
@@ -34,14 +39,82 @@ pub(crate) enum Outset {
 /// The path from which the film is searched, and where there was a climb, which ended with this path, what
 /// it proved with as many lines as there may be.
 #[derive(Debug, Drop)]
-pub(crate) struct Opened {
-    pub from: Path,
-    pub climbed: Option<Climbed>,
+struct Opened {
+    from: Path,
+    climbed: Option<Climbed>,
+}
+
+/// The end of the search that begins with this path, by one worker.
+pub(crate) fn end_alone<F: Fn(u64, u64) -> u64, G: Gate>(
+    alloc: Global,
+    kept: &Kept<F>,
+    memo: &mut Memo,
+    begun: &Path,
+    options: SearchOptions,
+    gate: &G,
+) -> Result<Ended, Memory>
+    requires keeps { Keeps (F.pre kept.now.f) (F.post kept.now.f) kept.now.kind kept.now.film.now }
+    requires memo { IsMemo kept.now.kind kept.now.film.now memo.old }
+    requires begun { IsComplete kept.now.film.now (path_data begun.now) }
+    requires options { MayBe options }
+    ensures memo { IsMemo kept.now.kind kept.now.film.now memo.new }
+    ensures ended { IfOk result (λ ended. IsEnded kept.now.kind kept.now.film.now (path_data begun.now) options.nodes (ended_data ended)) }
+{
+    kept.film().keeps_limits();
+    match set_out(alloc, kept, memo, begun, options)? {
+        Outset::Over(ended) => Ok(ended),
+        Outset::Open(opened) => {
+            let ended = alone_through(
+                alloc,
+                kept,
+                memo,
+                &opened.from,
+                options.nodes,
+                options.entries,
+                gate,
+            )?;
+            Ok(opened.ended_by(ended))
+        }
+    }
+}
+
+/// The same by so many workers beside one another, 2 to 64; the caller alone climbs.
+pub(crate) fn end_beside<R: Threads + Wait + Sync, F: Fn(u64, u64) -> u64 + Sync, G: Gate>(
+    rt: &R,
+    alloc: Global,
+    kept: &Kept<F>,
+    memo: &mut Memo,
+    begun: &Path,
+    options: SearchOptions,
+    workers: u32,
+    gate: &G,
+) -> Result<Ended, Memory>
+    requires keeps { Keeps (F.pre kept.now.f) (F.post kept.now.f) kept.now.kind kept.now.film.now }
+    requires memo { IsMemo kept.now.kind kept.now.film.now memo.old }
+    requires begun { IsComplete kept.now.film.now (path_data begun.now) }
+    requires options { MayBe options }
+    requires workers { (2 ≤ workers) × (workers ≤ 64) }
+    ensures memo { IsMemo kept.now.kind kept.now.film.now memo.new }
+    ensures ended { IfOk result (λ ended. IsEnded kept.now.kind kept.now.film.now (path_data begun.now) options.nodes (ended_data ended)) }
+{
+    kept.film().keeps_limits();
+    let limits = Limits {
+        workers,
+        cap: options.nodes,
+        entries: options.entries,
+    };
+    match set_out(alloc, kept, memo, begun, options)? {
+        Outset::Over(ended) => Ok(ended),
+        Outset::Open(opened) => {
+            let ended = race(rt, alloc, kept, memo, &opened.from, limits, gate)?;
+            Ok(opened.ended_by(ended))
+        }
+    }
 }
 
 /// Climbs from the path that a search begins with, where the options say in how many steps. The search is over
 /// where the bound then is what the best path pays.
-pub(crate) fn set_out<F: Fn(u64, u64) -> u64>(
+fn set_out<F: Fn(u64, u64) -> u64>(
     alloc: Global,
     kept: &Kept<F>,
     memo: &mut Memo,
@@ -110,7 +183,7 @@ fn over(alloc: Global, climbed: Climbed) -> Result<Ended, Memory>
 
 impl Opened {
     /// The end of the search from the path, with what the climb before it proved where that is more.
-    pub(crate) fn ended_by(self, ended: Ended) -> Ended
+    fn ended_by(self, ended: Ended) -> Ended
         ensures ended { (kind : Kind) (film : FilmData) (begun : PathData) (most : ℕ) → IsFilm film → IsOpened kind film begun most self
             → IsEnded kind film (path_data self.from) most (ended_data ended) → IsEnded kind film begun most (ended_data result) }
         ensures no_less { ended.bound ≤ result.bound }

@@ -18,14 +18,13 @@ ghost use Rattle.strip_solve.specs.Answer.{IsAnswerFor, MayBe};
 ghost use Rattle.strip_solve.specs.Searched.{IsProofOf, IsSearchedFrom, IsTrimmed};
 ghost use Rattle.strip_solve.specs.Solved.{IsSolved, IsStart, IsVaried};
 
-use crate::outset::{Outset, set_out};
+use crate::outset::{end_alone, end_beside};
 use std::alloc::Global;
 use std::marker::Brand;
 use std::sync::Wait;
 use std::thread::Threads;
 use strip_bound::{BoundTables, Kept, static_reach};
 use strip_count::laws::paths_are_few;
-use strip_crew::race;
 use strip_film::laws::{a_least_tail_exists, finishing_everything_is_the_optimum};
 use strip_film::{Film, Line, Path};
 use strip_io::Memory;
@@ -36,11 +35,10 @@ use strip_memo::Memo;
 use strip_model::Instance;
 use strip_pay::laws::pays_stay_small;
 use strip_proof::{Plan, Status};
-use strip_race::Limits;
 use strip_reduce::{ReduceFault, Reduced, expand, orient, reduce};
 use strip_start::{greedy, improve, vary};
 use strip_store::{Bounded, Store};
-use strip_team::{Ended, Gate, OpenGate, alone_through};
+use strip_team::{Ended, Gate, OpenGate};
 use strip_trim::trim;
 
 /// How often the order that a search begins with is varied for each class, where nothing is said of it.
@@ -185,21 +183,7 @@ fn search<G: Gate>(
     });
     let begun = varied(&kept, start, options.tries);
     let mut memo = Memo::new(alloc, &kept)?;
-    let ended = match set_out(alloc, &kept, &mut memo, &begun, options)? {
-        Outset::Over(ended) => ended,
-        Outset::Open(opened) => {
-            let ended = alone_through(
-                alloc,
-                &kept,
-                &mut memo,
-                &opened.from,
-                options.nodes,
-                options.entries,
-                gate,
-            )?;
-            opened.ended_by(ended)
-        }
-    };
+    let ended = end_alone(alloc, &kept, &mut memo, &begun, options, gate)?;
     let trimmed = trimmed(alloc, &kept, &mut memo, &ended)?;
     Ok(Searched {
         begun,
@@ -262,18 +246,9 @@ fn search_stored<
     let begun = varied(&stored, start, options.tries);
     // The caller has a memo too.
     let mut memo = Memo::among(alloc, &stored, workers + 1)?;
-    let limits = Limits {
-        workers,
-        cap: options.nodes,
-        entries: options.entries,
-    };
-    let ended = match set_out(alloc, &stored, &mut memo, &begun, options)? {
-        Outset::Over(ended) => ended,
-        Outset::Open(opened) => {
-            let ended = race(rt, alloc, &stored, &mut memo, &opened.from, limits, gate)?;
-            opened.ended_by(ended)
-        }
-    };
+    let ended = end_beside(
+        rt, alloc, &stored, &mut memo, &begun, options, workers, gate,
+    )?;
     let trimmed = trimmed(alloc, &stored, &mut memo, &ended)?;
     Ok(Searched {
         begun,
