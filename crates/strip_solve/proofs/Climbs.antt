@@ -1,47 +1,17 @@
 -- The end of a search that a climb came before.
-use Rattle.std.proofs.Common.{◌≡◌, ℕ, ◌<◌, ◌≤◌, ◌==◌, ◌⊎◌, true, false, List, length, count_by, inl, inr, refl, sym, ap, ◌∙◌, subst, arith}
+use Rattle.std.proofs.Common.{◌≡◌, ℕ, ◌<◌, ◌≤◌, true, false, Option, None, Some, length, inl, inr, sym, ap, ◌∙◌, subst, arith}
+use Rattle.std.specs.Prelude.{IfSome}
 use Rattle.std.proofs.lemmas.Bool.{false≢true}
 use Rattle.strip_kind.specs.declared.kind.Kind.{Kind}
 use Rattle.strip_pay.specs.Film.{FilmData}
-use Rattle.strip_pay.specs.Order.{IsKeptOrder, IsOrder}
-use Rattle.strip_pay.specs.Pay.{pay_of}
-use Rattle.strip_film.specs.Film.{all_scenes}
-use Rattle.strip_film.specs.Finish.{EachOnce, steps_cost}
 use Rattle.strip_film.specs.Path.{PathData}
 use Rattle.strip_lines.specs.Lines.{rules_of}
 use Rattle.strip_count.specs.Paths.{few, ways}
+use Rattle.strip_climb.specs.declared.climbed.Climbed.{Climbed}
 use Rattle.strip_climb.specs.Climbed.{ClimbedData, IsClimbed}
+use Rattle.strip_climb.specs.Shown.{climbed_data}
 use Rattle.strip_team.specs.Ended.{EndedData, IsEnded, RanOut}
-use Rattle.strip_solve.specs.Outset.{IsProvedBy}
-
--- a climb that closed the search
-pub over_ended : (kind : Kind) (film : FilmData) (begun : PathData) (most : ℕ) (climbed : ClimbedData) → IsClimbed kind film begun most climbed
-    → climbed.bound ≡ climbed.best.paid → (EachOnce film (all_scenes film) climbed.best.scenes → IsKeptOrder film climbed.best.scenes)
-    → (IsOrder (length film.casts) climbed.best.scenes → steps_cost film (all_scenes film) climbed.best.scenes ≡ pay_of film climbed.best.scenes)
-    → IsEnded kind film begun most (record {
-      order = climbed.best.scenes;
-      cost = climbed.best.paid;
-      bound = climbed.bound;
-      held = length climbed.lines;
-      lines = climbed.lines;
-      spent = false;
-    })
-over_ended kind film begun most climbed is closes keeps pays =
-    let kept : IsKeptOrder film climbed.best.scenes = keeps (is.best.0.remained, sym is.best.0.left ∙ is.best.1) in
-    record {
-      order = kept;
-      cost = is.best.0.steps ∙ pays kept.is_order;
-      no_dearer = is.no_dearer;
-      lines = is.justified;
-      bound = is.bound;
-      true_bound = is.true_bound;
-      held = refl;
-      most = is.most;
-      candidates = is.candidates;
-      sets = is.sets;
-      spent = λ spent. absurd (false≢true spent);
-      closed = λ _. closes;
-    }
+use Rattle.strip_solve.specs.Outset.{IsBetter, IsFull, IsProvedBy}
 
 module _ (kind : Kind) (film : FilmData) (begun from : PathData) (most : ℕ) (ended : EndedData) (no_dearer : from.paid ≤ begun.paid)
     (few_stay : few (rules_of kind film) from.paid ≤ few (rules_of kind film) begun.paid)
@@ -95,14 +65,28 @@ module _ (kind : Kind) (film : FilmData) (begun from : PathData) (most : ℕ) (e
     proved_ended (inl (_, same)) = subst (IsEnded kind film begun most) (sym same) still_ended
     proved_ended (inr (spent, greater, is_more)) = subst (IsEnded kind film begun most) (sym is_more) (more_ended spent greater)
 
+  pub better_ended : (climbed : Option Climbed) (after : EndedData) → IfSome climbed (IsFull kind film begun most) → IsBetter climbed ended after
+      → IsEnded kind film begun most after
+  better_ended None after full same = subst (IsEnded kind film begun most) (sym same) still_ended
+  better_ended (Some climbed) after full better = proved_ended (climbed_data climbed) after full.0 full.1 better
+
 -- no bound is lost
-pub proved_no_less : (ended after : EndedData) (climbed : ClimbedData) → IsProvedBy ended climbed after → ended.bound ≤ after.bound
+proved_no_less : (ended after : EndedData) (climbed : ClimbedData) → IsProvedBy ended climbed after → ended.bound ≤ after.bound
 proved_no_less ended after climbed (inl (_, same)) = omega (arith, ap (λ (e : EndedData). e.bound) same)
 proved_no_less ended after climbed (inr (_, greater, is_more)) = omega (arith, greater, ap (λ (e : EndedData). e.bound) is_more)
 
-pub proved_climbed : (ended after : EndedData) (climbed : ClimbedData) → IsProvedBy ended climbed after → ended.spent ≡ true → climbed.bound ≤ after.bound
+proved_climbed : (ended after : EndedData) (climbed : ClimbedData) → IsProvedBy ended climbed after → ended.spent ≡ true → climbed.bound ≤ after.bound
 proved_climbed ended after climbed (inl (why, same)) spent = elim why [
   | inl not_spent ↦ absurd (false≢true (sym not_spent ∙ spent))
   | inr less ↦ omega (arith, less, ap (λ (e : EndedData). e.bound) same)
 ]
 proved_climbed ended after climbed (inr (_, _, is_more)) spent = omega (arith, ap (λ (e : EndedData). e.bound) is_more)
+
+pub better_no_less : (climbed : Option Climbed) (ended after : EndedData) → IsBetter climbed ended after → ended.bound ≤ after.bound
+better_no_less None ended after same = omega (arith, ap (λ (e : EndedData). e.bound) same)
+better_no_less (Some climbed) ended after better = proved_no_less ended after (climbed_data climbed) better
+
+pub better_climbed : (climbed : Option Climbed) (ended after : EndedData) → IsBetter climbed ended after
+    → IfSome climbed (λ one. ended.spent ≡ true → one.bound ≤ after.bound)
+better_climbed None ended after same = tt
+better_climbed (Some climbed) ended after better = proved_climbed ended after (climbed_data climbed) better

@@ -1,5 +1,5 @@
 -- How a search begins that a climb may come before, and how it ends.
-use Rattle.std.specs.Prelude.{◌≡◌, ℕ, ◌<◌, ◌≤◌, ◌⊎◌, true, false, length, IfSome}
+use Rattle.std.specs.Prelude.{◌≡◌, ℕ, ◌<◌, ◌≤◌, ◌⊎◌, true, false, Option, None, Some, length, IfSome}
 use Rattle.strip_kind.specs.declared.kind.Kind.{Kind}
 use Rattle.strip_pay.specs.Film.{FilmData}
 use Rattle.strip_film.specs.Path.{IsComplete, PathData}
@@ -34,3 +34,8 @@ abbrev pub IsProvedBy : EndedData → ClimbedData → EndedData → Type 0
 IsProvedBy ended climbed after =
     (((ended.spent ≡ false) ⊎ (climbed.bound ≤ ended.bound)) × (after ≡ ended))
     ⊎ ((ended.spent ≡ true) × (ended.bound < climbed.bound) × (after ≡ record ended { bound = climbed.bound; lines = climbed.lines }))
+
+-- the same where there was a climb; else it stays
+abbrev pub IsBetter : Option Climbed → EndedData → EndedData → Type 0
+IsBetter None ended after = after ≡ ended
+IsBetter (Some climbed) ended after = IsProvedBy ended (climbed_data climbed) after

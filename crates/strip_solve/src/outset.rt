@@ -12,7 +12,7 @@ ghost use Rattle.strip_climb.specs.Shown.{climbed_data};
 ghost use Rattle.strip_team.specs.Ended.{IsEnded};
 ghost use Rattle.strip_team.specs.Shown.{ended_data};
 ghost use Rattle.strip_solve.specs.Answer.{MayBe};
-ghost use Rattle.strip_solve.specs.Outset.{IsOpened, IsOutset, IsProvedBy};
+ghost use Rattle.strip_solve.specs.Outset.{IsBetter, IsOpened, IsOutset, IsProvedBy};
 
 use crate::solve::SearchOptions;
 use std::alloc::Global;
@@ -190,10 +190,17 @@ impl Opened {
         ensures climbed { IfSome self.climbed (λ climbed. ended.spent ≡ true → climbed.bound ≤ result.bound) }
     {
         a_lesser_cost_has_fewer_candidates();
-        match self.climbed {
-            None => ended,
-            Some(climbed) => proved_by(ended, climbed),
-        }
+        better(ended, self.climbed)
+    }
+}
+
+/// The end of a search, or the same with what a climb proved, where there was one and that is more.
+fn better(ended: Ended, climbed: Option<Climbed>) -> Ended
+    ensures { IsBetter climbed (ended_data ended) (ended_data result) }
+{
+    match climbed {
+        None => ended,
+        Some(climbed) => proved_by(ended, climbed),
     }
 }
 
