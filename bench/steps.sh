@@ -1,15 +1,16 @@
 #!/usr/bin/env bash
-# What a climb before the search gains: the 12 random films and the 6 with story lines of large.sh, each by 200,000
-# lines with arrivals, without a climb and with one of 32 steps or as many as the word says. It prints for each the cost,
-# the bound, how much of the cost the bound is, the lines and the seconds, and last how much it is on average. Then three
-# films that are solved to the end, with and without. One run each. It works in a temporary folder, and takes rustc and
-# the built program.
+# What a climb before the search gains: the 12 random films and the 6 with story lines of large.sh, each by 40,000 lines
+# with arrivals, some ten seconds, without a climb and with one of 32 steps; or by as many steps and lines as the words
+# say. It prints for each the cost, the bound, how much of the cost the bound is, the lines and the seconds, and last how
+# much it is on average. Then three films that are solved to the end, with and without. One run each. It works in a
+# temporary folder, and takes rustc and the built program.
 set -euo pipefail
 repository=$(cd "$(dirname "$0")/.." && pwd)
 work=$(mktemp -d)
 trap 'rm -rf "$work"' EXIT
 stripboard=$repository/bin/stripboard
 steps=${1:-32}
+nodes=${2:-40000}
 
 rustc -O -C target-cpu=x86-64-v3 -o "$work/varied" "$repository/bench/varied.rs"
 films=()
@@ -55,8 +56,8 @@ solve() {
 
 head_row
 for film in "${films[@]}"; do
-    solve "$film" none --nodes 200000
-    solve "$film" "$steps" --nodes 200000 --steps "$steps"
+    solve "$film" none --nodes "$nodes"
+    solve "$film" "$steps" --nodes "$nodes" --steps "$steps"
 done
 for climb in none "$steps"; do
     awk -v climb="$climb" '{ sum += $1 } END { printf "%s: the bound is %.2f%% of the cost on average\n", climb, sum / NR }' "$work/parts-$climb"
