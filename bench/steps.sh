@@ -1,5 +1,5 @@
 #!/usr/bin/env bash
-# What a climb before the search gains: the 12 random films and the 6 with story lines of large.sh, each by 40,000 lines
+# What a climb before the search gains: the 12 random films and the 6 with story lines of large.sh, each by 10,000 lines
 # with arrivals, some ten seconds, without a climb and with one of 32 steps; or by as many steps and lines as the words
 # say. It prints for each the cost, the bound, how much of the cost the bound is, the lines and the seconds, and last how
 # much it is on average. Then three films that are solved to the end, with and without. One run each. It works in a
@@ -10,7 +10,7 @@ work=$(mktemp -d)
 trap 'rm -rf "$work"' EXIT
 stripboard=$repository/bin/stripboard
 steps=${1:-32}
-nodes=${2:-40000}
+nodes=${2:-10000}
 
 rustc -O -C target-cpu=x86-64-v3 -o "$work/varied" "$repository/bench/varied.rs"
 films=()
