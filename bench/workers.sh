@@ -21,10 +21,10 @@ solve() {
         fi
     done
     read -r passed user system <<< "$best"
-    awk -v film="$film" -v bounds="$bounds" -v count="$count" -v passed="$passed" -v user="$user" -v system="$system" \
+    awk -v film="$film" -v bounds="$bounds" -v count="$count" -v passed="$passed" -v user="$user" -v kernel="$system" \
         -v status="$(sed -n 's/^status,//p' "$work/plan")" -v cost="$(sed -n 's/^cost,//p' "$work/plan")" \
         -v lines="$(sed -n 's/^lines,//p' "$work/plan")" \
-        'BEGIN { printf "%s %s, %d workers: %s, cost %d, %d lines, %.2f s, %.2f processor seconds\n", film, bounds, count, status, cost, lines, passed, user + system }'
+        'BEGIN { printf "%s %s, %d workers: %s, cost %d, %d lines, %.2f s, %.2f processor seconds\n", film, bounds, count, status, cost, lines, passed, user + kernel }'
 }
 
 while read -r number scenes actors bounds; do
