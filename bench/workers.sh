@@ -2,11 +2,21 @@
 # What several workers gain: made films solved by 1, 2 and 4 workers, or by as many as the words say. It prints
 # for each the lines that were made, the seconds that passed and the processor seconds of all workers; the
 # quickest of three runs counts. It works in a temporary folder, and builds the program where it is missing.
+# Words that begin with a dash are options of the solver:
+#
+#     bench/workers.sh 2 4 --steal
 set -euo pipefail
 repository=$(cd "$(dirname "$0")/.." && pwd)
 work=$(mktemp -d)
 trap 'rm -rf "$work"' EXIT
-workers=("$@")
+workers=()
+options=()
+for word in "$@"; do
+    case $word in
+        -*) options+=("$word") ;;
+        *) workers+=("$word") ;;
+    esac
+done
 [ ${#workers[@]} -gt 0 ] || workers=(1 2 4)
 TIMEFORMAT='%R %U %S'
 
@@ -14,7 +24,7 @@ TIMEFORMAT='%R %U %S'
 solve() {
     local film=$1 bounds=$2 count=$3 best= passed user system
     for _ in 1 2 3; do
-        { time "$repository/bin/stripboard" solve "$work/film.csv" --bounds "$bounds" --workers "$count" > "$work/plan"; } 2> "$work/time" || [ $? -eq 3 ]
+        { time "$repository/bin/stripboard" solve "$work/film.csv" --bounds "$bounds" --workers "$count" "${options[@]}" > "$work/plan"; } 2> "$work/time" || [ $? -eq 3 ]
         read -r passed user system < <(tail -n 1 "$work/time")
         if [ -z "$best" ] || awk -v a="$passed" -v b="${best%% *}" 'BEGIN { exit !(a < b) }'; then
             best="$passed $user $system"

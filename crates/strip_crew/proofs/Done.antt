@@ -14,6 +14,7 @@ use Rattle.strip_book.specs.View.{ViewData}
 use Rattle.strip_book.specs.Pass.{table_of}
 use Rattle.strip_front.specs.Front.{FrontData}
 use Rattle.strip_hub.specs.declared.asked.Asked.{Asked}
+use Rattle.strip_hub.specs.declared.source.Source.{Source}
 use Rattle.strip_hub.specs.Hub.{IsHub, hand_of}
 use Rattle.strip_team.specs.Team.{GoesOn, HasWorked}
 use Rattle.strip_team.proofs.Moved.{goes_then, moved_same}
@@ -29,31 +30,32 @@ pub goes_self : (hand : HandData) → GoesOn hand hand
 goes_self hand = record { search = refl; told = omega arith; grow = grow_self hand.lines; records = λ part entry is. is }
 
 -- passes of a hub are those of the words and the book that it stands over
-pub hub_is : (table : TableId) (least other_least : Least) (book other_book : Book) (told other_told : LeastPass) (lines other_lines : BookPass)
-    → least ≡ other_least → book ≡ other_book → other_told ≡ told → other_lines ≡ lines → table_of other_book ≡ table
-    → IsHub table least book told lines → IsHub (table_of other_book) other_least other_book other_told other_lines
-hub_is table least other_least book other_book told other_told lines other_lines same_least same_book same_told same_lines named hub =
-    subst (λ (t : TableId). IsHub t other_least other_book other_told other_lines) (sym named)
-    (subst (λ (l : Least). IsHub table l other_book other_told other_lines) same_least
-    (subst (λ (b : Book). IsHub table least b other_told other_lines) same_book
-    (subst (λ (t : LeastPass). IsHub table least book t other_lines) (sym same_told)
-    (subst (λ (l : BookPass). IsHub table least book told l) (sym same_lines) hub))))
+pub hub_is : (table : TableId) (least other_least : Least) (book other_book : Book) (source other_source : Source) (told other_told : LeastPass)
+    (lines other_lines : BookPass) → least ≡ other_least → book ≡ other_book → other_source ≡ source → other_told ≡ told → other_lines ≡ lines
+    → table_of other_book ≡ table → IsHub table least book source told lines → IsHub (table_of other_book) other_least other_book other_source other_told other_lines
+hub_is table least other_least book other_book source other_source told other_told lines other_lines same_least same_book same_source same_told same_lines named hub =
+    subst (λ (t : TableId). IsHub t other_least other_book other_source other_told other_lines) (sym named)
+    (subst (λ (l : Least). IsHub table l other_book other_source other_told other_lines) same_least
+    (subst (λ (b : Book). IsHub table least b other_source other_told other_lines) same_book
+    (subst (λ (s : Source). IsHub table least book s other_told other_lines) (sym same_source)
+    (subst (λ (t : LeastPass). IsHub table least book source t other_lines) (sym same_told)
+    (subst (λ (l : BookPass). IsHub table least book source told l) (sym same_lines) hub)))))
 
 -- what a hand has found doesn't depend on its last probe and its last note
-pub unasked : (told : LeastView) (lines : ViewData) (asked : Option Asked) (noted : Option Known) (front : FrontData) (found : List ℕ) (spent : Bool)
-    → length lines.lines ≤ lines.search.cap → HasWorked (hand_of told lines asked noted) front found spent → HasWorked (hand_of told lines None None) front found spent
-unasked told lines asked noted front found spent few was =
-    moved_same (hand_of told lines asked noted) (hand_of told lines None None)
+pub unasked : (source : Source) (told : LeastView) (lines : ViewData) (asked : Option Asked) (noted : Option Known) (front : FrontData) (found : List ℕ) (spent : Bool)
+    → length lines.lines ≤ lines.search.cap → HasWorked (hand_of source told lines asked noted) front found spent → HasWorked (hand_of source told lines None None) front found spent
+unasked source told lines asked noted front found spent few was =
+    moved_same (hand_of source told lines asked noted) (hand_of source told lines None None)
     (record { search = refl; told = omega arith; grow = grow_self lines.lines; records = λ part entry is. is }) front found spent was (λ _. few) (λ part. refl)
 
 -- and so it went on, whatever it probed and noted last
-pub goes_unasked : (before : HandData) (told : LeastView) (lines : ViewData) (asked : Option Asked) (noted : Option Known)
-    → GoesOn before (hand_of told lines asked noted) → GoesOn before (hand_of told lines None None)
-goes_unasked before told lines asked noted on = record { search = on.search; told = on.told; grow = on.grow; records = on.records }
+pub goes_unasked : (before : HandData) (source : Source) (told : LeastView) (lines : ViewData) (asked : Option Asked) (noted : Option Known)
+    → GoesOn before (hand_of source told lines asked noted) → GoesOn before (hand_of source told lines None None)
+goes_unasked before source told lines asked noted on = record { search = on.search; told = on.told; grow = on.grow; records = on.records }
 
-pub goes_from_unasked : (told : LeastView) (lines : ViewData) (asked : Option Asked) (noted : Option Known) (after : HandData)
-    → GoesOn (hand_of told lines None None) after → GoesOn (hand_of told lines asked noted) after
-goes_from_unasked told lines asked noted after on = record { search = on.search; told = on.told; grow = on.grow; records = on.records }
+pub goes_from_unasked : (source : Source) (told : LeastView) (lines : ViewData) (asked : Option Asked) (noted : Option Known) (after : HandData)
+    → GoesOn (hand_of source told lines None None) after → GoesOn (hand_of source told lines asked noted) after
+goes_from_unasked source told lines asked noted after on = record { search = on.search; told = on.told; grow = on.grow; records = on.records }
 
 module _ {X : Type 0} (P : X → Type 0) where
   -- what holds of all holds of the last one, and of those before it

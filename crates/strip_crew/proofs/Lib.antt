@@ -4,3 +4,8 @@ pub mod Done
 pub mod Opened
 pub mod Begun
 pub mod Shut
+pub mod Parted
+pub mod Dealt
+pub mod Queued
+pub mod Pooled
+pub mod Once

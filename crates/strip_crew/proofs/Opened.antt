@@ -16,6 +16,7 @@ use Rattle.strip_book.specs.declared.book.Book.{Book}
 use Rattle.strip_book.specs.declared.pass.BookPass.{BookPass}
 use Rattle.strip_book.specs.Pass.{IsFirst as IsFirstBook, known}
 use Rattle.strip_book.specs.View.{ViewData}
+use Rattle.strip_hub.specs.declared.source.Source.TheVariants.{Counter}
 use Rattle.strip_hub.specs.Hub.{GoTogether, IsSearch}
 use Rattle.strip_team.specs.Team.{IsSearchBy}
 use Rattle.strip_crew.specs.Race.{MayBegin}
@@ -27,24 +28,26 @@ module _ (kind : Kind) (film : FilmData) (start : PathData) (cap : ℕ) (tasks :
 
   pub opened : IsFirstLeast film start (suc (length tasks)) least told → IsFirstBook search book lines → IsFilm film → AreStarts search
       → tasks ≡ front.tasks → 1 ≤ cap → IsEmptyFront (rules_of kind film) front
-      → MayBegin kind film front least book (record { told = told; lines = lines })
+      → MayBegin kind film front least book (record { told = told; lines = lines; source = Counter })
   opened first_least first_book is_film starts by_tasks some empty = record {
     are = record {
       least_pass = first_least.pass_of;
       book_pass = first_book.pass_of;
       named = refl;
-      together = subst (λ (v : LeastView). GoTogether v (known lines)) (sym first_least.knows)
-          (subst (λ (v : ViewData). GoTogether (first_told (record { film = film; start = start.paid; parts = suc (length tasks) })) v) (sym first_book.knows) (record {
+      together = subst (λ (v : LeastView). GoTogether Counter v (known lines)) (sym first_least.knows)
+          (subst (λ (v : ViewData). GoTogether Counter (first_told (record { film = film; start = start.paid; parts = suc (length tasks) })) v) (sym first_book.knows) (record {
             film = refl;
             start = refl;
             parts = refl;
             no_dearer = omega arith;
-            begun = refl;
+            begun = λ part. refl;
             once = λ part. omega arith;
+            given = tt;
           }));
       search = subst IsSearch (sym first_book.knows) (record { film = is_film; tasks = starts });
     };
-    full = record { told = ap (λ (v : LeastView). v.weight) first_least.knows; lines = ap (λ (v : ViewData). v.weight) first_book.knows };
+    full = record { told = ap (λ (v : LeastView). v.weight) first_least.knows; lines = ap (λ (v : ViewData). v.weight) first_book.knows; source = tt };
+    counter = refl;
     search = subst (λ (v : ViewData). IsSearchBy kind film v.search) (sym first_book.knows) (record { same_film = refl; same_kind = refl });
     some_lines = subst (λ (v : ViewData). 1 ≤ v.search.cap) (sym first_book.knows) some;
     unclaimed = ap (λ (v : ViewData). v.entries) first_book.knows;

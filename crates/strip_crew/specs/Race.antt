@@ -1,21 +1,25 @@
 -- How a race opens, begins and is closed.
-use Rattle.std.specs.Prelude.{◌≡◌, ℕ, ◌≤◌, Bool, false, []}
+use Rattle.std.specs.Prelude.{◌≡◌, ℕ, suc, ◌<◌, ◌≤◌, Bool, false, if◌then◌else◌, List, [], ◌∷◌, ◌++◌}
+use mathlib.Core.Bool.{beq}
 use Rattle.strip_kind.specs.declared.kind.Kind.{Kind}
 use Rattle.strip_pay.specs.Film.{FilmData}
 use Rattle.strip_hand.specs.Search.{search_rules}
 use Rattle.strip_front.specs.Front.{FrontData, IsEmptyFront}
 use Rattle.strip_front.specs.Shown.{front_data}
 use Rattle.strip_least.specs.declared.least.Least.{Least}
-use Rattle.strip_least.specs.Pass.{best_path}
-use Rattle.strip_least.specs.Rule.{full_weight}
+use Rattle.strip_least.specs.Pass.{best_path, known as known_least}
+use Rattle.strip_least.specs.Rule.{full_weight, once_below, times}
 use Rattle.strip_book.specs.declared.book.Book.{Book}
 use Rattle.strip_book.specs.Pass.{known}
 use Rattle.strip_hub.specs.declared.hub.HubParts.{HubParts}
+use Rattle.strip_hub.specs.declared.source.Source.TheVariants.{Counter}
 use Rattle.strip_team.specs.declared.walked.Walked.{Walked}
 use Rattle.strip_team.specs.Closed.{IsClosed}
-use Rattle.strip_team.specs.Team.{HasWorked, IsSearchBy}
+use Rattle.strip_team.specs.Team.{GoesOn, HasWorked, IsSearchBy}
+use Rattle.strip_hub.specs.Source.{AreTasks}
 use Rattle.strip_crew.specs.declared.racing.Opening.{Opening}
 use Rattle.strip_crew.specs.Crew.{ArePassesOf, Weigh, shown}
+use Rattle.strip_crew.specs.Sources.{Deals, split_home}
 
 -- a race may begin with these passes and this front: there are no others, nothing was claimed, and the front has nothing in it
 pub record MayBegin (kind : Kind) (film : FilmData) (front : FrontData) (least : Least) (book : Book) (passes : HubParts) : Type 0 where
@@ -24,7 +28,8 @@ pub record MayBegin (kind : Kind) (film : FilmData) (front : FrontData) (least :
   pub search : IsSearchBy kind film (shown passes).search
   pub some_lines : 1 ≤ (shown passes).search.cap
   pub unclaimed : (known passes.lines).entries ≡ []
-  pub unended : (shown passes).ended ≡ false
+  pub counter : passes.source ≡ Counter
+  pub unended : (known_least passes.told).ended ≡ false
   pub front_of : IsEmptyFront (search_rules (shown passes).search) front
   pub tasks : (shown passes).search.tasks ≡ front.tasks
 
@@ -34,10 +39,12 @@ pub record IsOpening (kind : Kind) (film : FilmData) (paid room : ℕ) (opening 
   pub start : (shown opening.passes).search.start ≡ paid
   pub cap : (shown opening.passes).search.cap ≡ room
 
--- the front was gone down: nothing was found of any task yet, and it may have been cut short
+-- the front was claimed and no other part, and gone down: nothing was found of any task yet, and it may have been cut short
 pub record HasBegun (front : FrontData) (least : Least) (book : Book) (before after : HubParts) (walked : Walked) : Type 0 where
   pub passes : ArePassesOf least book after
   pub full : Weigh full_weight after
+  pub counter : after.source ≡ Counter
+  pub claimed : (part : ℕ) → times part (known_least after.told).claims ≡ once_below part 1
   pub search : (shown after).search ≡ (shown before).search
   pub worked : HasWorked (shown after) front walked.found.items walked.spent
 
@@ -48,3 +55,23 @@ pub record HasClosed (kind : Kind) (film : FilmData) (least : Least) (book : Boo
   pub search : (shown after).search ≡ (shown before).search
   pub closed : IsClosed kind film (shown after) spent number
   pub best : (best_path after.told).paid ≡ (shown after).told
+
+abbrev pub part_if : Bool → ℕ → List ℕ
+part_if is part = if is then part ∷ [] else []
+
+-- the parts of those tasks that are asked for, or of those that aren't, where the first task has this part
+abbrev pub parts_where : Bool → ℕ → List Bool → List ℕ
+parts_where asked part [] = []
+parts_where asked part (wanted ∷ more) = part_if (beq wanted asked) part ++ parts_where asked (suc part) more
+
+-- the numbers are the parts of so many tasks, each once
+abbrev pub ArePartsOf : ℕ → List ℕ → Type 0
+ArePartsOf tasks numbers = AreTasks (suc tasks) numbers
+
+-- the passes were perhaps given a pool from which workers take the tasks, and so many workers can have a source
+pub record IsReady (least : Least) (book : Book) (workers : ℕ) (before after : HubParts) : Type 0 where
+  pub passes : ArePassesOf least book after
+  pub goes_on : GoesOn (shown before) (shown after)
+  pub records : (part : ℕ) → (shown after).records part ≡ (shown before).records part
+  pub full : Weigh full_weight before → Weigh full_weight after
+  pub deals : (desk : ℕ) → desk < workers → Deals desk (split_home after.source)

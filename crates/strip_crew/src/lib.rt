@@ -3,7 +3,9 @@
 
 mod job;
 mod passes;
+mod queues;
 mod racing;
+mod sources;
 mod tables;
 mod working;
 

@@ -1,50 +1,66 @@
 // Passes that are split, joined and settled.
-ghost use Rattle.std.specs.Prelude.{◌≡◌, ◌+◌, ◌<◌, ◌||◌, ℕ, suc};
+ghost use Rattle.std.specs.Prelude.{◌≡◌, ◌+◌, ◌<◌, ◌||◌, ℕ, suc, IfOk};
 ghost use Rattle.strip_hand.specs.Hand.{IsHand};
 ghost use Rattle.strip_least.specs.Pass.{best_path, known as known_least};
 ghost use Rattle.strip_least.specs.Rule.{full_weight};
-ghost use Rattle.strip_team.specs.Team.{IsFresh, TakesOver};
-ghost use Rattle.strip_crew.specs.Crew.{ArePassesOf, AreSettled, Weigh, shown};
+ghost use Rattle.strip_team.specs.Team.{TakesOver};
+ghost use Rattle.strip_hub.specs.Source.{source_home};
+ghost use Rattle.strip_crew.specs.Sources.{Deals, split_home};
+ghost use Rattle.strip_crew.specs.Crew.{ArePassesOf, AreSettled, HasSplit, NoPartLeft, Weigh, shown};
 
+use crate::sources::{join_source, split_source};
+use std::alloc::Global;
 use strip_book::Book;
 use strip_book::laws::{
     entries_are_records, lines_of_entries_are_counted, other_parts_have_no_record,
 };
 use strip_hub::HubParts;
+use strip_io::Memory;
 use strip_least::Least;
 
 /// The passes of a further worker, each of weight 1, which knows what these know and has claimed nothing,
-/// and announces at this desk. These weigh less by 1.
-pub(crate) fn split(least: &Least, book: &Book, passes: &mut HubParts, desk: u32) -> HubParts
+/// and announces at this desk, with a source of its own. These weigh less by 1.
+pub(crate) fn split(
+    alloc: Global,
+    least: &Least,
+    book: &Book,
+    passes: &mut HubParts,
+    desk: u32,
+) -> Result<HubParts, Memory>
     requires passes { ArePassesOf least.now book.now passes.old }
     requires desk { desk < 64 }
+    requires deals { Deals desk (split_home passes.old.source) }
     requires weight { (rest : ℕ) × Weigh (suc (suc rest)) passes.old }
-    ensures passes { ArePassesOf least.now book.now passes.new }
-    ensures same { shown passes.new ≡ shown passes.old }
-    ensures lighter { (weight : ℕ) → Weigh (suc weight) passes.old → Weigh weight passes.new }
-    ensures new_passes { ArePassesOf least.now book.now result }
-    ensures light { Weigh 1 result }
-    ensures fresh { IsFresh (shown passes.old) (shown result) }
+    ensures { IfOk result (λ part. HasSplit least.now book.now passes.old part passes.new) }
 {
-    HubParts {
+    let source = split_source(alloc, &mut passes.source, desk)?;
+    Ok(HubParts {
         told: passes.told.split(least),
         lines: passes.lines.split(book, desk),
-    }
+        source,
+    })
 }
 
-/// Takes another worker's passes in: their weight, what they know, and the parts that they claimed.
+/// Takes another worker's passes in: their weight, what they know, and the parts that they have.
 pub(crate) fn join(least: &Least, book: &Book, into: &mut HubParts, other: HubParts)
     requires into { ArePassesOf least.now book.now into.old }
     requires other { ArePassesOf least.now book.now other }
+    requires from { source_home other.source ≡ split_home into.old.source }
     ensures passes { ArePassesOf least.now book.now into.new }
-    ensures heavier { (one more : ℕ) → Weigh one into.old → Weigh more other → Weigh (one + more) into.new }
+    ensures heavier { (weight : ℕ) → Weigh weight into.old → Weigh 1 other → Weigh (weight + 1) into.new }
     ensures takes_over { TakesOver (shown into.old) (shown other) (shown into.new) }
-    ensures ended { (shown into.new).ended ≡ ((shown into.old).ended || (shown other).ended) }
+    ensures home { split_home into.new.source ≡ split_home into.old.source }
+    ensures left { NoPartLeft other → NoPartLeft into.new }
 {
     other_parts_have_no_record();
-    let HubParts { told, lines } = other;
+    let HubParts {
+        told,
+        lines,
+        source,
+    } = other;
     into.told.join(least, told);
     into.lines.join(book, lines);
+    join_source(&mut into.source, source);
 }
 
 /// Tells the passes the least cost and all lines. Where they have the full weight, since all others were

@@ -7,17 +7,20 @@ ghost use Rattle.strip_count.specs.Paths.{factorial};
 ghost use Rattle.strip_memo.specs.Memo.{IsMemo};
 ghost use Rattle.strip_front.specs.Shown.{front_data};
 ghost use Rattle.strip_race.specs.Opened.{AreLimits};
-ghost use Rattle.strip_least.specs.Rule.{full_weight};
+ghost use Rattle.strip_least.specs.Pass.{known as known_least};
+ghost use Rattle.strip_least.specs.Rule.{full_weight, once_below, times};
+ghost use Rattle.strip_hub.specs.declared.source.Source.TheVariants.{Counter};
 ghost use Rattle.strip_book.specs.Pass.{table_of};
 ghost use Rattle.strip_team.specs.Closed.{EndsFrom};
 ghost use Rattle.strip_team.specs.Ended.{IsEnded};
 ghost use Rattle.strip_team.specs.Shown.{ended_data};
 ghost use Rattle.strip_team.specs.Team.{HasWorked, IsSearchBy};
-ghost use Rattle.strip_crew.specs.Crew.{ArePassesOf, HaveWorked, Weigh, shown};
+ghost use Rattle.strip_crew.specs.Crew.{ArePassesOf, HaveWorked, NoPartLeft, Weigh, shown};
 ghost use Rattle.strip_hub.specs.declared.hub.HubParts.{HubParts};
 ghost use Rattle.strip_crew.specs.Race.{HasBegun, HasClosed, IsOpening, MayBegin};
 
 use crate::passes::settle;
+use crate::queues::with_source;
 use crate::tables::Tables;
 use crate::working::{work_alone, work_beside};
 use std::alloc::Global;
@@ -25,14 +28,14 @@ use std::marker::Brand;
 use std::sync::Wait;
 use std::thread::Threads;
 use strip_book::Book;
-use strip_book::laws::lines_of_entries_are_counted;
+use strip_book::laws::{lines_of_entries_are_counted, other_parts_have_no_record};
 use strip_bound::Kept;
 use strip_count::laws::paths_are_few;
 use strip_film::Path;
 use strip_front::laws::tasks_are_starts;
 use strip_front::{Front, layers};
 use strip_hand::Hand;
-use strip_hub::{Hub, HubParts};
+use strip_hub::{Hub, HubParts, Source};
 use strip_io::Memory;
 use strip_least::Least;
 use strip_memo::Memo;
@@ -52,12 +55,14 @@ struct Opening {
 
 /// Searches the film for a cheapest order with several workers, each in a thread: the caller goes down the
 /// front, they walk the tasks that are asked for, and the caller closes the front up. It begins with a
-/// complete path and goes by the limits. The gate is told how they get on.
+/// complete path and goes by the limits. The gate is told how they get on. Each worker takes the next task of
+/// all; or, where they steal, he has a queue of tasks and takes from the others' where his own is empty.
 ///
 /// What is claimed of its end is what is claimed of a search by one worker, in whatever order the workers
-/// come. All room but that of a list for each worker is taken before they start, 16 bytes for each line that
-/// there may be; each has a memo of its own, and all these together take at most 128 MB. It waits for the
-/// workers, and they for the locks of the table.
+/// come. All room but that of a list for each worker, and of the queues, is taken before they start, 16 bytes
+/// for each line that there may be; each has a memo of its own, and all these together take at most 128 MB.
+/// It waits for the workers, and they for the locks of the table and for one who is about to take from the
+/// same queue.
 pub fn race<R: Threads + Wait + Sync, F: Fn(u64, u64) -> u64 + Sync, G: Gate>(
     rt: &R,
     alloc: Global,
@@ -65,6 +70,7 @@ pub fn race<R: Threads + Wait + Sync, F: Fn(u64, u64) -> u64 + Sync, G: Gate>(
     memo: &mut Memo,
     start: &Path,
     limits: Limits,
+    steal: bool,
     gate: &G,
 ) -> Result<Ended, Memory>
     requires keeps { Keeps (F.pre kept.now.f) (F.post kept.now.f) kept.now.kind kept.now.film.now }
@@ -79,7 +85,7 @@ pub fn race<R: Threads + Wait + Sync, F: Fn(u64, u64) -> u64 + Sync, G: Gate>(
     let room = room_for(kept.film().scenes(), limits.cap);
     let most = task_scenes(kept.film().scenes(), limits.workers);
     let opening = open(alloc, kept, start, room, most)?;
-    in_race::<Brand, R, F, G>(rt, alloc, kept, memo, opening, limits, gate)
+    in_race::<Brand, R, F, G>(rt, alloc, kept, memo, opening, limits, steal, gate)
 }
 
 /// How many lines there may be: as many as the cap says, and no more than twice the orders of so many
@@ -137,7 +143,11 @@ fn open<F: Fn(u64, u64) -> u64>(
         front,
         least,
         book,
-        passes: HubParts { told, lines },
+        passes: HubParts {
+            told,
+            lines,
+            source: Source::Counter,
+        },
     })
 }
 
@@ -154,6 +164,7 @@ fn in_race<
     memo: &mut Memo,
     opening: Opening,
     limits: Limits,
+    steal: bool,
     gate: &G,
 ) -> Result<Ended, Memory>
     requires keeps { Keeps (F.pre kept.now.f) (F.post kept.now.f) kept.now.kind kept.now.film.now }
@@ -187,6 +198,7 @@ fn in_race<
         &front,
         gate,
         limits.workers,
+        steal,
         memo,
         &mut walked,
         passes,
@@ -209,6 +221,7 @@ fn begin<R: Wait, N: Named, F: Fn(u64, u64) -> u64>(
     requires begin { MayBegin kept.now.kind kept.now.film.now (front_data front.old) tables.now.least tables.now.book passes }
     ensures { IfOk result (λ begun. HasBegun (front_data front.new) tables.now.least tables.now.book passes begun.0 begun.1) }
 {
+    other_parts_have_no_record();
     let mut hub = Hub::of(rt, &tables.least, &tables.book, &tables.stripes, passes);
     hub.claim();
     let walked = go_down_front(alloc, kept, &mut hub, front)?;
@@ -232,6 +245,7 @@ fn work_all<
     front: &Front,
     gate: &G,
     workers: u32,
+    steal: bool,
     memo: &mut Memo,
     walked: &mut Walked,
     passes: HubParts,
@@ -243,16 +257,26 @@ fn work_all<
     requires full { Weigh full_weight passes }
     requires search { IsSearchBy kept.now.kind kept.now.film.now (shown passes).search }
     requires worked { HasWorked (shown passes) (front_data front.now) walked.old.found.items walked.old.spent }
+    requires counter { passes.source ≡ Counter }
+    requires claimed { (part : ℕ) → times part (known_least passes.told).claims ≡ once_below part 1 }
     requires workers { (1 ≤ workers) × (workers ≤ 64) }
     ensures memo { IsMemo kept.now.kind kept.now.film.now memo.new }
-    ensures worked { IfOk result (λ after. HaveWorked (front_data front.now) tables.now.least tables.now.book passes after walked.new) }
+    ensures worked { IfOk result (λ after. HaveWorked full_weight (front_data front.now) tables.now.least tables.now.book passes after walked.new) }
 {
     if walked.spent {
         let caller = Worker { gate, number: 0 };
         return work_alone(rt, kept, tables, front, &caller, memo, walked, passes);
     }
-    let mut passes = passes;
-    work_beside(
+    let mut passes = with_source(
+        alloc,
+        &tables.least,
+        &tables.book,
+        front,
+        workers,
+        steal,
+        passes,
+    )?;
+    work_beside::<R, N, F, G, Brand>(
         rt,
         alloc,
         kept,
@@ -283,7 +307,7 @@ fn close_front<R: Wait, N: Named, F: Fn(u64, u64) -> u64>(
     requires full { Weigh full_weight passes }
     requires search { IsSearchBy kept.now.kind kept.now.film.now (shown passes).search }
     requires worked { HasWorked (shown passes) (front_data front.old) walked.now.found.items walked.now.spent }
-    requires ended { (shown passes).ended ≡ true }
+    requires left { NoPartLeft passes }
     ensures { IfOk result (λ closed. HasClosed kept.now.kind kept.now.film.now tables.now.least tables.now.book passes closed.0 closed.1 walked.now.spent) }
 {
     let mut passes = passes;
@@ -310,7 +334,7 @@ fn end<N: Named, F: Fn(u64, u64) -> u64>(
 {
     lines_of_entries_are_counted();
     let Tables { book, .. } = tables;
-    let HubParts { told, lines } = passes;
+    let HubParts { told, lines, .. } = passes;
     let best = *told.best();
     let lines = book.into_lines(alloc, lines)?;
     tell(alloc, kept, &best, lines, number, spent)

@@ -1,10 +1,12 @@
 // Jobs that are dealt, done beside one another, and gathered.
-ghost use Rattle.std.specs.Prelude.{◌≡◌, ◌≤◌, ◌+◌, ℕ, List, All, IfOk, false, length, vec_len};
+ghost use Rattle.std.specs.Prelude.{◌≡◌, ◌<◌, ◌≤◌, ◌+◌, ℕ, List, All, IfOk, false, length, vec_len};
 ghost use Rattle.strip_bound.specs.Kept.{Keeps};
 ghost use Rattle.strip_front.specs.Shown.{front_data};
 ghost use Rattle.strip_memo.specs.Memo.{IsMemo};
 ghost use Rattle.strip_book.specs.Pass.{table_of};
 ghost use Rattle.strip_team.specs.Team.{HasWorked, IsSearchBy};
+ghost use Rattle.strip_hub.specs.Source.{source_home};
+ghost use Rattle.strip_crew.specs.Sources.{Deals, IsWorkers, split_home};
 ghost use Rattle.strip_crew.specs.Crew.{AreDealt, ArePassesOf, HasGathered, HaveWorked, IsDone, IsJob, Weigh, shown};
 
 use crate::job::Job;
@@ -16,7 +18,7 @@ use std::thread;
 use std::thread::Threads;
 use strip_bound::Kept;
 use strip_front::Front;
-use strip_hub::{Hub, HubParts};
+use strip_hub::{Hub, HubParts, Rooted};
 use strip_io::Memory;
 use strip_memo::Memo;
 use strip_stripes::Named;
@@ -37,6 +39,7 @@ fn deal<N: Named, F: Fn(u64, u64) -> u64>(
     requires search { IsSearchBy kept.now.kind kept.now.film.now (shown passes.old).search }
     requires worked { (found : List ℕ) × HasWorked (shown passes.old) (front_data front.now) found false }
     requires weight { (rest : ℕ) × Weigh (1 + rest + workers) passes.old }
+    requires deals { (desk : ℕ) → desk < workers → Deals desk (split_home passes.old.source) }
     requires workers { workers ≤ 64 }
     ensures { IfOk result (λ jobs. AreDealt kept.now.kind kept.now.film.now (front_data front.now) tables.now.least tables.now.book
         passes.old passes.new jobs.items workers) }
@@ -47,7 +50,7 @@ fn deal<N: Named, F: Fn(u64, u64) -> u64>(
         let walked = Walked::new(alloc, front)?;
         jobs.push(Job {
             number: desk,
-            passes: split(&tables.least, &tables.book, passes, desk),
+            passes: split(alloc, &tables.least, &tables.book, passes, desk)?,
             walked,
             memo,
         })?;
@@ -72,9 +75,12 @@ pub(crate) fn work_alone<R: Wait, N: Named, F: Fn(u64, u64) -> u64, G: Gate>(
     requires named { table_of tables.now.book ≡ N.table }
     requires passes { ArePassesOf tables.now.least tables.now.book passes }
     requires search { IsSearchBy kept.now.kind kept.now.film.now (shown passes).search }
+    requires worker { IsWorkers passes.source }
     requires worked { HasWorked (shown passes) (front_data front.now) walked.old.found.items walked.old.spent }
     ensures memo { IsMemo kept.now.kind kept.now.film.now memo.new }
-    ensures worked { IfOk result (λ after. HaveWorked (front_data front.now) tables.now.least tables.now.book passes after walked.new) }
+    ensures home { IfOk result (λ after. source_home after.source ≡ source_home passes.source) }
+    ensures worker { IfOk result (λ after. IsWorkers after.source) }
+    ensures worked { (weight : ℕ) → IfOk result (λ after. HaveWorked weight (front_data front.now) tables.now.least tables.now.book passes after walked.new) }
 {
     let mut hub = Hub::of(rt, &tables.least, &tables.book, &tables.stripes, passes);
     work(kept, &mut hub, front, worker, memo, walked)?;
@@ -82,7 +88,7 @@ pub(crate) fn work_alone<R: Wait, N: Named, F: Fn(u64, u64) -> u64, G: Gate>(
 }
 
 /// Does a job.
-fn do_job<R: Wait, N: Named, F: Fn(u64, u64) -> u64, G: Gate>(
+fn do_job<R: Wait, N: Named, F: Fn(u64, u64) -> u64, G: Gate, S: Rooted>(
     rt: &R,
     kept: &Kept<F>,
     tables: &Tables<N>,
@@ -92,8 +98,8 @@ fn do_job<R: Wait, N: Named, F: Fn(u64, u64) -> u64, G: Gate>(
 ) -> Result<Job, Memory>
     requires keeps { Keeps (F.pre kept.now.f) (F.post kept.now.f) kept.now.kind kept.now.film.now }
     requires named { table_of tables.now.book ≡ N.table }
-    requires job { IsJob kept.now.kind kept.now.film.now (front_data front.now) tables.now.least tables.now.book job }
-    ensures { IfOk result (IsDone kept.now.kind kept.now.film.now (front_data front.now) tables.now.least tables.now.book) }
+    requires job { IsJob kept.now.kind kept.now.film.now (front_data front.now) tables.now.least tables.now.book S.home job }
+    ensures { IfOk result (IsDone kept.now.kind kept.now.film.now (front_data front.now) tables.now.least tables.now.book S.home) }
 {
     let Job {
         number,
@@ -126,6 +132,7 @@ fn do_jobs<
     N: Named + Send + Sync,
     F: Fn(u64, u64) -> u64 + Sync,
     G: Gate,
+    S: Rooted + Send + Sync,
 >(
     rt: &R,
     kept: &Kept<F>,
@@ -136,18 +143,18 @@ fn do_jobs<
 ) -> Result<Vec<Result<Job, Memory>>, Memory>
     requires keeps { Keeps (F.pre kept.now.f) (F.post kept.now.f) kept.now.kind kept.now.film.now }
     requires named { table_of tables.now.book ≡ N.table }
-    requires jobs { All (IsJob kept.now.kind kept.now.film.now (front_data front.now) tables.now.least tables.now.book) jobs.items }
+    requires jobs { All (IsJob kept.now.kind kept.now.film.now (front_data front.now) tables.now.least tables.now.book S.home) jobs.items }
     ensures count { IfOk result (λ all. vec_len all ≡ vec_len jobs) }
-    ensures each { IfOk result (λ all. All (λ one. IfOk one (IsDone kept.now.kind kept.now.film.now (front_data front.now) tables.now.least tables.now.book)) all.items) }
+    ensures each { IfOk result (λ all. All (λ one. IfOk one (IsDone kept.now.kind kept.now.film.now (front_data front.now) tables.now.least tables.now.book S.home)) all.items) }
 {
     let all = thread::map_vec(
         rt,
         jobs,
         &|job: Job| -> Result<Job, Memory>
             requires { Keeps (F.pre kept.now.f) (F.post kept.now.f) kept.now.kind kept.now.film.now × (table_of tables.now.book ≡ N.table)
-                × IsJob kept.now.kind kept.now.film.now (front_data front.now) tables.now.least tables.now.book job }
-            ensures { IfOk result (IsDone kept.entry.now.kind kept.entry.now.film.now (front_data front.entry.now) tables.entry.now.least tables.entry.now.book) }
-        { do_job(rt, kept, tables, front, gate, job) },
+                × IsJob kept.now.kind kept.now.film.now (front_data front.now) tables.now.least tables.now.book S.home job }
+            ensures { IfOk result (IsDone kept.entry.now.kind kept.entry.now.film.now (front_data front.entry.now) tables.entry.now.least tables.entry.now.book S.home) }
+        { do_job::<R, N, F, G, S>(rt, kept, tables, front, gate, job) },
     )?;
     Ok(all)
 }
@@ -161,6 +168,7 @@ fn gather<N: Named>(
 ) -> Memo
     requires passes { ArePassesOf tables.now.least tables.now.book passes.old }
     requires other { ArePassesOf tables.now.least tables.now.book job.passes }
+    requires from { source_home job.passes.source ≡ split_home passes.old.source }
     requires long { length walked.old.found.items ≡ length job.walked.found.items }
     ensures gathered { HasGathered tables.now.least tables.now.book passes.old walked.old job passes.new walked.new }
     ensures memo { result ≡ job.memo }
@@ -184,6 +192,7 @@ pub(crate) fn work_beside<
     N: Named + Send + Sync,
     F: Fn(u64, u64) -> u64 + Sync,
     G: Gate,
+    S: Rooted + Send + Sync,
 >(
     rt: &R,
     alloc: Global,
@@ -204,13 +213,15 @@ pub(crate) fn work_beside<
     requires worked { HasWorked (shown passes.old) (front_data front.now) walked.old.found.items walked.old.spent }
     requires whole { walked.old.spent ≡ false }
     requires weight { (rest : ℕ) × Weigh (1 + rest + workers) passes.old }
+    requires deals { (desk : ℕ) → desk < workers → Deals desk (split_home passes.old.source) }
+    requires home { split_home passes.old.source ≡ S.home }
     requires some { 1 ≤ workers }
     requires few { workers ≤ 64 }
     ensures memo { IsMemo kept.now.kind kept.now.film.now memo.new }
-    ensures worked { IfOk result (λ _. HaveWorked (front_data front.now) tables.now.least tables.now.book passes.old passes.new walked.new) }
+    ensures worked { (weight : ℕ) → IfOk result (λ _. HaveWorked weight (front_data front.now) tables.now.least tables.now.book passes.old passes.new walked.new) }
 {
     let jobs = deal(alloc, kept, tables, front, passes, workers)?;
-    let mut all = do_jobs(rt, kept, tables, front, gate, jobs)?;
+    let mut all = do_jobs::<R, N, F, G, S>(rt, kept, tables, front, gate, jobs)?;
     while let Some(one) = all.pop() {
         // The lines are trimmed by what one of the workers remembers.
         *memo = gather(tables, passes, walked, one?);

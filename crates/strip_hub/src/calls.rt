@@ -7,10 +7,12 @@ ghost use Rattle.strip_hand.specs.Calls.{Claims, Enlists, MayEnlist, MayRaise, N
 ghost use Rattle.strip_hand.specs.Hand.{IsHand, Knows};
 ghost use Rattle.strip_least.specs.Pass.{Claims as ClaimsNext, known as known_least};
 ghost use Rattle.strip_book.specs.Pass.{known};
+ghost use Rattle.strip_hub.specs.declared.source.Source.TheVariants.{Counter};
 ghost use Rattle.strip_hub.specs.Hub.{HubHome, IsHub, hand_of, home_of};
 
 use crate::asked::Asked;
 use crate::hub::Hub;
+use crate::source::next_part;
 use std::sync::Wait;
 use strip_book::laws::{entries_are_records, other_parts_have_no_record};
 use strip_film::{Cursor, Known, Listed, Noted, Path, Probe};
@@ -19,16 +21,16 @@ use strip_io::Memory;
 use strip_mask::Mask;
 use strip_stripes::Named;
 
-/// Each call is a few steps on what all workers share. `probe` and `note` wait for the lock of a stripe, and
-/// the others for nobody.
+/// Each call is a few steps on what all workers share. `probe` and `note` wait for the lock of a stripe, and a
+/// claim of one who takes from queues for another who takes from the same one; the others wait for nobody.
 impl<'a, R: Wait, N: Named> Hand for Hub<'a, R, N> {
-    ghost shows = { λ h. hand_of (known_least h.told) (known h.lines) h.asked h.noted };
+    ghost shows = { λ h. hand_of h.source (known_least h.told) (known h.lines) h.asked h.noted };
 
-    ghost is_sound = { λ h. IsHub N.table h.least.now h.book.now h.told h.lines };
+    ghost is_sound = { λ h. IsHub N.table h.least.now h.book.now h.source h.told h.lines };
 
     ghost Home = { HubHome };
 
-    ghost home = { λ h. home_of h.least.now h.book.now (known_least h.told) (known h.lines) };
+    ghost home = { λ h. home_of h.least.now h.book.now h.source (known_least h.told) (known h.lines) };
 
     fn keeps_limits(&self) {
         entries_are_records();
@@ -43,16 +45,17 @@ impl<'a, R: Wait, N: Named> Hand for Hub<'a, R, N> {
     }
 
     fn claim(&mut self) -> Option<u32>
-        requires { IsHub N.table self.old.least.now self.old.book.now self.old.told self.old.lines }
-        ensures sound { IsHub N.table self.new.least.now self.new.book.now self.new.told self.new.lines }
-        ensures home { home_of self.new.least.now self.new.book.now (known_least self.new.told) (known self.new.lines)
-            ≡ home_of self.old.least.now self.old.book.now (known_least self.old.told) (known self.old.lines) }
-        ensures claimed { Claims (hand_of (known_least self.old.told) (known self.old.lines) self.old.asked self.old.noted) result
-            (hand_of (known_least self.new.told) (known self.new.lines) self.new.asked self.new.noted) }
-        ensures next { ClaimsNext (known_least self.old.told) result (known_least self.new.told) }
+        requires { IsHub N.table self.old.least.now self.old.book.now self.old.source self.old.told self.old.lines }
+        ensures sound { IsHub N.table self.new.least.now self.new.book.now self.new.source self.new.told self.new.lines }
+        ensures home { home_of self.new.least.now self.new.book.now self.new.source (known_least self.new.told) (known self.new.lines)
+            ≡ home_of self.old.least.now self.old.book.now self.old.source (known_least self.old.told) (known self.old.lines) }
+        ensures claimed { Claims (hand_of self.old.source (known_least self.old.told) (known self.old.lines) self.old.asked self.old.noted) result
+            (hand_of self.new.source (known_least self.new.told) (known self.new.lines) self.new.asked self.new.noted) }
+        ensures next { self.old.source ≡ Counter → ClaimsNext (known_least self.old.told) result (known_least self.new.told) }
+        ensures counter { self.old.source ≡ Counter → self.new.source ≡ Counter }
     {
         other_parts_have_no_record();
-        let part = self.told.claim(self.least)?;
+        let part = next_part(self.rt, self.least, &mut self.told, &mut self.source)?;
         self.lines.begin(self.book, part);
         Some(part)
     }

@@ -5,6 +5,7 @@ ghost use Rattle.strip_least.specs.Pass.{IsPassOf as IsLeastPassOf, known as kno
 ghost use Rattle.strip_hub.specs.Hub.{GoTogether, IsHub, IsSearch};
 
 use crate::asked::Asked;
+use crate::source::Source;
 use std::sync::Wait;
 use strip_book::{Book, BookPass};
 use strip_film::Known;
@@ -12,7 +13,7 @@ use strip_least::{Least, LeastPass};
 use strip_stripes::{Named, Stripes};
 
 /// The hand of one worker among several: a pass of the least cost and the next part, a pass of the book of
-/// lines, the table that all share, and the worker's last probe and note. It never answers want of memory.
+/// lines, the table that all share, where it has its parts from, and the worker's last probe and note. It never answers want of memory.
 #[derive(Drop)]
 pub struct Hub<'a, R: Wait, N: Named> {
     pub(crate) rt: &'a R,
@@ -21,15 +22,17 @@ pub struct Hub<'a, R: Wait, N: Named> {
     pub(crate) stripes: &'a Stripes<N>,
     pub(crate) told: LeastPass,
     pub(crate) lines: BookPass,
+    pub(crate) source: Source,
     pub(crate) asked: Option<Asked>,
     pub(crate) noted: Option<Known>,
 }
 
-/// The passes of a hub.
+/// The passes of a hub, and where it has its parts from.
 #[derive(Drop)]
 pub struct HubParts {
     pub told: LeastPass,
     pub lines: BookPass,
+    pub source: Source,
 }
 
 impl<'a, R: Wait, N: Named> Hub<'a, R, N> {
@@ -44,15 +47,19 @@ impl<'a, R: Wait, N: Named> Hub<'a, R, N> {
         requires told { IsLeastPassOf least.now passes.told }
         requires lines { IsBookPassOf book.now passes.lines }
         requires named { table_of book.now ≡ N.table }
-        requires together { GoTogether (known_least passes.told) (known passes.lines) }
+        requires together { GoTogether passes.source (known_least passes.told) (known passes.lines) }
         requires search { IsSearch (known passes.lines) }
-        ensures hub { IsHub N.table result.least.now result.book.now result.told result.lines }
+        ensures hub { IsHub N.table result.least.now result.book.now result.source result.told result.lines }
         ensures least { result.least.now ≡ least.now }
         ensures book { result.book.now ≡ book.now }
-        ensures passes { (result.told ≡ passes.told) × (result.lines ≡ passes.lines) }
+        ensures passes { (result.told ≡ passes.told) × (result.lines ≡ passes.lines) × (result.source ≡ passes.source) }
         ensures unasked { (result.asked ≡ None) × (result.noted ≡ None) }
     {
-        let HubParts { told, lines } = passes;
+        let HubParts {
+            told,
+            lines,
+            source,
+        } = passes;
         Hub {
             rt,
             least,
@@ -60,6 +67,7 @@ impl<'a, R: Wait, N: Named> Hub<'a, R, N> {
             stripes,
             told,
             lines,
+            source,
             asked: None,
             noted: None,
         }
@@ -67,11 +75,12 @@ impl<'a, R: Wait, N: Named> Hub<'a, R, N> {
 
     /// Gives the passes back.
     pub fn parts(self) -> HubParts
-        ensures { (result.told ≡ self.entry.told) × (result.lines ≡ self.entry.lines) }
+        ensures { (result.told ≡ self.entry.told) × (result.lines ≡ self.entry.lines) × (result.source ≡ self.entry.source) }
     {
         HubParts {
             told: self.told,
             lines: self.lines,
+            source: self.source,
         }
     }
 }

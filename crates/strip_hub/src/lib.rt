@@ -4,5 +4,9 @@
 mod asked;
 mod calls;
 mod hub;
+mod rooted;
+mod source;
 
 pub use hub::{Hub, HubParts};
+pub use rooted::Rooted;
+pub use source::{Gatherer, Source};

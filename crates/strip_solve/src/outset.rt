@@ -106,7 +106,16 @@ pub(crate) fn end_beside<R: Threads + Wait + Sync, F: Fn(u64, u64) -> u64 + Sync
     match set_out(alloc, kept, memo, begun, options)? {
         Outset::Over(ended) => Ok(ended),
         Outset::Open(opened) => {
-            let ended = race(rt, alloc, kept, memo, &opened.from, limits, gate)?;
+            let ended = race(
+                rt,
+                alloc,
+                kept,
+                memo,
+                &opened.from,
+                limits,
+                options.steal,
+                gate,
+            )?;
             Ok(opened.ended_by(ended))
         }
     }

@@ -58,6 +58,8 @@ pub struct SearchOptions {
     pub tries: Option<u32>,
     /// In how many steps the bound of all scenes is raised before the search; nothing where it isn't raised so.
     pub steps: Option<u32>,
+    /// Whether each of several workers has a queue of tasks and takes from the others' where his own is empty.
+    pub steal: bool,
 }
 
 /// A plan of the instance, found by one worker. `TooManyClasses` where more than 64 classes are left. It

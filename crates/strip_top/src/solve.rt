@@ -64,7 +64,9 @@ fn solve_instance<V: Fn(&Instance, SearchOptions, u32) -> Result<Plan, ReduceFau
     ensures { IfOk result (λ answer. IsSolveAnswer (solve_data job.now) inst.now answer.status (answer_text answer)) }
 {
     written_plans_read_back();
-    let options = options_of(job.kind, job.nodes, job.table, job.tries, job.steps);
+    let options = options_of(
+        job.kind, job.nodes, job.table, job.tries, job.steps, job.steal,
+    );
     match solver(inst, options, job.workers as u32) {
         Ok(plan) => answer_plan(alloc, inst, plan, job.proof),
         Err(ReduceFault::TooManyClasses { count }) => too_many_classes(alloc, count),
@@ -79,13 +81,14 @@ pub(crate) fn options_of(
     table: u64,
     tries: Option<u64>,
     steps: Option<u64>,
+    steal: bool,
 ) -> SearchOptions
     requires nodes { (1 ≤ nodes) × (nodes ≤ 16777216) }
     requires table { (64 ≤ table) × (table ≤ 4194304) }
     requires tries { IfSome tries (λ number. number ≤ 100000000) }
     requires steps { IfSome steps (λ number. (1 ≤ number) × (number ≤ 1000)) }
     ensures may_be { MayBe result }
-    ensures said { result ≡ record { kind = kind; nodes = nodes; entries = table; tries = tries; steps = steps } }
+    ensures said { result ≡ record { kind = kind; nodes = nodes; entries = table; tries = tries; steps = steps; steal = steal } }
 {
     SearchOptions {
         kind,
@@ -93,6 +96,7 @@ pub(crate) fn options_of(
         entries: table as u32,
         tries: narrow(tries),
         steps: narrow(steps),
+        steal,
     }
 }
 

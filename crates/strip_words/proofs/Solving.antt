@@ -50,6 +50,7 @@ solve_once words a b (items, rest, spelled, one) names =
     let kind = kind_once a.kind b.kind (picked_once bounds_option items (bound_word a.kind) (bound_word b.kind) spelled.once one.kind two.kind) in
     let proof = same_test a.proof b.proof (λ is. two.proof.1 (one.proof.0 is)) (λ is. one.proof.1 (two.proof.0 is)) in
     let progress = same_test a.progress b.progress (λ is. two.progress.1 (one.progress.0 is)) (λ is. one.progress.1 (two.progress.0 is)) in
+    let steal = same_test a.steal b.steal (λ is. two.steal.1 (one.steal.0 is)) (λ is. one.steal.1 (two.steal.0 is)) in
     λ i. record {
       file = file i;
       workers = workers i;
@@ -60,4 +61,5 @@ solve_once words a b (items, rest, spelled, one) names =
       kind = kind i;
       proof = proof i;
       progress = progress i;
+      steal = steal i;
     }

@@ -86,6 +86,7 @@ solve_data job = record {
   kind = job.kind;
   proof = job.proof;
   progress = job.progress;
+  steal = job.steal;
 }
 
 -- a film's file and a plan's, as bytes

@@ -29,12 +29,15 @@ proof_flag = codes "--proof"
 abbrev pub progress_flag : Word
 progress_flag = codes "--progress"
 
+abbrev pub steal_flag : Word
+steal_flag = codes "--steal"
+
 abbrev pub solve : Command
 solve = record {
   word = codes "solve";
   operands = 1;
   valued = workers_option.name ∷ nodes_option.name ∷ table_option.name ∷ tries_option.name ∷ steps_option.name ∷ bounds_option.name ∷ [];
-  flags = proof_flag ∷ progress_flag ∷ [];
+  flags = proof_flag ∷ progress_flag ∷ steal_flag ∷ [];
 }
 
 -- the word for a static bound
@@ -46,7 +49,8 @@ bound_word Arrivals = codes "arrivals"
 
 -- a job to solve a file: how many workers, the greatest number of lines, the table's entries, how often the start is
 -- varied where the words say it, in how many steps the bound is raised first, where the words say it, the static bound,
--- whether line rows are written, and whether it is told on standard error how the search gets on
+-- whether line rows are written, whether it is told on standard error how the search gets on, and whether workers have
+-- queues of tasks and take from those of others too
 pub record SolveData : Type 0 where
   pub file : Word
   pub workers : ℕ
@@ -57,6 +61,7 @@ pub record SolveData : Type 0 where
   pub kind : Kind
   pub proof : Bool
   pub progress : Bool
+  pub steal : Bool
 
 -- the items and what follows them say this job
 pub record SayJob (items : List Item) (rest : Option (List Word)) (job : SolveData) : Type 0 where
@@ -69,6 +74,7 @@ pub record SayJob (items : List Item) (rest : Option (List Word)) (job : SolveDa
   pub kind : IsPicked bounds_option items (bound_word job.kind)
   pub proof : (job.proof ≡ true) ↔ Contains items (Flag proof_flag)
   pub progress : (job.progress ≡ true) ↔ Contains items (Flag progress_flag)
+  pub steal : (job.steal ≡ true) ↔ Contains items (Flag steal_flag)
 
 -- the words name this job to solve
 abbrev pub NameSolve : List Word → SolveData → Type 0

@@ -23,6 +23,7 @@ const SOLVE: Command = Command {
         CommandOption::Choice(BOUNDS),
         CommandOption::Flag(PROOF),
         CommandOption::Flag(PROGRESS),
+        CommandOption::Flag(STEAL),
     ],
 };
 
@@ -69,6 +70,8 @@ const PROOF: &str = "--proof";
 
 const PROGRESS: &str = "--progress";
 
+const STEAL: &str = "--steal";
+
 /// A film to be solved, and how.
 #[derive(Drop)]
 pub struct SolveJob {
@@ -90,6 +93,8 @@ pub struct SolveJob {
     pub proof: bool,
     /// Whether it is told on standard error how the search gets on.
     pub progress: bool,
+    /// Whether several workers take tasks from a queue of their own first, and then from the others'.
+    pub steal: bool,
 }
 
 /// The job to solve that the words behind `solve` name.
@@ -107,6 +112,7 @@ pub(crate) fn solve_job(alloc: Global, later: &[String]) -> Result<SolveJob, Wor
     let kind = kind_of(BOUNDS.picked(items)?);
     let proof = has_flag(items, PROOF);
     let progress = has_flag(items, PROGRESS);
+    let steal = has_flag(items, STEAL);
     let operands = reading.operands(alloc)?;
     let file = String::from_str(alloc, operands[0])?;
     Ok(SolveJob {
@@ -119,6 +125,7 @@ pub(crate) fn solve_job(alloc: Global, later: &[String]) -> Result<SolveJob, Wor
         kind,
         proof,
         progress,
+        steal,
     })
 }
 

@@ -22,7 +22,7 @@ use strip_book::Book;
 use strip_bound::{BoundTables, Kept, static_reach};
 use strip_film::{Cursor, Film, Known, Listed, Noted, Path, Probe};
 use strip_hand::Hand;
-use strip_hub::{Hub, HubParts};
+use strip_hub::{Hub, HubParts, Source};
 use strip_kind::Kind;
 use strip_least::Least;
 use strip_mask::Mask;
@@ -205,13 +205,25 @@ fn share<N: Named, R: Wait, F: Fn(u64, u64) -> u64>(
     let HubParts {
         mut told,
         mut lines,
+        source,
     } = passes;
     let stripes: Stripes<N> = Stripes::new(alloc, book, &mut lines, 64)?;
     let other = HubParts {
         told: told.split(least),
         lines: lines.split(book, 1),
+        source: Source::Counter,
     };
-    let mut first = Hub::of(rt, least, book, &stripes, HubParts { told, lines });
+    let mut first = Hub::of(
+        rt,
+        least,
+        book,
+        &stripes,
+        HubParts {
+            told,
+            lines,
+            source,
+        },
+    );
     let mut second = Hub::of(rt, least, book, &stripes, other);
     take_turns(kept, &mut first, &mut second, path)
 }
@@ -234,7 +246,11 @@ fn shared<R: Wait, F: Fn(u64, u64) -> u64>(
     let task = task_of_two(film).ok_or("a task")?;
     let (least, told) = Least::new(alloc, film, start, 2)?;
     let (book, lines) = Book::new(alloc, film, kept.kind(), start.paid(), &[task], 1)?;
-    let passes = HubParts { told, lines };
+    let passes = HubParts {
+        told,
+        lines,
+        source: Source::Counter,
+    };
     share::<Brand, R, F>(rt, alloc, kept, &least, &book, passes, path)
 }
 

@@ -10,6 +10,8 @@ mod hubs;
 #[cfg(test)]
 mod least;
 #[cfg(test)]
+mod queues;
+#[cfg(test)]
 mod races;
 #[cfg(test)]
 mod stripes;

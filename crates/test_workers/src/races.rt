@@ -31,12 +31,13 @@ fn ring(alloc: Global) -> Result<Film, Fail> {
 }
 
 /// The end of a race of so many workers, with a table of 64 entries and at most so many lines, that begins
-/// with the order of the rows.
+/// with the order of the rows, where they take tasks from one counter or from queues.
 pub(crate) fn raced<R: Threads + Wait + Sync, G: Gate>(
     rt: &R,
     alloc: Global,
     workers: u32,
     cap: u32,
+    steal: bool,
     gate: &G,
 ) -> Result<Ended, Fail>
     requires workers { (1 ≤ workers) × (workers ≤ 64) }
@@ -56,15 +57,20 @@ pub(crate) fn raced<R: Threads + Wait + Sync, G: Gate>(
         cap,
         entries: 64,
     };
-    let ended = race(rt, alloc, &kept, &mut memo, &start, limits, gate)?;
+    let ended = race(rt, alloc, &kept, &mut memo, &start, limits, steal, gate)?;
     Ok(ended)
 }
 
 /// Whether a race of so many workers ends with the least cost and proves it.
-fn is_won<R: Threads + Wait + Sync>(rt: &R, alloc: Global, workers: u32) -> Result<bool, Fail>
+fn is_won<R: Threads + Wait + Sync>(
+    rt: &R,
+    alloc: Global,
+    workers: u32,
+    steal: bool,
+) -> Result<bool, Fail>
     requires { (1 ≤ workers) × (workers ≤ 64) }
 {
-    let ended = raced(rt, alloc, workers, 1000, &OpenGate)?;
+    let ended = raced(rt, alloc, workers, 1000, steal, &OpenGate)?;
     Ok(!ended.spent && ended.cost == 33 && ended.bound == 33)
 }
 
@@ -75,19 +81,22 @@ fn runs_out<R: Threads + Wait + Sync>(
     alloc: Global,
     workers: u32,
     cap: u32,
+    steal: bool,
 ) -> Result<bool, Fail>
     requires workers { (1 ≤ workers) × (workers ≤ 64) }
     requires cap { (1 ≤ cap) × (cap ≤ 16777216) }
 {
-    let ended = raced(rt, alloc, workers, cap, &OpenGate)?;
+    let ended = raced(rt, alloc, workers, cap, steal, &OpenGate)?;
     Ok(ended.spent && ended.held == u64::from(cap) && ended.bound <= 33 && ended.cost >= 33)
 }
 
 #[test]
 fn a_race_ends_with_the_least_cost(rt: HostRuntime) -> Result<(), Fail> {
     let alloc = rt.alloc();
-    assert!(&rt; is_won(&rt, alloc, 2)?);
-    assert!(&rt; is_won(&rt, alloc, 64)?);
+    assert!(&rt; is_won(&rt, alloc, 2, false)?);
+    assert!(&rt; is_won(&rt, alloc, 64, false)?);
+    assert!(&rt; is_won(&rt, alloc, 2, true)?);
+    assert!(&rt; is_won(&rt, alloc, 64, true)?);
     Ok(())
 }
 
@@ -97,9 +106,11 @@ fn a_race_ends_with_the_least_cost(rt: HostRuntime) -> Result<(), Fail> {
 #[test]
 fn a_race_runs_out_of_lines(rt: HostRuntime) -> Result<(), Fail> {
     let alloc = rt.alloc();
-    assert!(&rt; runs_out(&rt, alloc, 2, 1)?);
-    assert!(&rt; runs_out(&rt, alloc, 64, 1)?);
-    assert!(&rt; runs_out(&rt, alloc, 2, 16)?);
-    assert!(&rt; runs_out(&rt, alloc, 64, 26)?);
+    assert!(&rt; runs_out(&rt, alloc, 2, 1, false)?);
+    assert!(&rt; runs_out(&rt, alloc, 64, 1, false)?);
+    assert!(&rt; runs_out(&rt, alloc, 2, 16, false)?);
+    assert!(&rt; runs_out(&rt, alloc, 64, 26, false)?);
+    assert!(&rt; runs_out(&rt, alloc, 2, 1, true)?);
+    assert!(&rt; runs_out(&rt, alloc, 2, 16, true)?);
     Ok(())
 }

@@ -1,7 +1,6 @@
-use Rattle.std.proofs.Common.{sym, subst, ap}
+use Rattle.std.proofs.Common.{refl, sym, subst, ap}
 use Rattle.strip_film.specs.Film.{IsFilm}
 use Rattle.strip_hand.specs.Search.{AreStarts, SearchData}
-use Rattle.strip_least.specs.declared.view.View.{View as LeastView}
 use Rattle.strip_least.specs.Pass.{known as known_least}
 use Rattle.strip_book.specs.View.{record_at}
 use Rattle.strip_book.specs.Pass.{known, table_of}
@@ -13,7 +12,7 @@ returns-clause-passes c = record {
   least_pass = c.settle.ensures.pass;
   book_pass = c.settle-2.ensures.pass;
   named = c.requires.named;
-  together = settled_together (known_least c.args.passes.now.told) (known_least c.settle.new.self) (known c.args.passes.now.lines) (known c.settle-2.new.self)
+  together = settled_together c.args.passes.now.source (known_least c.args.passes.now.told) (known_least c.settle.new.self) (known c.args.passes.now.lines) (known c.settle-2.new.self)
       c.requires.together c.settle.ensures.settled c.settle-2.ensures.settled;
   search = record {
     film = subst (λ (search : SearchData). IsFilm search.film) (sym c.settle-2.ensures.settled.stays.search) c.requires.search.film;
@@ -28,18 +27,18 @@ returns-clause-settled c =
     let lines = known c.args.passes.now.lines in
     let more = known c.settle-2.new.self in
     record {
-      goes_on = goes_on told after lines more c.requires.together c.settle.ensures.settled c.settle-2.ensures.settled;
+      goes_on = goes_on c.args.passes.now.source told after lines more c.requires.together c.settle.ensures.settled c.settle-2.ensures.settled;
       records = λ part. ap (record_at part) c.settle-2.ensures.settled.entries;
-      ended = ap (λ (v : LeastView). v.ended) c.settle.ensures.settled.only;
-      counts = λ weigh. counts told after lines more c.requires.together c.settle.ensures.settled c.settle-2.ensures.settled
+      source = refl;
+      counts = λ weigh. counts c.args.passes.now.source told after lines more c.requires.together c.settle.ensures.settled c.settle-2.ensures.settled
           c.lines_of_entries_are_counted.ensures
           (subst (λ (search : SearchData). IsFilm search.film) (sym c.settle-2.ensures.settled.stays.search) c.requires.search.film)
           c.settle-2.ensures.pass.entries (c.settle-2.ensures.settled.all weigh.lines);
-      all = λ weigh ended. has_all told after lines more c.requires.together c.settle.ensures.settled c.settle-2.ensures.settled
-          (c.settle.ensures.settled.each weigh.told ended);
+      all = λ weigh left. has_all c.args.passes.now.source told after lines more c.requires.together c.settle.ensures.settled c.settle-2.ensures.settled
+          weigh.source left (c.settle.ensures.settled.each weigh.told);
     }
 
 pub returns-clause-limits : goal.returns-clause-limits
 returns-clause-limits c =
-    limits_of (table_of c.args.book.now) c.args.least.now c.args.book.now c.settle.new.self c.settle-2.new.self c.entries_are_records.ensures
+    limits_of (table_of c.args.book.now) c.args.least.now c.args.book.now c.args.passes.now.source c.settle.new.self c.settle-2.new.self c.entries_are_records.ensures
     (returns-clause-passes c)

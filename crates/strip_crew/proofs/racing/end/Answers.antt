@@ -25,7 +25,7 @@ returns g c =
       grow = all.grow;
       justified = all.justified;
       few = all.few;
-      counts = counted_by (known_least c.args.passes.told) (known c.args.passes.lines) c.in_ok-lines.lines.items closed.passes.together
+      counts = counted_by c.args.passes.source (known_least c.args.passes.told) (known c.args.passes.lines) c.in_ok-lines.lines.items closed.passes.together
           c.lines_of_entries_are_counted.ensures closed.passes.search.film closed.passes.book_pass.entries all.numbers all.sets;
     } in
     where_ended c.tell.result (λ ended every. every hand closed.closed settled) c.tell.ensures.ended

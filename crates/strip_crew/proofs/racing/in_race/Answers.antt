@@ -3,12 +3,11 @@ use Rattle.strip_hand.specs.Search.{SearchData}
 use Rattle.strip_book.specs.View.{ViewData}
 use Rattle.strip_team.specs.Closed.{EndsFrom}
 use Rattle.strip_team.specs.Shown.{ended_data}
-use Rattle.strip_least.specs.Rule.{full_weight}
 use Rattle.strip_crew.specs.Crew.{shown}
 use Rattle.strip_crew.proofs.racing.in_race.Goals as goal
 
 pub close_front-requires-clause-full : goal.close_front-requires-clause-full
-close_front-requires-clause-full g c = c.in_ok-passes-2.ensures.worked.weight full_weight c.in_ok-passes.ensures.full
+close_front-requires-clause-full g c = c.in_ok-passes-2.ensures.worked.weight c.in_ok-passes.ensures.full
 
 pub end-requires-clause-closed : goal.end-requires-clause-closed
 end-requires-clause-closed g c = (c.in_ok-passes-2.passes, c.in_ok-passes-3.ensures)

@@ -1,7 +1,34 @@
 use Rattle.std.proofs.Common.{ℕ, ◌-◌, subst, arith}
-use Rattle.strip_crew.specs.Crew.{Weigh}
+use Rattle.strip_front.specs.Shown.{front_data}
+use Rattle.strip_least.specs.Rule.{full_weight}
+use Rattle.strip_team.proofs.Moved.{moved_same}
+use Rattle.strip_crew.specs.Crew.{Weigh, shown}
+use Rattle.strip_crew.proofs.Done.{goes_after}
 use Rattle.strip_crew.proofs.racing.work_all.Goals as goal
 
 pub work_beside-requires-clause-weight : goal.work_beside-requires-clause-weight
-work_beside-requires-clause-weight g c = λ κs outlives.
-    (4294967295 - c.args.workers, subst (λ (w : ℕ). Weigh w c.args.passes) (omega (arith, c.requires.workers.1)) c.requires.full)
+work_beside-requires-clause-weight g c = λ κs outlives. (
+  4294967295 - c.args.workers,
+  subst (λ (w : ℕ). Weigh w c.in_ok-passes.passes) (omega (arith, c.requires.workers.1)) (c.in_ok-passes.ensures.full c.requires.full),
+)
+
+pub work_beside-requires-clause-worked : goal.work_beside-requires-clause-worked
+work_beside-requires-clause-worked g c κs within =
+    let ready = c.in_ok-passes.ensures in
+    moved_same (shown c.args.passes) (shown c.in_ok-passes.passes) ready.goes_on (front_data c.args.front.now) c.args.walked.now.found.items c.args.walked.now.spent
+    c.requires.worked (λ _. ready.passes.book_pass.few) ready.records
+
+pub returns-then-walked-clause-worked : goal.returns-then-walked-clause-worked
+returns-then-walked-clause-worked g c = c.work_alone.ensures.worked full_weight
+
+pub returns-clause-worked : goal.returns-clause-worked
+returns-clause-worked g c =
+    let ready = c.in_ok-passes.ensures in
+    let done = c.in_ok-work_beside.ensures.worked full_weight in
+    record {
+      passes = done.passes;
+      goes_on = goes_after (shown c.args.passes) (shown c.in_ok-passes.passes) (shown c.work_beside.new.passes) ready.goes_on done.goes_on;
+      weight = λ weigh. done.weight (ready.full weigh);
+      worked = done.worked;
+      left = done.left;
+    }

@@ -4,6 +4,7 @@ use Rattle.strip_front.specs.Shown.{front_data}
 use Rattle.strip_hand.specs.Hand.{HandData}
 use Rattle.strip_team.specs.Team.{IsFresh, IsSearchBy}
 use Rattle.strip_crew.specs.Crew.{AreDealt, IsJob, Weigh, shown}
+use Rattle.strip_crew.specs.Sources.{Deals, split_home}
 use Rattle.strip_crew.proofs.working.deal.Goals as goal
 
 pub split-requires-clause-weight : goal.split-requires-clause-weight
@@ -14,25 +15,34 @@ split-requires-clause-weight g c =
           (subst (λ (w : ℕ). Weigh w c.args.passes.now) (omega (arith, c.loop-desk-test.true)) c.requires.weight.1),
     )
 
+pub split-requires-clause-deals : goal.split-requires-clause-deals
+split-requires-clause-deals g c =
+    subst (Deals c.loop-desk.desk) (sym c.loop-desk.invariant.home) (c.requires.deals c.loop-desk.desk (omega (arith, c.loop-desk-test.true)))
+
 pub loop-desk-preserved : goal.loop-desk-preserved
 loop-desk-preserved g c =
     let was = c.loop-desk.invariant in
+    let split = c.in_ok-split.ensures in
     let kind = c.args.kept.now.kind in
     let film = c.args.kept.now.film.now in
     let front = front_data c.args.front.now in
+    let home = split_home c.args.passes.now.source in
     record {
-      passes = c.split.ensures.passes;
-      same = c.split.ensures.same ∙ was.same;
-      weight = λ rest weigh. c.split.ensures.lighter rest
+      passes = split.passes;
+      same = split.same ∙ was.same;
+      weight = λ rest weigh. split.lighter rest
           (was.weight (suc rest) (subst (λ (w : ℕ). Weigh w c.args.passes.now) (omega arith) weigh));
       count = omega (arith, was.count, c.in_ok-push.ensures.len);
-      jobs_are = rw c.in_ok-push.ensures.items (All-push (IsJob kind film front c.args.tables.now.least c.args.tables.now.book) c.loop-desk.jobs.items
-          (record { number = c.loop-desk.desk; passes = c.split.result; walked = c.in_ok-walked.walked; memo = c.in_ok-memo.memo }) was.jobs_are (record {
-            passes = c.split.ensures.new_passes;
-            light = c.split.ensures.light;
-            search = subst (IsSearchBy kind film) (sym (c.split.ensures.fresh.search ∙ ap (λ (h : HandData). h.search) was.same)) c.requires.search;
-            worked = c.in_ok-walked.ensures.worked (shown c.args.passes.now) (shown c.split.result) c.requires.worked.0 c.requires.worked.1
-                (subst (λ (h : HandData). IsFresh h (shown c.split.result)) was.same c.split.ensures.fresh);
+      home = split.home ∙ was.home;
+      jobs_are = rw c.in_ok-push.ensures.items (All-push (IsJob kind film front c.args.tables.now.least c.args.tables.now.book home) c.loop-desk.jobs.items
+          (record { number = c.loop-desk.desk; passes = c.in_ok-split.field-0; walked = c.in_ok-walked.walked; memo = c.in_ok-memo.memo }) was.jobs_are (record {
+            passes = split.new_passes;
+            light = split.light;
+            worker = split.worker;
+            from = split.from ∙ was.home;
+            search = subst (IsSearchBy kind film) (sym (split.fresh.search ∙ ap (λ (h : HandData). h.search) was.same)) c.requires.search;
+            worked = c.in_ok-walked.ensures.worked (shown c.args.passes.now) (shown c.in_ok-split.field-0) c.requires.worked.0 c.requires.worked.1
+                (subst (λ (h : HandData). IsFresh h (shown c.in_ok-split.field-0)) was.same split.fresh);
             memo = c.in_ok-memo.ensures.memo;
           }));
     }

@@ -1,17 +1,19 @@
-use Rattle.std.proofs.Common.{sym, subst}
+use Rattle.std.proofs.Common.{◌∙◌, sym, subst}
 use Rattle.strip_team.specs.Team.{IsSearchBy}
 use Rattle.strip_crew.proofs.working.do_job.Goals as goal
 
 pub returns : goal.returns
 returns g c =
-    let done = c.in_ok-passes.ensures.worked in
+    let done = c.in_ok-passes.ensures.worked 1 in
     record {
       is_job = record {
         passes = done.passes;
-        light = done.weight 1 c.requires.job.light;
+        light = done.weight c.requires.job.light;
+        worker = c.in_ok-passes.ensures.worker;
+        from = c.in_ok-passes.ensures.home ∙ c.requires.job.from;
         search = subst (IsSearchBy c.args.kept.now.kind c.args.kept.now.film.now) (sym done.goes_on.search) c.requires.job.search;
         worked = done.worked;
         memo = c.work_alone.ensures.memo;
       };
-      ended = done.ended;
+      left = done.left;
     }

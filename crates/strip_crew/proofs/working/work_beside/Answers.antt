@@ -3,9 +3,10 @@ use Rattle.strip_io.specs.declared.files.Memory.{Memory}
 use Rattle.strip_front.specs.Shown.{front_data}
 use Rattle.strip_hand.specs.Hand.{HandData}
 use Rattle.strip_memo.specs.Memo.{IsMemo}
+use Rattle.strip_hub.specs.Source.{SourceHome}
 use Rattle.strip_team.specs.Team.{GoesOn, HasWorked}
 use Rattle.strip_crew.specs.declared.job.Job.{Job}
-use Rattle.strip_crew.specs.Crew.{IsDone, Weigh, shown}
+use Rattle.strip_crew.specs.Crew.{IsDone, IsJob, Weigh, shown}
 use Rattle.strip_crew.proofs.Done.{all_before, all_last, goes_after, goes_self}
 use Rattle.strip_crew.proofs.working.work_beside.Goals as goal
 
@@ -23,7 +24,8 @@ loop-one-init g c =
       );
       worked = subst (λ (h : HandData). HasWorked h (front_data c.args.front.now) c.args.walked.now.found.items c.args.walked.now.spent) (sym dealt.same) c.requires.worked;
       all = c.in_ok-all.ensures.each;
-      ended = inl (omega (arith, c.in_ok-all.ensures.count, dealt.count));
+      home = dealt.home ∙ c.requires.home;
+      left = inl (omega (arith, c.in_ok-all.ensures.count, dealt.count));
     }
 
 -- the job that was popped is done
@@ -33,18 +35,29 @@ is_done P before after one job all items is = subst (λ (r : Result Job Memory).
 
 pub gather-requires-clause-other : goal.gather-requires-clause-other
 gather-requires-clause-other g c =
-    (is_done (IsDone c.args.kept.now.kind c.args.kept.now.film.now (front_data c.args.front.now) c.args.tables.now.least c.args.tables.now.book)
+    (is_done (IsDone c.args.kept.now.kind c.args.kept.now.film.now (front_data c.args.front.now) c.args.tables.now.least c.args.tables.now.book g.S.Rooted.home)
     c.loop-one.all.items c.pop.new.self.items c.in-Some.one c.in_ok-one.field-0 c.loop-one.invariant.all c.in-Some.ensures.items c.in_ok-one.was).is_job.passes
 
 pub gather-requires-clause-long : goal.gather-requires-clause-long
 gather-requires-clause-long g c =
-    c.loop-one.invariant.worked.long ∙ sym (is_done (IsDone c.args.kept.now.kind c.args.kept.now.film.now (front_data c.args.front.now) c.args.tables.now.least c.args.tables.now.book)
+    c.loop-one.invariant.worked.long ∙ sym (is_done (IsDone c.args.kept.now.kind c.args.kept.now.film.now (front_data c.args.front.now) c.args.tables.now.least c.args.tables.now.book g.S.Rooted.home)
     c.loop-one.all.items c.pop.new.self.items c.in-Some.one c.in_ok-one.field-0 c.loop-one.invariant.all c.in-Some.ensures.items c.in_ok-one.was).is_job.worked.long
+
+pub gather-requires-clause-from : goal.gather-requires-clause-from
+gather-requires-clause-from g c =
+    (is_done (IsDone c.args.kept.now.kind c.args.kept.now.film.now (front_data c.args.front.now) c.args.tables.now.least c.args.tables.now.book g.S.Rooted.home)
+    c.loop-one.all.items c.pop.new.self.items c.in-Some.one c.in_ok-one.field-0 c.loop-one.invariant.all c.in-Some.ensures.items c.in_ok-one.was).is_job.from
+    ∙ sym c.loop-one.invariant.home
+
+pub do_jobs-requires-clause-jobs : goal.do_jobs-requires-clause-jobs
+do_jobs-requires-clause-jobs g c = λ κs outlives.
+    subst (λ (home : SourceHome). All (IsJob c.args.kept.now.kind c.args.kept.now.film.now (front_data c.args.front.now) c.args.tables.now.least c.args.tables.now.book home) c.in_ok-jobs.jobs.items)
+    c.requires.home c.in_ok-jobs.ensures.jobs_are
 
 pub loop-one-preserved : goal.loop-one-preserved
 loop-one-preserved g c =
     let was = c.loop-one.invariant in
-    let done = is_done (IsDone c.args.kept.now.kind c.args.kept.now.film.now (front_data c.args.front.now) c.args.tables.now.least c.args.tables.now.book)
+    let done = is_done (IsDone c.args.kept.now.kind c.args.kept.now.film.now (front_data c.args.front.now) c.args.tables.now.least c.args.tables.now.book g.S.Rooted.home)
     c.loop-one.all.items c.pop.new.self.items c.in-Some.one c.in_ok-one.field-0 was.all c.in-Some.ensures.items c.in_ok-one.was in
     let gathered = c.gather.ensures.gathered in
     record {
@@ -55,22 +68,23 @@ loop-one-preserved g c =
           let got = was.weight total weigh in
           (got.0 + 1, omega (arith, got.1, ap length c.in-Some.ensures.items, c.in-Some.ensures.len), gathered.weight got.0 got.2 done.is_job.light));
       worked = gathered.worked (front_data c.args.front.now) was.worked done.is_job.worked;
-      all = all_before (λ r. IfOk r (IsDone c.args.kept.now.kind c.args.kept.now.film.now (front_data c.args.front.now) c.args.tables.now.least c.args.tables.now.book)) c.pop.new.self.items c.in-Some.one
-          (subst (All (λ r. IfOk r (IsDone c.args.kept.now.kind c.args.kept.now.film.now (front_data c.args.front.now) c.args.tables.now.least c.args.tables.now.book))) c.in-Some.ensures.items was.all);
-      ended = inr (gathered.ended done.ended);
+      all = all_before (λ r. IfOk r (IsDone c.args.kept.now.kind c.args.kept.now.film.now (front_data c.args.front.now) c.args.tables.now.least c.args.tables.now.book g.S.Rooted.home)) c.pop.new.self.items c.in-Some.one
+          (subst (All (λ r. IfOk r (IsDone c.args.kept.now.kind c.args.kept.now.film.now (front_data c.args.front.now) c.args.tables.now.least c.args.tables.now.book g.S.Rooted.home))) c.in-Some.ensures.items was.all);
+      home = gathered.home ∙ was.home;
+      left = inr (gathered.left done.left);
     }
 
 pub returns-clause-worked : goal.returns-clause-worked
-returns-clause-worked g c =
+returns-clause-worked g c = λ so_much. (
     let was = c.loop-one.invariant in
     let empty : vec_len c.loop-one.all ≡ 0 = search rules in
     record {
       passes = was.passes;
       goes_on = was.goes_on;
-      weight = λ total weigh. (let got = was.weight total weigh in subst (λ (n : ℕ). Weigh n c.loop-one.passes) (omega (arith, got.1, empty)) got.2);
+      weight = λ weigh. (let got = was.weight so_much weigh in subst (λ (n : ℕ). Weigh n c.loop-one.passes) (omega (arith, got.1, empty)) got.2);
       worked = was.worked;
-      ended = elim was.ended [
+      left = elim was.left [
         | inl all ↦ absurd (omega (arith, all, empty, c.requires.some))
         | inr is ↦ is
       ];
-    }
+    })

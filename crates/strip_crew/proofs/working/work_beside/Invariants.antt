@@ -1,8 +1,9 @@
-use Rattle.std.proofs.Common.{◌≡◌, ◌+◌, ◌⊎◌, ℕ, All, IfOk, true, vec_len}
+use Rattle.std.proofs.Common.{◌≡◌, ◌+◌, ◌⊎◌, ℕ, All, IfOk, vec_len}
 use Rattle.strip_memo.specs.Memo.{IsMemo}
 use Rattle.strip_front.specs.Shown.{front_data}
 use Rattle.strip_team.specs.Team.{GoesOn, HasWorked}
-use Rattle.strip_crew.specs.Crew.{ArePassesOf, IsDone, Weigh, shown}
+use Rattle.strip_crew.specs.Crew.{ArePassesOf, IsDone, NoPartLeft, Weigh, shown}
+use Rattle.strip_crew.specs.Sources.{split_home}
 use Rattle.strip_crew.proofs.working.work_beside.Given as goal
 
 abbrev pub invariant-loop-one : goal.invariant-loop-one
@@ -12,8 +13,9 @@ invariant-loop-one g l = record {
   goes_on : GoesOn (shown l.fn.passes) (shown l.passes);
   weight : (total : ℕ) → Weigh total l.fn.passes → (rest : ℕ) × (rest + vec_len l.all ≡ total) × Weigh rest l.passes;
   worked : HasWorked (shown l.passes) (front_data l.fn.front) l.walked.found.items l.walked.spent;
-  all : All (λ one. IfOk one (IsDone l.fn.kept.kind l.fn.kept.film.now (front_data l.fn.front) l.fn.tables.least l.fn.tables.book)) l.all.items;
-  ended : (vec_len l.all ≡ l.fn.workers) ⊎ ((shown l.passes).ended ≡ true);
+  all : All (λ one. IfOk one (IsDone l.fn.kept.kind l.fn.kept.film.now (front_data l.fn.front) l.fn.tables.least l.fn.tables.book g.S.Rooted.home)) l.all.items;
+  home : split_home l.passes.source ≡ g.S.Rooted.home;
+  left : (vec_len l.all ≡ l.fn.workers) ⊎ NoPartLeft l.passes;
 }
 
 abbrev pub decreases-loop-one : goal.decreases-loop-one

@@ -61,6 +61,7 @@ returns-clause-named c =
       kind = c.kind_of-kind.result;
       proof = c.has_flag-proof.result;
       progress = c.has_flag-progress.result;
+      steal = c.has_flag-steal.result;
     }) in
     let says : SayJob (items_data slice) (rest_data reading.rest) job = record {
       file = ap (λ items. operands_of (items_data items) (rest_data reading.rest)) c.as_slice-items.ensures.value ∙ sym all ∙ one_str operands c.index.result.now one
@@ -73,6 +74,7 @@ returns-clause-named c =
       kind = subst (IsPicked bounds_option (items_data slice)) (sym c.kind_of-kind.ensures) c.in_ok-picked.ensures.ok;
       proof = c.has_flag-proof.ensures;
       progress = c.has_flag-progress.ensures;
+      steal = c.has_flag-steal.ensures;
     } in (
       items_data reading.items.items,
       rest_data reading.rest,

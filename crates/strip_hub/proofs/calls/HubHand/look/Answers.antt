@@ -5,7 +5,7 @@ use Rattle.strip_hub.proofs.calls.HubHand.look.Goals as goal
 
 pub returns-clause-told : goal.returns-clause-told
 returns-clause-told g c =
-    looks (known_least c.args.self.now.told) (known c.args.self.now.lines) c.args.self.now.asked c.args.self.now.noted c.requires.together
+    looks c.args.self.now.source (known_least c.args.self.now.told) (known c.args.self.now.lines) c.args.self.now.asked c.args.self.now.noted c.requires.together
     c.look.result (known_least c.look.new.self) c.look.ensures.told
 
 pub returns-clause-sound : goal.returns-clause-sound
@@ -13,7 +13,7 @@ returns-clause-sound g c = record {
   least_pass = c.look.ensures.pass;
   book_pass = c.requires.book_pass;
   named = c.requires.named;
-  together = looks_together (known_least c.args.self.now.told) (known c.args.self.now.lines) c.args.self.now.asked c.args.self.now.noted c.requires.together
+  together = looks_together c.args.self.now.source (known_least c.args.self.now.told) (known c.args.self.now.lines) c.args.self.now.asked c.args.self.now.noted c.requires.together
       c.look.result (known_least c.look.new.self) c.look.ensures.told;
   search = c.requires.search;
 }

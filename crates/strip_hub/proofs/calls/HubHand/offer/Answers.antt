@@ -6,7 +6,7 @@ use Rattle.strip_hub.proofs.calls.HubHand.offer.Goals as goal
 
 pub returns-clause-told : goal.returns-clause-told
 returns-clause-told g c =
-    offers (known_least c.args.self.now.told) (known c.args.self.now.lines) c.args.self.now.asked c.args.self.now.noted c.requires.sound.together
+    offers c.args.self.now.source (known_least c.args.self.now.told) (known c.args.self.now.lines) c.args.self.now.asked c.args.self.now.noted c.requires.sound.together
     (path_data c.args.path.now).paid c.offer.result (known_least c.offer.new.self) c.offer.ensures.told
 
 pub returns-clause-sound : goal.returns-clause-sound
@@ -14,7 +14,7 @@ returns-clause-sound g c = record {
   least_pass = c.offer.ensures.pass;
   book_pass = c.requires.sound.book_pass;
   named = c.requires.sound.named;
-  together = offers_together (known_least c.args.self.now.told) (known c.args.self.now.lines) c.args.self.now.asked c.args.self.now.noted c.requires.sound.together
+  together = offers_together c.args.self.now.source (known_least c.args.self.now.told) (known c.args.self.now.lines) c.args.self.now.asked c.args.self.now.noted c.requires.sound.together
       (path_data c.args.path.now).paid c.offer.result (known_least c.offer.new.self) c.offer.ensures.told;
   search = c.requires.sound.search;
 }

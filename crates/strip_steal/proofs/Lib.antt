@@ -1,0 +1,13 @@
+pub mod Asks
+pub mod Deals
+pub mod Fronts
+pub mod Given
+pub mod Handed
+pub mod Joins
+pub mod Numbers
+pub mod Places
+pub mod Pops
+pub mod Rules
+pub mod Shares
+pub mod Starts
+pub mod Turns
