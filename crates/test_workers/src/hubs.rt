@@ -9,6 +9,7 @@ ghost use Rattle.strip_hand.specs.Calls.{StandsAt};
 ghost use Rattle.strip_hand.specs.Hand.{Knows};
 ghost use Rattle.strip_hand.specs.Search.{GoesBy, depth_of};
 ghost use Rattle.strip_book.specs.Pass.{known, table_of};
+ghost use Rattle.strip_hub.specs.declared.source.Source.TheVariants.{Counter};
 ghost use Rattle.strip_crew.specs.Crew.{ArePassesOf, Weigh};
 ghost use Rattle.test_workers.specs.Hubs.{HasWhole};
 
@@ -197,6 +198,7 @@ fn share<N: Named, R: Wait, F: Fn(u64, u64) -> u64>(
     requires keeps { Keeps (F.pre kept.now.f) (F.post kept.now.f) kept.now.kind kept.now.film.now }
     requires named { table_of book.now ≡ N.table }
     requires passes { ArePassesOf least.now book.now passes }
+    requires counter { passes.source ≡ Counter }
     requires weight { (rest : ℕ) × Weigh (suc (suc rest)) passes }
     requires goes_by { GoesBy kept.now.kind kept.now.film.now (known passes.lines).search }
     requires deep { 2 ≤ depth_of (known passes.lines).search }

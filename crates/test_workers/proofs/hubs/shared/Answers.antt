@@ -9,5 +9,6 @@ share-requires-clause-weight g c = (
   record {
     told = ap (λ (v : LeastView). v.weight) c.in_ok-least.ensures.knows;
     lines = ap (λ (v : ViewData). v.weight) c.in_ok-book.ensures.knows;
+    source = tt;
   },
 )
