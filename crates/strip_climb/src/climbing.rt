@@ -108,7 +108,8 @@ fn known_of_all<F: Fn(u64, u64) -> u64>(kept: &Kept<F>, ascent: &Ascent) -> u64
 }
 
 /// The least over the open firsts of a step and the static bound of what then remains, in units of money, with
-/// which a climb begins. Nothing is claimed of it, as nothing but the time depends on the limits.
+/// which a climb begins. Nothing is claimed of it: on the limits depend how long a climb takes, and how high the
+/// bound of one is that is cut short.
 fn look_ahead<F: Fn(u64, u64) -> u64>(kept: &Kept<F>, running: &Running) -> u64
     requires keeps { Keeps (F.pre kept.now.f) (F.post kept.now.f) kept.now.kind kept.now.film.now }
     requires running { IsRunning kept.now.film.now (running_data running.now) }

@@ -50,11 +50,12 @@ pub(crate) fn walk<F: Fn(u64, u64) -> u64>(
         ascent.meet(running.path());
         return Ok(0);
     }
+    let beyond = ascent.goal - limit;
     let place = match begin(kept, ascent, running.path(), memo, limit)? {
         Begun::Answered(bound) => return Ok(bound),
         Begun::Opened(place) => place,
     };
-    let mut sifted = sift(kept, running, memo, limit);
+    let mut sifted = sift(kept, running, memo, limit, beyond);
     while let Some(s) = sifted.visit.take_next() {
         let paid = running.paid();
         running.take(film, s);
@@ -87,7 +88,7 @@ fn begin<F: Fn(u64, u64) -> u64>(
 {
     kept.film().keeps_limits();
     let room = limit.saturating_sub(path.paid());
-    let bound = memo.reach(kept, path.rest(), room);
+    let bound = memo.reach_beyond(kept, path.rest(), room, ascent.goal - limit);
     if bound >= room {
         return Ok(Begun::Answered(bound));
     }
