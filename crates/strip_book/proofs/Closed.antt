@@ -16,7 +16,7 @@ use Rattle.strip_book.specs.Words.{bound_word, count_word, set_word}
 use Rattle.strip_book.specs.Rule.{IsBook, IsWritten, full_weight}
 use Rattle.strip_book.specs.Pass.{AreAll}
 use Rattle.strip_book.proofs.Views.{alone}
-use Rattle.strip_book.proofs.Kept.{learnt, never_writes}
+use Rattle.strip_book.proofs.RuleKept.{learnt, never_writes}
 use Rattle.strip_book.proofs.Told.{owns_all}
 
 -- an element that stands at a place

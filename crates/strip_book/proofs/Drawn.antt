@@ -29,7 +29,7 @@ use Rattle.strip_book.specs.Steps.{HasDrawn, drawn}
 use Rattle.strip_book.specs.Pass.{IsNext}
 use Rattle.strip_book.proofs.Views.{put_here, spent_weight-most, spent_weight-none, total-put, written-put}
 use Rattle.strip_book.proofs.Entries.{each-enlisted, each_at, entry_of, longer, total-enlisted}
-use Rattle.strip_book.proofs.Kept.{Step, grow_none, learnt, mine_fits, never_writes, stays, stepped_by}
+use Rattle.strip_book.proofs.RuleKept.{Step, grow_none, learnt, mine_fits, never_writes, stays, stepped_by}
 
 -- ---- what the next path of a part counts
 

@@ -12,7 +12,7 @@ use Rattle.strip_book.specs.View.{ViewData}
 use Rattle.strip_book.specs.Rule.{Fits, IsBook, IsEntry, candidates_at, candidates_of, number_of, numbers_of, spent_view, spent_weight, total, weight_of}
 use Rattle.strip_book.specs.Steps.{heard_from, joined}
 use Rattle.strip_book.proofs.Views.{each_put, spent_weight-joined, spent_weight-light, total-append, total-put, written-put}
-use Rattle.strip_book.proofs.Kept.{grow_none, never_writes}
+use Rattle.strip_book.proofs.RuleKept.{grow_none, never_writes}
 
 one_spent : (a b : Bool) (P : Type 0) → (a || b) ≡ true → (a ≡ true → P) → (b ≡ true → P) → P
 one_spent true b P is first second = first refl

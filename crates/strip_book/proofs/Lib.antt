@@ -1,6 +1,6 @@
 pub mod Views
 pub mod Entries
-pub mod Kept
+pub mod RuleKept
 pub mod Told
 pub mod Drawn
 pub mod Written

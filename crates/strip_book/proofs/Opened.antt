@@ -14,7 +14,7 @@ use Rattle.strip_hand.specs.Search.{SearchData, search_rules}
 use Rattle.strip_book.specs.View.{ViewData}
 use Rattle.strip_book.specs.Words.{bound_word, count_word, word_count}
 use Rattle.strip_book.specs.Rule.{Fits, IsBook, IsEntry, first_view}
-use Rattle.strip_book.proofs.Kept.{grow_none}
+use Rattle.strip_book.proofs.RuleKept.{grow_none}
 
 -- the one view of a new table
 each_first : (P : ViewData → Type 0) (first : ViewData) → P first → (id : ℕ) (view : ViewData) → get_elem? (first ∷ []) id ≡ some view → P view

@@ -11,7 +11,7 @@ use Rattle.strip_book.specs.View.{ViewData}
 use Rattle.strip_book.specs.Rule.{Fits, IsBook, IsEntry, IsWritten, candidates_of, numbers_of, spent_weight, total, weight_of}
 use Rattle.strip_book.specs.Steps.{copied, lightened, split_off}
 use Rattle.strip_book.proofs.Views.{each_pushed, each_put, spent_weight-parted, total-push, total-put, written-pushed, written-put}
-use Rattle.strip_book.proofs.Kept.{never_writes}
+use Rattle.strip_book.proofs.RuleKept.{never_writes}
 
 -- the rule with one view more, that has no entries and writes nothing
 module _ (search : SearchData) (s : State Path ViewData) (k : IsBook search s) (views : List ViewData) where

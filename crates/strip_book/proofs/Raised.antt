@@ -18,7 +18,7 @@ use Rattle.strip_book.specs.Rule.{Fits, IsBook, bound_due, lines_of, spent_weigh
 use Rattle.strip_book.specs.Steps.{HasLearnt, HasRaised, knowing}
 use Rattle.strip_book.specs.Pass.{MayRaise}
 use Rattle.strip_book.proofs.Views.{total-put}
-use Rattle.strip_book.proofs.Kept.{Step, grow_none, learnt, mine_fits, never_writes, stays, stepped_by}
+use Rattle.strip_book.proofs.RuleKept.{Step, grow_none, learnt, mine_fits, never_writes, stays, stepped_by}
 
 -- as many lines have each set
 sets_stay : (lines : List Line) (place bound q : ℕ) → place < length lines → lines_of q (with_raised lines place bound) ≡ lines_of q lines

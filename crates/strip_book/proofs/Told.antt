@@ -16,7 +16,7 @@ use Rattle.strip_book.specs.Steps.{HasAnnounced, HasCompared, HasSeen, OwnsAll, 
 use Rattle.strip_book.specs.Words.{desk_word, quiet_word}
 use Rattle.strip_film.specs.Shown.{path_data}
 use Rattle.strip_book.proofs.Views.{total-alone, total-push}
-use Rattle.strip_book.proofs.Kept.{grow_none, kept_still, learnt, mine_fits, quiet, still, word_stays}
+use Rattle.strip_book.proofs.RuleKept.{grow_none, kept_still, learnt, mine_fits, quiet, still, word_stays}
 
 -- a number that is exchanged for itself stays
 either_same : (n old : ℕ) → either (eqb n old) old n ≡ n

@@ -18,7 +18,7 @@ use Rattle.strip_book.specs.Rule.{Fits, IsBook, IsWriting, bound_due, draft_line
 use Rattle.strip_book.specs.Steps.{half_written, written}
 use Rattle.strip_book.specs.Pass.{Writes}
 use Rattle.strip_book.proofs.Views.{put_here, total-put, written-put}
-use Rattle.strip_book.proofs.Kept.{Step, mine_fits, stepped_by}
+use Rattle.strip_book.proofs.RuleKept.{Step, mine_fits, stepped_by}
 
 module _ (search : SearchData) (s : State Path ViewData) (k : IsBook search s) (id : ℕ) (me : ViewData) (at : get_elem? s.views id ≡ some me) (writes : me.writing ≡ true) where
   fits : Fits search s.words k.lines me

@@ -16,4 +16,4 @@ pub mod Small
 pub mod Asked
 pub mod Weights
 pub mod Turns
-pub mod Rows
+pub mod Examples

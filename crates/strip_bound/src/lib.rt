@@ -3,11 +3,11 @@
 
 mod bounds;
 mod falling;
-mod kept;
 pub mod laws;
 mod parties;
+mod stored_bound;
 mod tables;
 
 pub use bounds::{groups, pairs, plain, static_bound, static_reach};
-pub use kept::Kept;
+pub use stored_bound::StoredBound;
 pub use tables::BoundTables;

@@ -4,8 +4,8 @@ use Rattle.std.specs.declared.alloc.Global.{Global}
 use Rattle.strip_words.specs.Shown.{texts}
 use Rattle.strip_answer.specs.Headline.{IsHeadline}
 use Rattle.strip_answer.specs.Run.{RunData}
-use Rattle.strip_top.specs.Due.{board_claims}
-use Rattle.strip_audit.specs.Claims.{audit_claims}
+use Rattle.strip_commands.specs.Due.{board_claims}
+use Rattle.strip_check_command.specs.Claims.{audit_claims}
 use Rattle.strip_cases.specs.declared.case.Action.{Action}
 use Rattle.strip_cases.specs.declared.case.Action.TheVariants.{Give, Run}
 use Rattle.strip_cases.specs.declared.case.Case.{Case}

@@ -12,7 +12,7 @@ use std::sync::Wait;
 use std::thread::Threads;
 use strip_cases::{Action, Case, Given, Held, Program, Step, difference};
 use strip_io::{MemFiles, MemSink, Memory};
-use strip_team::OpenGate;
+use strip_worker::OpenGate;
 
 /// Runs a case, and answers how its first step that differs does. The shared files are at hand in it.
 pub(crate) fn run_case<R: Threads + Wait + Sync>(
@@ -128,8 +128,8 @@ fn run_program<R: Threads + Wait + Sync>(
     }) result }
 {
     match program {
-        Program::Stripboard => strip_top::run(rt, alloc, words, files, out, &OpenGate),
-        Program::Stripcheck => strip_audit::report(alloc, words, files, out),
+        Program::Stripboard => strip_commands::run(rt, alloc, words, files, out, &OpenGate),
+        Program::Stripcheck => strip_check_command::report(alloc, words, files, out),
     }
 }
 

@@ -3,13 +3,13 @@ ghost use Rattle.std.specs.Prelude.{◌≡◌, ◌≢◌, ◌↔◌, ℕ, ◌+�
 ghost use Rattle.strip_mask.specs.Set.{has, members, without};
 ghost use Rattle.strip_film.specs.Film.{LiesIn};
 ghost use Rattle.strip_film.specs.Shoot.{on_location, step_cost};
-ghost use Rattle.strip_bound.specs.Kept.{Keeps};
+ghost use Rattle.strip_bound.specs.StoredBound.{Keeps};
 ghost use Rattle.strip_lines.specs.Lines.{known, least_step, rules_of};
 ghost use Rattle.strip_memo.specs.Memo.{IsMemo};
 ghost use Rattle.strip_check.specs.Reasons.{by_lines, justified};
 
 use strip_best::Best;
-use strip_bound::Kept;
+use strip_bound::StoredBound;
 use strip_film::{Film, on, step, step_with};
 use strip_kind::Kind;
 use strip_mask::Mask;
@@ -19,7 +19,7 @@ use strip_rule::{open_firsts, open_firsts_with};
 /// Whether the lines justify a bound for a set: its static bound decides, or else a step and what is known
 /// of the rest for each open first. Where static bounds are dear, the steps come first.
 pub(crate) fn is_justified<F: Fn(u64, u64) -> u64>(
-    kept: &Kept<F>,
+    kept: &StoredBound<F>,
     memo: &mut Memo,
     best: &Best,
     q: Mask,
@@ -51,7 +51,7 @@ fn is_dear(kind: Kind) -> bool {
 
 /// Whether the set has open firsts, and the step of each and what is known of the rest reach the bound.
 fn is_by_steps<F: Fn(u64, u64) -> u64>(
-    kept: &Kept<F>,
+    kept: &StoredBound<F>,
     memo: &mut Memo,
     best: &Best,
     q: Mask,
@@ -74,7 +74,7 @@ fn is_by_steps<F: Fn(u64, u64) -> u64>(
 
 /// Whether each first step and what is known of the rest reach the bound.
 fn steps_reach<F: Fn(u64, u64) -> u64>(
-    kept: &Kept<F>,
+    kept: &StoredBound<F>,
     memo: &mut Memo,
     best: &Best,
     q: Mask,
@@ -101,7 +101,7 @@ fn steps_reach<F: Fn(u64, u64) -> u64>(
 
 /// Whether the step of a scene of the set and what is known of the rest reach the bound.
 fn step_reaches<F: Fn(u64, u64) -> u64>(
-    kept: &Kept<F>,
+    kept: &StoredBound<F>,
     memo: &mut Memo,
     best: &Best,
     q: Mask,
@@ -126,7 +126,7 @@ fn step_reaches<F: Fn(u64, u64) -> u64>(
 
 /// Whether a set's static bound or a line reaches so far.
 fn is_known<F: Fn(u64, u64) -> u64>(
-    kept: &Kept<F>,
+    kept: &StoredBound<F>,
     memo: &mut Memo,
     best: &Best,
     q: Mask,
@@ -146,7 +146,7 @@ fn is_known<F: Fn(u64, u64) -> u64>(
 
 /// The greatest bound that the lines justify for a set, in units of money: static bounds are asked for
 /// in full, and the sums may be above what 64 bits hold, since a plan's bounds may be any numbers.
-pub(crate) fn justified<F: Fn(u64, u64) -> u64>(kept: &Kept<F>, best: &Best, q: Mask) -> u128
+pub(crate) fn justified<F: Fn(u64, u64) -> u64>(kept: &StoredBound<F>, best: &Best, q: Mask) -> u128
     requires keeps { Keeps (F.pre kept.now.f) (F.post kept.now.f) kept.now.kind kept.now.film.now }
     requires lies { LiesIn kept.now.film.now q.0 }
     ensures { result ≡ justified (rules_of kept.now.kind kept.now.film.now) best.now.lines q.0 }
@@ -161,7 +161,12 @@ pub(crate) fn justified<F: Fn(u64, u64) -> u64>(kept: &Kept<F>, best: &Best, q: 
 }
 
 /// The least of the first steps and what is known of the rest.
-fn least_step<F: Fn(u64, u64) -> u64>(kept: &Kept<F>, best: &Best, q: Mask, firsts: Mask) -> u128
+fn least_step<F: Fn(u64, u64) -> u64>(
+    kept: &StoredBound<F>,
+    best: &Best,
+    q: Mask,
+    firsts: Mask,
+) -> u128
     requires keeps { Keeps (F.pre kept.now.f) (F.post kept.now.f) kept.now.kind kept.now.film.now }
     requires lies { LiesIn kept.now.film.now q.0 }
     requires firsts { (scene : ℕ) → has firsts.0 scene ≡ true → has q.0 scene ≡ true }
@@ -181,7 +186,7 @@ fn least_step<F: Fn(u64, u64) -> u64>(kept: &Kept<F>, best: &Best, q: Mask, firs
 }
 
 /// What the lines make known of a set, in units of money.
-pub(crate) fn known<F: Fn(u64, u64) -> u64>(kept: &Kept<F>, best: &Best, q: Mask) -> u64
+pub(crate) fn known<F: Fn(u64, u64) -> u64>(kept: &StoredBound<F>, best: &Best, q: Mask) -> u64
     requires keeps { Keeps (F.pre kept.now.f) (F.post kept.now.f) kept.now.kind kept.now.film.now }
     requires lies { LiesIn kept.now.film.now q.0 }
     ensures { result ≡ known (rules_of kept.now.kind kept.now.film.now) best.now.lines q.0 }

@@ -1,7 +1,7 @@
 // Whether a plan's lines justify its bound.
 ghost use Rattle.std.specs.Prelude.{◌≡◌, None, nat_le, All, IfOk, length};
 ghost use Rattle.strip_film.specs.Film.{LiesIn};
-ghost use Rattle.strip_bound.specs.Kept.{Keeps};
+ghost use Rattle.strip_bound.specs.StoredBound.{Keeps};
 ghost use Rattle.strip_lines.specs.Lines.{rules_of};
 ghost use Rattle.strip_memo.specs.Memo.{IsMemo};
 ghost use Rattle.strip_reduce.specs.Shown.{reduced_data};
@@ -14,7 +14,7 @@ use crate::justify::{is_justified, justified, known};
 use crate::verdict::Reason;
 use std::alloc::Global;
 use strip_best::Best;
-use strip_bound::{BoundTables, Kept, static_reach};
+use strip_bound::{BoundTables, StoredBound, static_reach};
 use strip_film::{Film, Line};
 use strip_io::Memory;
 use strip_mask::Mask;
@@ -37,7 +37,7 @@ pub(crate) fn against_proof(
     }
     let tables = BoundTables::of(alloc, film)?;
     let kind = plan.kind;
-    let kept = Kept::new(film, kind, |q, need| {
+    let kept = StoredBound::new(film, kind, |q, need| {
         static_reach(film, &tables, kind, Mask(q), need)
     });
     against_bounds(alloc, &kept, reduced.apart, plan)
@@ -61,7 +61,7 @@ fn against_sets(film: &Film, lines: &[Line]) -> Option<Reason>
 /// The first reason against the bounds of the lines, the plan's bound and its status.
 fn against_bounds<F: Fn(u64, u64) -> u64>(
     alloc: Global,
-    kept: &Kept<F>,
+    kept: &StoredBound<F>,
     apart: u64,
     plan: &Plan,
 ) -> Result<Option<Reason>, Memory>
@@ -80,7 +80,7 @@ fn against_bounds<F: Fn(u64, u64) -> u64>(
 
 /// The first of the lines with a bound above what the lines justify for its set.
 fn against_lines<F: Fn(u64, u64) -> u64>(
-    kept: &Kept<F>,
+    kept: &StoredBound<F>,
     memo: &mut Memo,
     best: &Best,
     lines: &[Line],
@@ -107,7 +107,7 @@ fn against_lines<F: Fn(u64, u64) -> u64>(
 
 /// The first reason against the plan's bound and its status.
 fn against_end<F: Fn(u64, u64) -> u64>(
-    kept: &Kept<F>,
+    kept: &StoredBound<F>,
     best: &Best,
     apart: u64,
     plan: &Plan,

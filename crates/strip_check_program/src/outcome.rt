@@ -3,11 +3,11 @@ ghost use Rattle.std.specs.Prelude.{IfOk};
 ghost use Rattle.std.specs.Process.{exit_status};
 ghost use Rattle.strip_answer.specs.Headline.{IsHeadline};
 ghost use Rattle.strip_host.specs.Run.{IsRun, IsRunBy};
-ghost use Rattle.strip_audit.specs.Claims.{audit_claims};
+ghost use Rattle.strip_check_command.specs.Claims.{audit_claims};
 
 use std::process::ExitCode;
 use std::rt::{self, Env};
-use strip_audit::report;
+use strip_check_command::report;
 use strip_host::{Host, exit_code};
 use strip_io::Memory;
 

@@ -10,7 +10,7 @@ use Rattle.strip_film.specs.Film.{IsFilm, all_scenes}
 use Rattle.strip_film.specs.Finish.{EachOnce, IsAtMostFinish, steps_cost}
 use Rattle.strip_film.specs.Path.{PathData}
 use Rattle.strip_count.specs.Apart.{IsLeft}
-use Rattle.strip_count.specs.Paths.{few, ways}
+use Rattle.strip_count.specs.Paths.{candidate_count, leaving_count}
 use Rattle.strip_lines.specs.Lines.{known, rules_of}
 use Rattle.strip_lines.proofs.Justified.{known_is_true}
 use Rattle.strip_walk.proofs.Bounds.{begin_least, bounds_finish}
@@ -41,9 +41,9 @@ module _ (kind : Kind) (film : FilmData) (start : PathData) (cap : ℕ) (ascent 
 
   pub climbed_is : ((order : List ℕ) → IsKeptOrder film order → EachOnce film (all_scenes film) order)
       → ((order : List ℕ) → IsOrder (length film.casts) order → steps_cost film (all_scenes film) order ≡ pay_of film order)
-      → (All (λ line. IsLeft (rules_of kind film) start.paid line.set) ascent.lines → length ascent.lines ≤ few (rules_of kind film) start.paid)
+      → (All (λ line. IsLeft (rules_of kind film) start.paid line.set) ascent.lines → length ascent.lines ≤ candidate_count (rules_of kind film) start.paid)
       → (All (λ line. IsLeft (rules_of kind film) start.paid line.set) ascent.lines
-      → (set : ℕ) → count_by (λ line. line.set == set) ascent.lines ≤ ways (rules_of kind film) start.paid set)
+      → (set : ℕ) → count_by (λ line. line.set == set) ascent.lines ≤ leaving_count (rules_of kind film) start.paid set)
       → IsClimbed kind film start cap (record { lines = ascent.lines; bound = bound; best = ascent.best })
   climbed_is each pays most sets = record {
     best = is.best;

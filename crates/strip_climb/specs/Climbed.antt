@@ -10,7 +10,7 @@ use Rattle.strip_film.specs.Rules.{Rules}
 use Rattle.strip_film.specs.Running.{RunningData, IsRunning}
 use Rattle.strip_lines.specs.Lines.{AreJustified, known, rules_of}
 use Rattle.strip_count.specs.Apart.{AreApart, IsLeft}
-use Rattle.strip_count.specs.Paths.{few, ways}
+use Rattle.strip_count.specs.Paths.{candidate_count, leaving_count}
 use Rattle.strip_climb.specs.Ascent.{AscentData, Climbs, IsAscent}
 
 -- nothing was shot yet
@@ -41,8 +41,8 @@ pub record IsClimbed (kind : Kind) (film : FilmData) (start : PathData) (cap : �
   pub apart : AreApart climbed.lines
   pub left : All (λ line. IsLeft (rules_of kind film) start.paid line.set) climbed.lines
   pub most : length climbed.lines ≤ cap
-  pub candidates : length climbed.lines ≤ few (rules_of kind film) start.paid
-  pub sets : (set : ℕ) → count_by (λ line. line.set == set) climbed.lines ≤ ways (rules_of kind film) start.paid set
+  pub candidates : length climbed.lines ≤ candidate_count (rules_of kind film) start.paid
+  pub sets : (set : ℕ) → count_by (λ line. line.set == set) climbed.lines ≤ leaving_count (rules_of kind film) start.paid set
   pub bound : climbed.bound ≡ known (rules_of kind film) climbed.lines (all_scenes film)
   pub true_bound : IsLeast film climbed.bound
   pub ends : (climbed.bound ≡ climbed.best.paid) ⊎ (length climbed.lines ≡ cap)

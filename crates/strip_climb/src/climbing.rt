@@ -4,7 +4,7 @@ ghost use Rattle.strip_film.specs.Film.{LiesIn, all_scenes};
 ghost use Rattle.strip_film.specs.Path.{IsComplete};
 ghost use Rattle.strip_film.specs.Running.{IsRunning};
 ghost use Rattle.strip_film.specs.Shown.{path_data, running_data};
-ghost use Rattle.strip_bound.specs.Kept.{Keeps};
+ghost use Rattle.strip_bound.specs.StoredBound.{Keeps};
 ghost use Rattle.strip_lines.specs.Lines.{known, rules_of};
 ghost use Rattle.strip_memo.specs.Memo.{IsMemo};
 ghost use Rattle.strip_climb.specs.Ascent.{IsAscent};
@@ -15,7 +15,7 @@ use crate::ascent::Ascent;
 use crate::climbed::Climbed;
 use crate::walking::walk;
 use std::alloc::Global;
-use strip_bound::Kept;
+use strip_bound::StoredBound;
 use strip_count::laws::lines_of_different_sets_are_few;
 use strip_film::laws::{kept_orders_are_ready_lists, steps_add_up_to_the_pay};
 use strip_film::{Path, Running};
@@ -33,7 +33,7 @@ use strip_rule::open_firsts_with;
 /// than the one at the start. It takes some 50 to 80 bytes a line, as they come.
 pub fn climb<F: Fn(u64, u64) -> u64>(
     alloc: Global,
-    kept: &Kept<F>,
+    kept: &StoredBound<F>,
     memo: &mut Memo,
     start: &Path,
     steps: u32,
@@ -70,7 +70,7 @@ pub fn climb<F: Fn(u64, u64) -> u64>(
 /// Walks the film below the limit, where neither that nor what the best path pays is known to be reached already,
 /// and the climb isn't spent.
 fn rise<F: Fn(u64, u64) -> u64>(
-    kept: &Kept<F>,
+    kept: &StoredBound<F>,
     ascent: &mut Ascent,
     running: &mut Running,
     memo: &mut Memo,
@@ -93,7 +93,7 @@ fn rise<F: Fn(u64, u64) -> u64>(
 }
 
 /// What the lines make known of all scenes, in units of money.
-fn known_of_all<F: Fn(u64, u64) -> u64>(kept: &Kept<F>, ascent: &Ascent) -> u64
+fn known_of_all<F: Fn(u64, u64) -> u64>(kept: &StoredBound<F>, ascent: &Ascent) -> u64
     requires keeps { Keeps (F.pre kept.now.f) (F.post kept.now.f) kept.now.kind kept.now.film.now }
     requires ascent { IsAscent (rules_of kept.now.kind kept.now.film.now) (ascent_data ascent.now) }
     ensures { result ≡ known (rules_of kept.now.kind kept.now.film.now) (ascent_data ascent.now).lines (all_scenes kept.now.film.now) }
@@ -110,7 +110,7 @@ fn known_of_all<F: Fn(u64, u64) -> u64>(kept: &Kept<F>, ascent: &Ascent) -> u64
 /// The least over the open firsts of a step and the static bound of what then remains, in units of money, with
 /// which a climb begins. Nothing is claimed of it: on the limits depend how long a climb takes, and how high the
 /// bound of one is that is cut short.
-fn look_ahead<F: Fn(u64, u64) -> u64>(kept: &Kept<F>, running: &Running) -> u64
+fn look_ahead<F: Fn(u64, u64) -> u64>(kept: &StoredBound<F>, running: &Running) -> u64
     requires keeps { Keeps (F.pre kept.now.f) (F.post kept.now.f) kept.now.kind kept.now.film.now }
     requires running { IsRunning kept.now.film.now (running_data running.now) }
 {

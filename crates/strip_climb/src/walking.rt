@@ -3,7 +3,7 @@ ghost use Rattle.std.specs.Prelude.{◌≡◌, ◌≢◌, ◌≤◌, IfOk};
 ghost use Rattle.strip_film.specs.Rules.{IsOpen};
 ghost use Rattle.strip_film.specs.Running.{IsRunning};
 ghost use Rattle.strip_film.specs.Shown.{path_data, running_data};
-ghost use Rattle.strip_bound.specs.Kept.{Keeps};
+ghost use Rattle.strip_bound.specs.StoredBound.{Keeps};
 ghost use Rattle.strip_lines.specs.Lines.{rules_of};
 ghost use Rattle.strip_memo.specs.Memo.{IsMemo};
 ghost use Rattle.strip_climb.specs.Ascent.{IsAscent, Walks};
@@ -11,7 +11,7 @@ ghost use Rattle.strip_climb.specs.Begun.{Begins};
 ghost use Rattle.strip_climb.specs.Shown.{ascent_data};
 
 use crate::ascent::{Ascent, Begun};
-use strip_bound::Kept;
+use strip_bound::StoredBound;
 use strip_film::{Path, Running};
 use strip_io::Memory;
 use strip_memo::Memo;
@@ -26,7 +26,7 @@ use strip_walk::sift;
 /// Each path costs a static bound and a look at the lines; one that is walked on a step and a static bound for
 /// each open first.
 pub(crate) fn walk<F: Fn(u64, u64) -> u64>(
-    kept: &Kept<F>,
+    kept: &StoredBound<F>,
     ascent: &mut Ascent,
     running: &mut Running,
     memo: &mut Memo,
@@ -70,7 +70,7 @@ pub(crate) fn walk<F: Fn(u64, u64) -> u64>(
 /// Begins the walk of a path after which something remains: its static bound or the line of what remains is
 /// answered, or that line has to be raised, which is made where there is none.
 fn begin<F: Fn(u64, u64) -> u64>(
-    kept: &Kept<F>,
+    kept: &StoredBound<F>,
     ascent: &mut Ascent,
     path: &Path,
     memo: &mut Memo,

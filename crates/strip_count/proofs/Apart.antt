@@ -9,7 +9,7 @@ use Rattle.strip_film.specs.Film.{IsFilm}
 use Rattle.strip_film.specs.Path.{PathData}
 use Rattle.strip_film.specs.Rules.{Rules}
 use Rattle.strip_count.specs.Apart.{AreApart, IsLeft}
-use Rattle.strip_count.specs.Paths.{few, is_candidate, leaving, number_of, ways}
+use Rattle.strip_count.specs.Paths.{candidate_count, is_candidate, leaving, number_of, leaving_count}
 use Rattle.strip_count.proofs.Sums.{count-cons, count_none, count_two}
 use Rattle.strip_count.proofs.Enumerated.{all_unfinished, counted_once, lists}
 use Rattle.strip_count.proofs.Later.{at, mark_two, same_as, same_there}
@@ -41,7 +41,7 @@ module _ (rules : Rules) (is : IsFilm rules.film) (cost : ℕ) where
   abbrev one_of_them : List Line → PathData → Bool
   one_of_them lines path = among lines path.rest && candidate path
 
-  left_once : (set : ℕ) → IsLeft rules cost set → 1 ≤ ways rules cost set
+  left_once : (set : ℕ) → IsLeft rules cost set → 1 ≤ leaving_count rules cost set
   left_once set left =
       let passes : leaving set candidate left.path ≡ true = and_from (eqb left.path.rest set) (candidate left.path) (eq-eqb left.path.rest set left.leaves) left.candidate in
       let both : count_by (same_as rules is left.path) (lists rules.film is) + count_by (λ scenes. false) (lists rules.film is)
@@ -54,7 +54,7 @@ module _ (rules : Rules) (is : IsFilm rules.film) (cost : ℕ) where
       omega (arith, both, counted_once rules.film is left.path left.unfinished)
 
   one_more : (line : Line) (lines : List Line) → AreApart (line ∷ lines)
-      → ways rules cost line.set + number_of rules.film (one_of_them lines) ≤ number_of rules.film (one_of_them (line ∷ lines))
+      → leaving_count rules cost line.set + number_of rules.film (one_of_them lines) ≤ number_of rules.film (one_of_them (line ∷ lines))
   one_more line lines apart =
       count_two (λ scenes. leaving line.set candidate (at rules is scenes)) (λ scenes. one_of_them lines (at rules is scenes))
       (λ scenes. one_of_them (line ∷ lines) (at rules is scenes)) (lists rules.film is)
@@ -82,7 +82,7 @@ module _ (rules : Rules) (is : IsFilm rules.film) (cost : ℕ) where
         as_many lines (behind line lines apart) (All-tail (λ one. IsLeft rules cost one.set) line lines left),
       )
 
-  pub apart_few : (lines : List Line) → AreApart lines → All (λ line. IsLeft rules cost line.set) lines → length lines ≤ few rules cost
+  pub apart_few : (lines : List Line) → AreApart lines → All (λ line. IsLeft rules cost line.set) lines → length lines ≤ candidate_count rules cost
   apart_few lines apart left =
       let both : count_by (λ scenes. one_of_them lines (at rules is scenes)) (lists rules.film is) + count_by (λ scenes. false) (lists rules.film is)
       ≤ count_by (λ scenes. candidate (at rules is scenes)) (lists rules.film is)
@@ -93,17 +93,17 @@ module _ (rules : Rules) (is : IsFilm rules.film) (cost : ℕ) where
       omega (arith, both, as_many lines apart left)
 
   pub apart_ways : (set : ℕ) (lines : List Line) → AreApart lines → All (λ line. IsLeft rules cost line.set) lines
-      → count_by (λ line. eqb line.set set) lines ≤ ways rules cost set
+      → count_by (λ line. eqb line.set set) lines ≤ leaving_count rules cost set
   apart_ways set [] apart left = omega arith
   apart_ways set (line ∷ lines) apart left = elim (cases_Bool (eqb line.set set)) [
     | inl here ↦ (let same : line.set ≡ set = eqb-true line.set set here in
         let none : count_by (λ other. eqb other.set set) lines ≡ 0
         = count_none (λ other. eqb other.set set) lines (λ k d lt. false_from_ne_true (eqb (get_or lines k d).set set)
         (λ too. others line lines apart k d lt (same ∙ sym (eqb-true (get_or lines k d).set set too)))) in
-        let some : 1 ≤ ways rules cost set
-        = subst (λ (n : ℕ). 1 ≤ ways rules cost n) same (left_once line.set (All-head (λ one. IsLeft rules cost one.set) line lines left)) in
+        let some : 1 ≤ leaving_count rules cost set
+        = subst (λ (n : ℕ). 1 ≤ leaving_count rules cost n) same (left_once line.set (All-head (λ one. IsLeft rules cost one.set) line lines left)) in
         omega (arith, count-cons (λ other. eqb other.set set) line lines, ap mark here, none, some))
-    | inr not_here ↦ (let rest : count_by (λ other. eqb other.set set) lines ≤ ways rules cost set
+    | inr not_here ↦ (let rest : count_by (λ other. eqb other.set set) lines ≤ leaving_count rules cost set
         = apart_ways set lines (behind line lines apart) (All-tail (λ one. IsLeft rules cost one.set) line lines left) in
         omega (arith, count-cons (λ other. eqb other.set set) line lines, ap mark not_here, rest))
   ]

@@ -5,7 +5,7 @@ use Rattle.strip_mask.proofs.Sizes.{mark_le}
 use Rattle.strip_film.specs.Film.{all_scenes}
 use Rattle.strip_film.specs.Path.{PathData}
 use Rattle.strip_film.specs.Rules.{Rules}
-use Rattle.strip_count.specs.Paths.{are_firsts, few, is_candidate, leaving, lists_from, path_along, ways}
+use Rattle.strip_count.specs.Paths.{are_firsts, candidate_count, is_candidate, leaving, lists_from, path_along, leaving_count}
 use Rattle.strip_count.proofs.Sums.{count-cons}
 
 -- a test that another follows from counts no more
@@ -23,12 +23,12 @@ module _ (rules : Rules) (lesser cost : ℕ) (below : lesser ≤ cost) where
       and_from firsts (ltb (path.paid + rules.bound path.rest) cost) both.0
       (lt-ltb (path.paid + rules.bound path.rest) cost (omega (arith, less, below)))
 
-  pub few_stay : few rules lesser ≤ few rules cost
+  pub few_stay : candidate_count rules lesser ≤ candidate_count rules cost
   few_stay =
       count_le (λ scenes. is_candidate rules lesser (path_along rules.film scenes)) (λ scenes. is_candidate rules cost (path_along rules.film scenes))
       (lists_from rules.film (length rules.film.casts) (all_scenes rules.film)) (λ scenes. still (path_along rules.film scenes))
 
-  pub ways_stay : (set : ℕ) → ways rules lesser set ≤ ways rules cost set
+  pub ways_stay : (set : ℕ) → leaving_count rules lesser set ≤ leaving_count rules cost set
   ways_stay set =
       count_le (λ scenes. leaving set (is_candidate rules lesser) (path_along rules.film scenes))
       (λ scenes. leaving set (is_candidate rules cost) (path_along rules.film scenes))

@@ -4,6 +4,6 @@ pub mod Length
 pub mod Ordered
 pub mod Later
 pub mod Shares
-pub mod Rows
+pub mod Examples
 pub mod Lesser
 pub mod Apart

@@ -15,7 +15,7 @@ use Rattle.strip_film.specs.Path.{PathData, IsPath}
 use Rattle.strip_mask.specs.Set.{has, without}
 use Rattle.strip_film.specs.Finish.{AreFirsts}
 use Rattle.strip_film.specs.Rules.{IsOpen, Rules}
-use Rattle.strip_count.specs.Paths.{ComesAfter, IsUnfinished, are_firsts, few, is_candidate, leaving, number_of, number_up_to, up_to, ways}
+use Rattle.strip_count.specs.Paths.{ComesAfter, IsUnfinished, are_firsts, candidate_count, is_candidate, leaving, number_of, number_up_to, up_to, leaving_count}
 use Rattle.strip_count.specs.Parts.{AreCounted, AreTasks, Enlists, inside, lies_in, no_task}
 use Rattle.strip_count.proofs.Sums.{count_parts, one_of}
 use Rattle.strip_count.proofs.Enumerated.{all_unfinished, counted_once, lists}
@@ -191,14 +191,14 @@ module _ (rules : Rules) (cost depth : ℕ) (tasks : List PathData) where
     shares_sum : length lines ≤ sum_below (suc (length tasks)) (λ part. number_up_to rules (last part) (of_part part))
     shares_sum = omega (arith, counted.total, sum_below_mono (suc (length tasks)) number (λ part. number_up_to rules (last part) (of_part part)) counted.shares)
 
-    pub lines_few : length lines ≤ few rules cost
+    pub lines_few : length lines ≤ candidate_count rules cost
     lines_few = omega (arith, shares_sum, parts_most depth tasks are rules is last (is_candidate rules cost))
 
-    pub lines_ways : (set : ℕ) → count_by (λ line. eqb line.set set) lines ≤ ways rules cost set
+    pub lines_ways : (set : ℕ) → count_by (λ line. eqb line.set set) lines ≤ leaving_count rules cost set
     lines_ways set = omega (arith, counted.sets set, parts_most depth tasks are rules is last (leaving set (is_candidate rules cost)))
 
     pub lines_room : (part : ℕ) (next : PathData) → part < suc (length tasks) → IsUnfinished rules.film next → ComesAfter rules (last part) next
-        → lies_in depth tasks part next ≡ true → is_candidate rules cost next ≡ true → length lines + 1 ≤ few rules cost
+        → lies_in depth tasks part next ≡ true → is_candidate rules cost next ≡ true → length lines + 1 ≤ candidate_count rules cost
     lines_room part next lt unfinished after lies candidate =
         omega (arith, shares_sum, parts_room depth tasks are rules is last (is_candidate rules cost) part next lt unfinished after lies candidate)
 

@@ -57,11 +57,11 @@ abbrev pub leaving : ℕ → (PathData → Bool) → PathData → Bool
 leaving set test path = path.rest == set && test path
 
 -- how many candidates there are, and how many with this set remaining
-abbrev pub few : Rules → ℕ → ℕ
-few rules cost = number_of rules.film (is_candidate rules cost)
+abbrev pub candidate_count : Rules → ℕ → ℕ
+candidate_count rules cost = number_of rules.film (is_candidate rules cost)
 
-abbrev pub ways : Rules → ℕ → ℕ → ℕ
-ways rules cost set = number_of rules.film (leaving set (is_candidate rules cost))
+abbrev pub leaving_count : Rules → ℕ → ℕ → ℕ
+leaving_count rules cost set = number_of rules.film (leaving set (is_candidate rules cost))
 
 -- the first scene goes before the second: its rank is less, or the ranks are equal and its number is less
 abbrev pub is_sooner : (ℕ → ℕ) → ℕ → ℕ → Bool

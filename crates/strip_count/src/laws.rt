@@ -11,7 +11,7 @@ ghost use Rattle.strip_film.specs.Path.{IsPath, PathData};
 ghost use Rattle.strip_film.specs.Ranks.{IsEarlier, IsSooner};
 ghost use Rattle.strip_film.specs.Rules.{IsOpen, Rules, rank};
 ghost use Rattle.strip_count.specs.Apart.{AreApart, IsLeft};
-ghost use Rattle.strip_count.specs.Paths.{ComesAfter, IsUnfinished, factorial, few, is_candidate, number_of, number_up_to, path_count, ways};
+ghost use Rattle.strip_count.specs.Paths.{ComesAfter, IsUnfinished, factorial, candidate_count, is_candidate, number_of, number_up_to, path_count, leaving_count};
 ghost use Rattle.strip_count.specs.Parts.{AreCounted, AreTasks, Enlists, inside, lies_in};
 
 /// Each path with something remaining is counted once, and nothing else is: where no such path passes
@@ -95,28 +95,28 @@ pub fn lines_stay_counted()
 /// a part has a later candidate.
 pub fn counted_lines_are_few()
     ensures most { (rules : Rules) (cost depth : ℕ) (tasks : List PathData) (lines : List Line) (last : ℕ → Option PathData) (number : ℕ → ℕ)
-        → IsFilm rules.film → AreTasks depth tasks → AreCounted rules cost depth tasks lines last number → length lines ≤ few rules cost }
+        → IsFilm rules.film → AreTasks depth tasks → AreCounted rules cost depth tasks lines last number → length lines ≤ candidate_count rules cost }
     ensures sets { (rules : Rules) (cost depth set : ℕ) (tasks : List PathData) (lines : List Line) (last : ℕ → Option PathData) (number : ℕ → ℕ)
         → IsFilm rules.film → AreTasks depth tasks → AreCounted rules cost depth tasks lines last number
-        → count_by (λ line. line.set == set) lines ≤ ways rules cost set }
+        → count_by (λ line. line.set == set) lines ≤ leaving_count rules cost set }
     ensures room { (rules : Rules) (cost depth part : ℕ) (tasks : List PathData) (lines : List Line) (last : ℕ → Option PathData) (number : ℕ → ℕ)
         (next : PathData) → IsFilm rules.film → AreTasks depth tasks → AreCounted rules cost depth tasks lines last number
         → part < suc (length tasks) → IsUnfinished rules.film next → ComesAfter rules (last part) next
-        → lies_in depth tasks part next ≡ true → is_candidate rules cost next ≡ true → length lines + 1 ≤ few rules cost }
+        → lies_in depth tasks part next ≡ true → is_candidate rules cost next ≡ true → length lines + 1 ≤ candidate_count rules cost }
 {}
 
 /// Below a lesser cost there are at most as many candidates, in all and of each set: what is said of the
 /// number of candidates below what an order pays holds below what a dearer one pays.
 pub fn a_lesser_cost_has_fewer_candidates()
-    ensures few { (rules : Rules) (lesser cost : ℕ) → lesser ≤ cost → few rules lesser ≤ few rules cost }
-    ensures ways { (rules : Rules) (lesser cost set : ℕ) → lesser ≤ cost → ways rules lesser set ≤ ways rules cost set }
+    ensures few { (rules : Rules) (lesser cost : ℕ) → lesser ≤ cost → candidate_count rules lesser ≤ candidate_count rules cost }
+    ensures ways { (rules : Rules) (lesser cost set : ℕ) → lesser ≤ cost → leaving_count rules lesser set ≤ leaving_count rules cost set }
 {}
 
 /// Lines of which no two have the same set, each of a set that a candidate leaves, are at most as many as the
 /// candidates, in all and of each set.
 pub fn lines_of_different_sets_are_few()
     ensures most { (rules : Rules) (cost : ℕ) (lines : List Line) → IsFilm rules.film → AreApart lines
-        → All (λ line. IsLeft rules cost line.set) lines → length lines ≤ few rules cost }
+        → All (λ line. IsLeft rules cost line.set) lines → length lines ≤ candidate_count rules cost }
     ensures sets { (rules : Rules) (cost set : ℕ) (lines : List Line) → IsFilm rules.film → AreApart lines
-        → All (λ line. IsLeft rules cost line.set) lines → count_by (λ line. line.set == set) lines ≤ ways rules cost set }
+        → All (λ line. IsLeft rules cost line.set) lines → count_by (λ line. line.set == set) lines ≤ leaving_count rules cost set }
 {}

@@ -16,7 +16,7 @@ use Rattle.strip_hub.specs.declared.source.Source.{Source}
 use Rattle.strip_hub.specs.declared.source.Source.TheVariants.{Counter}
 use Rattle.strip_hub.specs.Source.{taken_by}
 use Rattle.strip_hub.specs.Hub.{GoTogether}
-use Rattle.strip_team.specs.Team.{HasFront, OwnsFront}
+use Rattle.strip_worker.specs.Team.{HasFront, OwnsFront}
 use Rattle.strip_crew.proofs.Once.{once_here, once_none}
 use Rattle.strip_crew.proofs.Settled.{some_at}
 

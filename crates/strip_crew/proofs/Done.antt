@@ -16,8 +16,8 @@ use Rattle.strip_front.specs.Front.{FrontData}
 use Rattle.strip_hub.specs.declared.asked.Asked.{Asked}
 use Rattle.strip_hub.specs.declared.source.Source.{Source}
 use Rattle.strip_hub.specs.Hub.{IsHub, hand_of}
-use Rattle.strip_team.specs.Team.{GoesOn, HasWorked}
-use Rattle.strip_team.proofs.Moved.{goes_then, moved_same}
+use Rattle.strip_worker.specs.Team.{GoesOn, HasWorked}
+use Rattle.strip_worker.proofs.Moved.{goes_then, moved_same}
 
 pub or_second : (one other : Bool) → other ≡ true → (one || other) ≡ true
 or_second true other is = refl

@@ -14,7 +14,7 @@ use Rattle.strip_book.specs.Steps.{lightened, split_off}
 use Rattle.strip_hub.specs.declared.source.Source.{Source}
 use Rattle.strip_hub.specs.Source.{IsSource, taken_by}
 use Rattle.strip_hub.specs.Hub.{GoTogether, hand_of}
-use Rattle.strip_team.specs.Team.{TakesOver}
+use Rattle.strip_worker.specs.Team.{TakesOver}
 use Rattle.strip_crew.specs.Sources.{JoinsSource, Splits}
 
 module _ (source part after : Source) (told : LeastView) (lines : ViewData) (together : GoTogether source told lines) (splits : Splits source part after) where

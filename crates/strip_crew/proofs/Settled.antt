@@ -29,8 +29,8 @@ use Rattle.strip_hub.specs.declared.source.Source.TheVariants.{Counter, Gathers,
 use Rattle.strip_hub.specs.Source.{IsSource, taken_by}
 use Rattle.strip_hub.specs.Hub.{GoTogether, IsHub, hand_of}
 use Rattle.strip_crew.specs.Sources.{Bears, NoneLeft}
-use Rattle.strip_team.specs.Closed.{AreCountedBy, HasAll}
-use Rattle.strip_team.specs.Team.{GoesOn}
+use Rattle.strip_worker.specs.Closed.{AreCountedBy, HasAll}
+use Rattle.strip_worker.specs.Team.{GoesOn}
 
 -- a part that stands among those of the entries has a record
 pub some_at : (part : ℕ) (entries : List EntryData) → 0 < count part (parts_of entries) → IsSome (record_at part entries)

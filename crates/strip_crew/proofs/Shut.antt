@@ -7,14 +7,14 @@ use Rattle.strip_film.specs.Film.{all_scenes}
 use Rattle.strip_film.specs.Path.{PathData}
 use Rattle.strip_lines.specs.Lines.{ahead, known, rules_of}
 use Rattle.strip_lines.proofs.Grown.{known-grows}
-use Rattle.strip_count.specs.Paths.{few}
+use Rattle.strip_count.specs.Paths.{candidate_count}
 use Rattle.strip_hand.specs.Hand.{HandData, IsHand}
 use Rattle.strip_hand.specs.Search.{SearchData, search_rules}
-use Rattle.strip_team.specs.declared.ended.Ended.{Ended}
-use Rattle.strip_team.specs.Closed.{IsClosed, known_of_all}
-use Rattle.strip_team.specs.Ended.{EndedData, IsEnded}
-use Rattle.strip_team.specs.Team.{GoesOn, IsSearchBy}
-use Rattle.strip_team.proofs.Moved.{cut_still}
+use Rattle.strip_worker.specs.declared.ended.Ended.{Ended}
+use Rattle.strip_worker.specs.Closed.{IsClosed, known_of_all}
+use Rattle.strip_worker.specs.Ended.{EndedData, IsEnded}
+use Rattle.strip_worker.specs.Team.{GoesOn, IsSearchBy}
+use Rattle.strip_worker.proofs.Moved.{cut_still}
 
 -- what was closed up is, where the hand goes on
 pub closed_still : (kind : Kind) (film : FilmData) (before after : HandData) (spent : Bool) (number : ℕ) → GoesOn before after → IsHand after
@@ -37,7 +37,7 @@ where_ended (Err memory) leads is = tt
 
 -- a search that had room for twice as many lines as there are orders had as much room as it could use
 pub ended_within : (kind : Kind) (film : FilmData) (start : PathData) (cap room most : ℕ) (ended : EndedData) → room ≤ cap
-    → (room ≡ cap) ⊎ (room ≡ 2 * most) → few (rules_of kind film) start.paid ≤ 2 * most → IsEnded kind film start room ended → IsEnded kind film start cap ended
+    → (room ≡ cap) ⊎ (room ≡ 2 * most) → candidate_count (rules_of kind film) start.paid ≤ 2 * most → IsEnded kind film start room ended → IsEnded kind film start cap ended
 ended_within kind film start cap room most ended within enough orders is = record {
   order = is.order;
   cost = is.cost;

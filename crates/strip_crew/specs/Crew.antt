@@ -12,9 +12,9 @@ use Rattle.strip_hub.specs.declared.hub.HubParts.{HubParts}
 use Rattle.strip_hub.specs.Hub.{IsHub, hand_of}
 use Rattle.strip_memo.specs.Memo.{IsMemo}
 use Rattle.strip_front.specs.Front.{FrontData}
-use Rattle.strip_team.specs.declared.walked.Walked.{Walked}
-use Rattle.strip_team.specs.Closed.{AreCountedBy, HasAll}
-use Rattle.strip_team.specs.Team.{GoesOn, HasWorked, IsFresh, IsSearchBy}
+use Rattle.strip_worker.specs.declared.walked.Walked.{Walked}
+use Rattle.strip_worker.specs.Closed.{AreCountedBy, HasAll}
+use Rattle.strip_worker.specs.Team.{GoesOn, HasWorked, IsFresh, IsSearchBy}
 use Rattle.strip_hub.specs.Source.{SourceHome, source_home}
 use Rattle.strip_crew.specs.declared.job.Job.{Job}
 use Rattle.strip_crew.specs.Sources.{Bears, IsWorkers, NoneLeft, split_home}

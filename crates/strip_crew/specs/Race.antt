@@ -13,9 +13,9 @@ use Rattle.strip_book.specs.declared.book.Book.{Book}
 use Rattle.strip_book.specs.Pass.{known}
 use Rattle.strip_hub.specs.declared.hub.HubParts.{HubParts}
 use Rattle.strip_hub.specs.declared.source.Source.TheVariants.{Counter}
-use Rattle.strip_team.specs.declared.walked.Walked.{Walked}
-use Rattle.strip_team.specs.Closed.{IsClosed}
-use Rattle.strip_team.specs.Team.{GoesOn, HasWorked, IsSearchBy}
+use Rattle.strip_worker.specs.declared.walked.Walked.{Walked}
+use Rattle.strip_worker.specs.Closed.{IsClosed}
+use Rattle.strip_worker.specs.Team.{GoesOn, HasWorked, IsSearchBy}
 use Rattle.strip_hub.specs.Source.{AreTasks}
 use Rattle.strip_crew.specs.declared.racing.Opening.{Opening}
 use Rattle.strip_crew.specs.Crew.{ArePassesOf, Weigh, shown}

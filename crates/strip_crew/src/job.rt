@@ -1,7 +1,7 @@
 // A worker's job.
 use strip_hub::HubParts;
 use strip_memo::Memo;
-use strip_team::Walked;
+use strip_worker::Walked;
 
 /// What a worker works with: its number, its passes, what it found of the tasks so far, and its memo of
 /// static bounds.

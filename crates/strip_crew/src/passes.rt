@@ -3,7 +3,7 @@ ghost use Rattle.std.specs.Prelude.{◌≡◌, ◌+◌, ◌<◌, ◌||◌, ℕ, 
 ghost use Rattle.strip_hand.specs.Hand.{IsHand};
 ghost use Rattle.strip_least.specs.Pass.{best_path, known as known_least};
 ghost use Rattle.strip_least.specs.Rule.{full_weight};
-ghost use Rattle.strip_team.specs.Team.{TakesOver};
+ghost use Rattle.strip_worker.specs.Team.{TakesOver};
 ghost use Rattle.strip_hub.specs.Source.{source_home};
 ghost use Rattle.strip_crew.specs.Sources.{Deals, split_home};
 ghost use Rattle.strip_crew.specs.Crew.{ArePassesOf, AreSettled, HasSplit, NoPartLeft, Weigh, shown};

@@ -1,20 +1,20 @@
 // A search by several workers.
 ghost use Rattle.std.specs.Prelude.{◌≡◌, ◌*◌, ◌⊎◌, ◌≤◌, true, ℕ, IfOk};
-ghost use Rattle.strip_bound.specs.Kept.{Keeps};
+ghost use Rattle.strip_bound.specs.StoredBound.{Keeps};
 ghost use Rattle.strip_film.specs.Path.{IsComplete};
 ghost use Rattle.strip_film.specs.Shown.{path_data};
 ghost use Rattle.strip_count.specs.Paths.{factorial};
 ghost use Rattle.strip_memo.specs.Memo.{IsMemo};
 ghost use Rattle.strip_front.specs.Shown.{front_data};
-ghost use Rattle.strip_race.specs.Opened.{AreLimits};
+ghost use Rattle.strip_world.specs.Opened.{AreLimits};
 ghost use Rattle.strip_least.specs.Pass.{known as known_least};
 ghost use Rattle.strip_least.specs.Rule.{full_weight, once_below, times};
 ghost use Rattle.strip_hub.specs.declared.source.Source.TheVariants.{Counter};
 ghost use Rattle.strip_book.specs.Pass.{table_of};
-ghost use Rattle.strip_team.specs.Closed.{EndsFrom};
-ghost use Rattle.strip_team.specs.Ended.{IsEnded};
-ghost use Rattle.strip_team.specs.Shown.{ended_data};
-ghost use Rattle.strip_team.specs.Team.{HasWorked, IsSearchBy};
+ghost use Rattle.strip_worker.specs.Closed.{EndsFrom};
+ghost use Rattle.strip_worker.specs.Ended.{IsEnded};
+ghost use Rattle.strip_worker.specs.Shown.{ended_data};
+ghost use Rattle.strip_worker.specs.Team.{HasWorked, IsSearchBy};
 ghost use Rattle.strip_crew.specs.Crew.{ArePassesOf, HaveWorked, NoPartLeft, Weigh, shown};
 ghost use Rattle.strip_hub.specs.declared.hub.HubParts.{HubParts};
 ghost use Rattle.strip_crew.specs.Race.{HasBegun, HasClosed, IsOpening, MayBegin};
@@ -29,19 +29,19 @@ use std::sync::Wait;
 use std::thread::Threads;
 use strip_book::Book;
 use strip_book::laws::{lines_of_entries_are_counted, other_parts_have_no_record};
-use strip_bound::Kept;
+use strip_bound::StoredBound;
 use strip_count::laws::paths_are_few;
 use strip_film::Path;
 use strip_front::laws::tasks_are_starts;
-use strip_front::{Front, layers};
+use strip_front::{Front, make_front};
 use strip_hand::Hand;
 use strip_hub::{Hub, HubParts, Source};
 use strip_io::Memory;
 use strip_least::Least;
 use strip_memo::Memo;
-use strip_race::Limits;
 use strip_stripes::{Named, Stripes};
-use strip_team::{Ended, Gate, Walked, Worker, asked_for, close, go_down_front, tell};
+use strip_worker::{Ended, Gate, Walked, Worker, asked_for, close, go_down_front, tell};
+use strip_world::Limits;
 
 /// What a race begins with: its front, with nothing in it yet, the words of the least cost and the next
 /// part, the book, and the first passes of both.
@@ -66,7 +66,7 @@ struct Opening {
 pub fn race<R: Threads + Wait + Sync, F: Fn(u64, u64) -> u64 + Sync, G: Gate>(
     rt: &R,
     alloc: Global,
-    kept: &Kept<F>,
+    kept: &StoredBound<F>,
     memo: &mut Memo,
     start: &Path,
     limits: Limits,
@@ -119,7 +119,7 @@ fn task_scenes(scenes: usize, workers: u32) -> usize
 /// What a race begins with that has room for so many lines, and whose tasks have at most so many scenes.
 fn open<F: Fn(u64, u64) -> u64>(
     alloc: Global,
-    kept: &Kept<F>,
+    kept: &StoredBound<F>,
     start: &Path,
     room: u32,
     most: usize,
@@ -135,7 +135,7 @@ fn open<F: Fn(u64, u64) -> u64>(
     let film = kept.film();
     film.keeps_limits();
     tasks_are_starts();
-    let front = layers(alloc, kept, most)?;
+    let front = make_front(alloc, kept, most)?;
     let parts = front.tasks().len() as u32 + 1;
     let (least, told) = Least::new(alloc, film, start, parts)?;
     let (book, lines) = Book::new(alloc, film, kept.kind(), start.paid(), front.tasks(), room)?;
@@ -160,7 +160,7 @@ fn in_race<
 >(
     rt: &R,
     alloc: Global,
-    kept: &Kept<F>,
+    kept: &StoredBound<F>,
     memo: &mut Memo,
     opening: Opening,
     limits: Limits,
@@ -211,7 +211,7 @@ fn in_race<
 fn begin<R: Wait, N: Named, F: Fn(u64, u64) -> u64>(
     rt: &R,
     alloc: Global,
-    kept: &Kept<F>,
+    kept: &StoredBound<F>,
     tables: &Tables<N>,
     front: &mut Front,
     passes: HubParts,
@@ -240,7 +240,7 @@ fn work_all<
 >(
     rt: &R,
     alloc: Global,
-    kept: &Kept<F>,
+    kept: &StoredBound<F>,
     tables: &Tables<N>,
     front: &Front,
     gate: &G,
@@ -295,7 +295,7 @@ fn work_all<
 /// lines, and the number to which the line of all scenes was raised.
 fn close_front<R: Wait, N: Named, F: Fn(u64, u64) -> u64>(
     rt: &R,
-    kept: &Kept<F>,
+    kept: &StoredBound<F>,
     tables: &Tables<N>,
     front: &mut Front,
     passes: HubParts,
@@ -322,7 +322,7 @@ fn close_front<R: Wait, N: Named, F: Fn(u64, u64) -> u64>(
 /// Takes the lines out of the book, and tells how the race ended.
 fn end<N: Named, F: Fn(u64, u64) -> u64>(
     alloc: Global,
-    kept: &Kept<F>,
+    kept: &StoredBound<F>,
     tables: Tables<N>,
     passes: HubParts,
     number: u64,

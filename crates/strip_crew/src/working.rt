@@ -1,10 +1,10 @@
 // Jobs that are dealt, done beside one another, and gathered.
 ghost use Rattle.std.specs.Prelude.{◌≡◌, ◌<◌, ◌≤◌, ◌+◌, ℕ, List, All, IfOk, false, length, vec_len};
-ghost use Rattle.strip_bound.specs.Kept.{Keeps};
+ghost use Rattle.strip_bound.specs.StoredBound.{Keeps};
 ghost use Rattle.strip_front.specs.Shown.{front_data};
 ghost use Rattle.strip_memo.specs.Memo.{IsMemo};
 ghost use Rattle.strip_book.specs.Pass.{table_of};
-ghost use Rattle.strip_team.specs.Team.{HasWorked, IsSearchBy};
+ghost use Rattle.strip_worker.specs.Team.{HasWorked, IsSearchBy};
 ghost use Rattle.strip_hub.specs.Source.{source_home};
 ghost use Rattle.strip_crew.specs.Sources.{Deals, IsWorkers, split_home};
 ghost use Rattle.strip_crew.specs.Crew.{AreDealt, ArePassesOf, HasGathered, HaveWorked, IsDone, IsJob, Weigh, shown};
@@ -16,19 +16,19 @@ use std::alloc::Global;
 use std::sync::Wait;
 use std::thread;
 use std::thread::Threads;
-use strip_bound::Kept;
+use strip_bound::StoredBound;
 use strip_front::Front;
 use strip_hub::{Hub, HubParts, Rooted};
 use strip_io::Memory;
 use strip_memo::Memo;
 use strip_stripes::Named;
-use strip_team::{Gate, Walked, Worker, merge, work};
+use strip_worker::{Gate, Walked, Worker, merge, work};
 
 /// A job for each worker, with passes of weight 1 from these, where the front wasn't cut short. It takes a
 /// memo and a number for each task of each worker. The caller has a memo besides.
 fn deal<N: Named, F: Fn(u64, u64) -> u64>(
     alloc: Global,
-    kept: &Kept<F>,
+    kept: &StoredBound<F>,
     tables: &Tables<N>,
     front: &Front,
     passes: &mut HubParts,
@@ -62,7 +62,7 @@ fn deal<N: Named, F: Fn(u64, u64) -> u64>(
 /// before is put to what was found.
 pub(crate) fn work_alone<R: Wait, N: Named, F: Fn(u64, u64) -> u64, G: Gate>(
     rt: &R,
-    kept: &Kept<F>,
+    kept: &StoredBound<F>,
     tables: &Tables<N>,
     front: &Front,
     worker: &Worker<G>,
@@ -90,7 +90,7 @@ pub(crate) fn work_alone<R: Wait, N: Named, F: Fn(u64, u64) -> u64, G: Gate>(
 /// Does a job.
 fn do_job<R: Wait, N: Named, F: Fn(u64, u64) -> u64, G: Gate, S: Rooted>(
     rt: &R,
-    kept: &Kept<F>,
+    kept: &StoredBound<F>,
     tables: &Tables<N>,
     front: &Front,
     gate: &G,
@@ -135,7 +135,7 @@ fn do_jobs<
     S: Rooted + Send + Sync,
 >(
     rt: &R,
-    kept: &Kept<F>,
+    kept: &StoredBound<F>,
     tables: &Tables<N>,
     front: &Front,
     gate: &G,
@@ -196,7 +196,7 @@ pub(crate) fn work_beside<
 >(
     rt: &R,
     alloc: Global,
-    kept: &Kept<F>,
+    kept: &StoredBound<F>,
     tables: &Tables<N>,
     front: &Front,
     gate: &G,

@@ -2,4 +2,4 @@ pub mod Ways
 pub mod Nearer
 pub mod Closer
 pub mod Least
-pub mod Rows
+pub mod Examples

@@ -15,7 +15,7 @@ pub mod Small
 pub mod Paths
 pub mod Moves
 pub mod Started
-pub mod Rows
+pub mod Examples
 pub mod Ranks
 pub mod Soonest
 pub mod Placed

@@ -4,7 +4,7 @@ ghost use Rattle.strip_io.specs.Counts.{Rose};
 ghost use Rattle.strip_film.specs.Path.{PathData};
 ghost use Rattle.strip_film.specs.Rules.{IsOpen};
 ghost use Rattle.strip_film.specs.Shown.{cursor_data, path_data};
-ghost use Rattle.strip_bound.specs.Kept.{Keeps};
+ghost use Rattle.strip_bound.specs.StoredBound.{Keeps};
 ghost use Rattle.strip_count.specs.Parts.{lies_in};
 ghost use Rattle.strip_count.specs.Paths.{ComesAfter};
 ghost use Rattle.strip_hand.specs.Calls.{StandsAt};
@@ -18,7 +18,7 @@ ghost use Rattle.strip_front.specs.Tried.{AreTried, IsEnlisted, Tries};
 
 use crate::front::Front;
 use crate::marks::mark_wanted;
-use strip_bound::Kept;
+use strip_bound::StoredBound;
 use strip_film::{Cursor, Listed, Path};
 use strip_hand::Hand;
 use strip_io::Memory;
@@ -32,7 +32,7 @@ use strip_io::Memory;
 /// of its own paths here.
 /// A few calls of the hand and one of the stored bound for each path, and a look for each task that follows.
 pub fn go_down<H: Hand, F: Fn(u64, u64) -> u64>(
-    kept: &Kept<F>,
+    kept: &StoredBound<F>,
     hand: &mut H,
     cursor: &mut Cursor,
     front: &mut Front,
@@ -100,7 +100,7 @@ impl Tried {
 
 /// Enlists the path, where its paid with the bound of what remains is below the least cost.
 fn try_path<H: Hand, F: Fn(u64, u64) -> u64>(
-    kept: &Kept<F>,
+    kept: &StoredBound<F>,
     hand: &mut H,
     cursor: &mut Cursor,
     path: &Path,
@@ -136,7 +136,7 @@ fn try_path<H: Hand, F: Fn(u64, u64) -> u64>(
 
 /// Enlists the empty path, and then the others, where each is below the least cost.
 fn enlist_paths<H: Hand, F: Fn(u64, u64) -> u64>(
-    kept: &Kept<F>,
+    kept: &StoredBound<F>,
     hand: &mut H,
     cursor: &mut Cursor,
     front: &mut Front,
@@ -170,7 +170,7 @@ fn enlist_paths<H: Hand, F: Fn(u64, u64) -> u64>(
 
 /// Enlists the paths behind the empty one, where each is below the least cost.
 fn enlist_longer<H: Hand, F: Fn(u64, u64) -> u64>(
-    kept: &Kept<F>,
+    kept: &StoredBound<F>,
     hand: &mut H,
     cursor: &mut Cursor,
     front: &mut Front,

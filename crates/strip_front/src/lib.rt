@@ -15,5 +15,5 @@ mod up;
 pub use by_set::PathsBySet;
 pub use down::go_down;
 pub use front::Front;
-pub use opening::layers;
+pub use opening::make_front;
 pub use up::close_up;

@@ -1,6 +1,6 @@
 // A front with nothing in it.
 ghost use Rattle.std.specs.Prelude.{◌≡◌, ◌≤◌, min, length, IfOk};
-ghost use Rattle.strip_bound.specs.Kept.{Keeps};
+ghost use Rattle.strip_bound.specs.StoredBound.{Keeps};
 ghost use Rattle.strip_lines.specs.Lines.{rules_of};
 ghost use Rattle.strip_front.specs.Front.{IsEmptyFront};
 ghost use Rattle.strip_front.specs.Shown.{front_data};
@@ -11,7 +11,7 @@ use crate::layer::layer_after;
 use crate::shorter::shorter_paths;
 use crate::tasks::by_promise;
 use std::alloc::Global;
-use strip_bound::Kept;
+use strip_bound::StoredBound;
 use strip_io::Memory;
 
 /// The front of the film, with no task asked for and no lines. The tasks are paths of `most` scenes, 2 to 4,
@@ -20,9 +20,9 @@ use strip_io::Memory;
 /// each at the place of the first that leaves the same. It takes a few copies of a path for each set that
 /// can remain after so many scenes or fewer, and asks for the stored bound of each task once, and of each
 /// shorter path.
-pub fn layers<F: Fn(u64, u64) -> u64>(
+pub fn make_front<F: Fn(u64, u64) -> u64>(
     alloc: Global,
-    kept: &Kept<F>,
+    kept: &StoredBound<F>,
     most: usize,
 ) -> Result<Front, Memory>
     requires keeps { Keeps (F.pre kept.now.f) (F.post kept.now.f) kept.now.kind kept.now.film.now }

@@ -7,7 +7,7 @@ ghost use Rattle.strip_film.specs.Path.{IsPath, PathData};
 ghost use Rattle.strip_film.specs.Rules.{rank};
 ghost use Rattle.strip_film.specs.Shown.{path_data, turns_data};
 ghost use Rattle.strip_film.specs.Turns.{GoBy};
-ghost use Rattle.strip_bound.specs.Kept.{Keeps};
+ghost use Rattle.strip_bound.specs.StoredBound.{Keeps};
 ghost use Rattle.strip_rule.specs.Rule.{open_firsts};
 ghost use Rattle.strip_lines.specs.Lines.{rules_of};
 ghost use Rattle.strip_front.specs.Front.{AreShorter, IsDepth};
@@ -18,7 +18,7 @@ ghost use Rattle.strip_front.specs.Shown.{paths_of};
 use crate::by_set::PathsBySet;
 use crate::layer::{first_layer, layer_after};
 use std::alloc::Global;
-use strip_bound::Kept;
+use strip_bound::StoredBound;
 use strip_film::{MAX_COUNT, Path, Turns};
 use strip_io::Memory;
 use strip_mask::Mask;
@@ -28,7 +28,7 @@ use strip_rule::open_firsts;
 /// their layers. For each path but those of the last layer a call of the stored bound for each open first.
 pub(crate) fn shorter_paths<F: Fn(u64, u64) -> u64>(
     alloc: Global,
-    kept: &Kept<F>,
+    kept: &StoredBound<F>,
     depth: usize,
 ) -> Result<(Vec<Path>, PathsBySet), Memory>
     requires keeps { Keeps (F.pre kept.now.f) (F.post kept.now.f) kept.now.kind kept.now.film.now }
@@ -51,7 +51,7 @@ pub(crate) fn shorter_paths<F: Fn(u64, u64) -> u64>(
 /// behind the one from which it goes on.
 fn with_layer<F: Fn(u64, u64) -> u64>(
     alloc: Global,
-    kept: &Kept<F>,
+    kept: &StoredBound<F>,
     shorter: &[Path],
     next: &PathsBySet,
     count: usize,
@@ -76,7 +76,7 @@ fn with_layer<F: Fn(u64, u64) -> u64>(
 
 /// Pushes the paths of the layer that go on from this path, by rank.
 fn push_kept<F: Fn(u64, u64) -> u64>(
-    kept: &Kept<F>,
+    kept: &StoredBound<F>,
     path: &Path,
     layer: &PathsBySet,
     paths: &mut Vec<Path>,
@@ -113,7 +113,7 @@ fn has(paths: &PathsBySet, path: &Path) -> bool
 
 /// The open firsts of a set of scenes, which take their turns by rank. One call of the stored bound for
 /// each.
-fn turns_of<F: Fn(u64, u64) -> u64>(kept: &Kept<F>, rest: Mask) -> Turns
+fn turns_of<F: Fn(u64, u64) -> u64>(kept: &StoredBound<F>, rest: Mask) -> Turns
     requires keeps { Keeps (F.pre kept.now.f) (F.post kept.now.f) kept.now.kind kept.now.film.now }
     requires lies { LiesIn kept.now.film.now rest.0 }
     ensures left { (turns_data result).left ≡ open_firsts kept.now.film.now rest.0 }

@@ -6,7 +6,7 @@ ghost use Rattle.strip_kind.specs.declared.kind.Kind.{Kind};
 ghost use Rattle.strip_pay.specs.Film.{FilmData};
 ghost use Rattle.strip_film.specs.Film.{IsFilm, LiesIn, all_scenes};
 ghost use Rattle.strip_bound.specs.Bounds.{bound};
-ghost use Rattle.strip_bound.specs.Kept.{Keeps};
+ghost use Rattle.strip_bound.specs.StoredBound.{Keeps};
 ghost use Rattle.strip_rule.specs.Rule.{open_firsts};
 ghost use Rattle.strip_lines.specs.Lines.{ahead, known, line_at, rules_of};
 ghost use Rattle.strip_hand.specs.Search.{search_rules};
@@ -17,7 +17,7 @@ ghost use Rattle.strip_front.specs.Raised.{AreRaised, IsNumberOf, ReachesBy, Rea
 ghost use Rattle.strip_front.specs.Shown.{front_data};
 
 use crate::front::Front;
-use strip_bound::Kept;
+use strip_bound::StoredBound;
 use strip_film::{Film, step};
 use strip_hand::Hand;
 use strip_io::Memory;
@@ -33,7 +33,7 @@ use strip_rule::open_firsts;
 /// line was raised, or the static bound of all scenes where it has none. A call of the hand for each line,
 /// and two looks for each open first of each path.
 pub fn close_up<H: Hand, F: Fn(u64, u64) -> u64>(
-    kept: &Kept<F>,
+    kept: &StoredBound<F>,
     hand: &mut H,
     front: &mut Front,
     found: &[u64],
@@ -70,7 +70,7 @@ pub fn close_up<H: Hand, F: Fn(u64, u64) -> u64>(
 
 /// Raises the lines of the paths of so many scenes.
 fn raise_layer<H: Hand, F: Fn(u64, u64) -> u64>(
-    kept: &Kept<F>,
+    kept: &StoredBound<F>,
     hand: &mut H,
     front: &mut Front,
     found: &[u64],
@@ -106,7 +106,7 @@ fn raise_layer<H: Hand, F: Fn(u64, u64) -> u64>(
 /// Raises the line of a path, where it has one, and answers the number to which it was raised; without a
 /// line it answers the static bound of what then remains.
 fn raise_path<H: Hand, F: Fn(u64, u64) -> u64>(
-    kept: &Kept<F>,
+    kept: &StoredBound<F>,
     hand: &mut H,
     front: &Front,
     found: &[u64],

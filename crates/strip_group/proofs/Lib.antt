@@ -9,4 +9,4 @@ mod Lanes
 mod Blocks
 mod Waits
 mod Extra
-mod Rows
+mod Examples

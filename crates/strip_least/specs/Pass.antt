@@ -19,8 +19,8 @@ abbrev pub table_of : Least → TableId
 table_of least = least.table.shared.table_id
 
 -- the film of the search
-abbrev pub film_of : Least → FilmData
-film_of least = least.table.shared.key.film
+abbrev pub least_film : Least → FilmData
+least_film least = least.table.shared.key.film
 
 -- the best path that the pass offered, began with, or has from another
 abbrev pub best_path : LeastPass → PathData
@@ -33,7 +33,7 @@ cheaper path other = if nat_lt other.paid path.paid then other else path
 -- the pass steps on these words, goes by their film and parts, has weight, and its best path is complete
 pub record IsPassOf (least : Least) (pass : LeastPass) : Type 0 where
   pub table : pass.seat.table_id ≡ table_of least
-  pub film : (known pass).film ≡ film_of least
+  pub film : (known pass).film ≡ least_film least
   pub parts : (known pass).parts ≡ least.parts
   pub no_slots : pass.seat.me.1 ≡ []
   pub some_weight : 0 < (known pass).weight

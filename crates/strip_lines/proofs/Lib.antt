@@ -1,4 +1,4 @@
 pub mod Justified
 pub mod Ahead
 pub mod Grown
-pub mod Rows
+pub mod Examples

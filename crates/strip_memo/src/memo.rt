@@ -2,7 +2,7 @@
 ghost use Rattle.std.specs.Prelude.{◌≡◌, ◌-◌, ◌*◌, ◌^◌, ◌<◌, ◌≤◌, false, vec_len};
 
 use std::alloc::Global;
-use strip_bound::Kept;
+use strip_bound::StoredBound;
 use strip_io::Memory;
 use strip_kind::Kind;
 use strip_mask::Mask;
@@ -41,12 +41,12 @@ impl Memo {
     ghost use Rattle.strip_mask.specs.Set.{has};
     ghost use Rattle.strip_film.specs.Film.{LiesIn};
     ghost use Rattle.strip_bound.specs.Bounds.{bound};
-    ghost use Rattle.strip_bound.specs.Kept.{Keeps};
+    ghost use Rattle.strip_bound.specs.StoredBound.{Keeps};
     ghost use Rattle.strip_memo.specs.Memo.{IsMemo, bytes_of};
 
     /// A memo that remembers the empty set alone: 2^18 entries of 16 bytes, 2^19 for groups, and for
     /// arrivals 2^20 of 17 bytes; fewer where the film has few sets of scenes.
-    pub fn new<F: Fn(u64, u64) -> u64>(alloc: Global, kept: &Kept<F>) -> Result<Memo, Memory>
+    pub fn new<F: Fn(u64, u64) -> u64>(alloc: Global, kept: &StoredBound<F>) -> Result<Memo, Memory>
         requires { Keeps (F.pre kept.now.f) (F.post kept.now.f) kept.now.kind kept.now.film.now }
         ensures { IfOk result (IsMemo kept.now.kind kept.now.film.now) }
     {
@@ -58,7 +58,7 @@ impl Memo {
     /// entries each at most for groups and arrivals, since they share a store of what they worked out.
     pub fn among<F: Fn(u64, u64) -> u64>(
         alloc: Global,
-        kept: &Kept<F>,
+        kept: &StoredBound<F>,
         workers: u32,
     ) -> Result<Memo, Memory>
         requires keeps { Keeps (F.pre kept.now.f) (F.post kept.now.f) kept.now.kind kept.now.film.now }
@@ -83,7 +83,12 @@ impl Memo {
 
     /// A number that is at most the static bound of the set, in units of money, and at least `need` or the
     /// bound: the one that stands here, or else one that is asked for and then stands here.
-    pub fn reach<F: Fn(u64, u64) -> u64>(&mut self, kept: &Kept<F>, q: Mask, need: u64) -> u64
+    pub fn reach<F: Fn(u64, u64) -> u64>(
+        &mut self,
+        kept: &StoredBound<F>,
+        q: Mask,
+        need: u64,
+    ) -> u64
         requires keeps { Keeps (F.pre kept.now.f) (F.post kept.now.f) kept.now.kind kept.now.film.now }
         requires memo { IsMemo kept.now.kind kept.now.film.now self.old }
         requires lies { LiesIn kept.now.film.now q.0 }
@@ -98,7 +103,7 @@ impl Memo {
     /// more then: how much beyond is a matter of time alone.
     pub fn reach_beyond<F: Fn(u64, u64) -> u64>(
         &mut self,
-        kept: &Kept<F>,
+        kept: &StoredBound<F>,
         q: Mask,
         need: u64,
         beyond: u64,

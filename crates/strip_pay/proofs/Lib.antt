@@ -13,4 +13,4 @@ pub mod Seams
 pub mod Pays
 pub mod Moves
 pub mod Blocks
-pub mod Rows
+pub mod Examples

@@ -5,7 +5,7 @@ ghost use Rattle.strip_answer.specs.Headline.{IsHeadline};
 ghost use Rattle.strip_host.specs.Run.{IsFresh, IsRun, IsRunBy, files_told, sink_told};
 ghost use Rattle.strip_io.specs.Held.{came_of, faults_of, is_held};
 ghost use Rattle.strip_words.specs.Shown.{texts};
-ghost use Rattle.strip_top.specs.Due.{board_claims};
+ghost use Rattle.strip_commands.specs.Due.{board_claims};
 
 use crate::asking::ask_for_progress;
 use std::process::ExitCode;
@@ -15,10 +15,10 @@ use std::thread::Threads;
 use strip_host::{Host, exit_code};
 use strip_io::Memory;
 use strip_progress::Progress;
-use strip_team::{Gate, OpenGate};
+use strip_worker::{Gate, OpenGate};
 
 /// Runs the program `stripboard` with the words, files and output of the runtime, and gives its exit code,
-/// which is that of a run of `strip_top::run`, or 9 where memory ran out before it. Where the words ask for
+/// which is that of a run of `strip_commands::run`, or 9 where memory ran out before it. Where the words ask for
 /// it, it is told on standard error how the search gets on; else nothing is written there.
 pub fn run<R: Env + rt::Files + Print + Eprint + AllocGlobal + Threads + Wait + Sync>(
     rt: &R,
@@ -58,5 +58,5 @@ fn run_through<R: rt::Files + Print + AllocGlobal + Threads + Wait + Sync, G: Ga
         mut files,
         mut out,
     } = host;
-    Ok(strip_top::run(rt, rt.alloc(), &words, &mut files, &mut out, gate))
+    Ok(strip_commands::run(rt, rt.alloc(), &words, &mut files, &mut out, gate))
 }

@@ -1,6 +1,6 @@
 // A gate that tells how a search gets on.
 use crate::counts::Counts;
-use strip_team::Gate;
+use strip_worker::Gate;
 
 /// A gate that holds nobody and tells on standard error how a search gets on: with each further fortieth
 /// of the tasks that are asked for, how many of them were begun and by how many workers. Where workers

@@ -8,19 +8,19 @@ use std::sync::atomic::{AtomicU32, Ordering};
 use std::test::Fail;
 use std::thread;
 use std::thread::Threads;
-use strip_team::Gate;
+use strip_worker::Gate;
 
 /// A standard error that counts the rows that come to it, keeps the first, and says each time that it failed.
 #[derive(Drop)]
-struct Kept {
+struct StoredBound {
     alloc: Global,
     rows: AtomicU32,
     first: OnceLock<String>,
 }
 
-impl Kept {
-    fn new(alloc: Global) -> Kept {
-        Kept {
+impl StoredBound {
+    fn new(alloc: Global) -> StoredBound {
+        StoredBound {
             alloc,
             rows: AtomicU32::new(0),
             first: OnceLock::new(),
@@ -40,7 +40,7 @@ impl Kept {
     }
 }
 
-impl Eprint for Kept {
+impl Eprint for StoredBound {
     fn eprint<D: Display + Drop>(&self, value: D) -> io::Result<()> {
         self.eprintln(value)
     }
@@ -73,7 +73,7 @@ fn tell_beside<R: Threads + Sync, E: Eprint + Sync>(rt: &R, host: &E) {
 
 /// How many rows come where one worker begins so many of the tasks that are asked for.
 fn rows_of(alloc: Global, tasks: u32, wanted: u32) -> u32 {
-    let host = Kept::new(alloc);
+    let host = StoredBound::new(alloc);
     let gate = Progress::new(&host);
     gate.opened(wanted, 1);
     walk(&gate, 0, tasks);
@@ -93,7 +93,7 @@ fn a_row_comes_with_each_fortieth(rt: HostRuntime) -> Result<(), Fail> {
 
 #[test]
 fn a_worker_counts_once(rt: HostRuntime) -> Result<(), Fail> {
-    let host = Kept::new(rt.alloc());
+    let host = StoredBound::new(rt.alloc());
     let gate = Progress::new(&host);
     gate.opened(81, 64);
     walk(&gate, 63, 2);
@@ -104,7 +104,7 @@ fn a_worker_counts_once(rt: HostRuntime) -> Result<(), Fail> {
 
 #[test]
 fn rows_come_from_two_threads(rt: HostRuntime) -> Result<(), Fail> {
-    let host = Kept::new(rt.alloc());
+    let host = StoredBound::new(rt.alloc());
     tell_beside(&rt, &host);
     assert!(&rt; host.rows() == 40);
     Ok(())

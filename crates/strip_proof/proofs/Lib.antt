@@ -3,7 +3,7 @@ mod Plain
 mod Digits
 mod Values
 mod Texts
-mod Rows
+mod ExampleTexts
 mod Sent
 mod read
 mod back

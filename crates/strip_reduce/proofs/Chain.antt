@@ -11,7 +11,7 @@ use Rattle.strip_film.specs.Film.{IsFilmUpTo}
 use Rattle.strip_reduce.specs.State.{State, IsState, start, way_back}
 use Rattle.strip_reduce.specs.Reduction.{after_steps, next, reduced}
 use Rattle.strip_reduce.specs.Law.{StandsFor}
-use Rattle.strip_reduce.proofs.Kept.{IsBackFrom, StepKeeps}
+use Rattle.strip_reduce.proofs.StepKeeps.{IsBackFrom, StepKeeps}
 use Rattle.strip_reduce.proofs.Limits.{limits-start}
 use Rattle.strip_reduce.proofs.Turn.{Turn, optimum_falls, size, turn_keeps, turn_lessens, turn_limits, turn_of}
 

@@ -14,7 +14,7 @@ use Rattle.strip_reduce.specs.Steps.{can_drop, casts_without, dropped, work_days
 use Rattle.strip_reduce.proofs.Columns.{has-casts_without, sum_below-gap}
 use Rattle.strip_reduce.proofs.Places.{removed-at}
 use Rattle.strip_reduce.proofs.Fixed.{fixed_pay}
-use Rattle.strip_reduce.proofs.Kept.{StepKeeps}
+use Rattle.strip_reduce.proofs.StepKeeps.{StepKeeps}
 
 -- what an actor gets for an order
 abbrev pub actor_pay : FilmData → List ℕ → ℕ → ℕ

@@ -17,7 +17,7 @@ use Rattle.strip_reduce.specs.Steps.{can_join_actors, casts_without, actors_join
 use Rattle.strip_reduce.proofs.Places.{gap_below, joined-elsewhere, joined-here}
 use Rattle.strip_reduce.proofs.Columns.{has-casts_without, sum_below-gap}
 use Rattle.strip_reduce.proofs.DropActor.{actor_pay, same_pay}
-use Rattle.strip_reduce.proofs.Kept.{StepKeeps}
+use Rattle.strip_reduce.proofs.StepKeeps.{StepKeeps}
 
 -- two actors who work in the same scenes
 pub same_column : (casts : List ℕ) (a b scene : ℕ) → list_all (λ cast. beq (has cast a) (has cast b)) casts ≡ true

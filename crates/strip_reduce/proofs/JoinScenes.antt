@@ -14,7 +14,7 @@ use Rattle.strip_pay.proofs.Blocks.{All-from_contains}
 use Rattle.strip_pay.proofs.Counts.{count, tie, tie-same, count-cons, count-append, permuted_by_counts, order_permuted}
 use Rattle.strip_reduce.specs.State.{State, IsState}
 use Rattle.strip_reduce.specs.Steps.{is_paired, can_join_scenes, renumbered, scenes_joined}
-use Rattle.strip_reduce.proofs.Kept.{IsBackFrom, StepKeeps}
+use Rattle.strip_reduce.proofs.StepKeeps.{IsBackFrom, StepKeeps}
 use Rattle.strip_reduce.proofs.JoinScenesPieces.{pieces, pieces-both, pieces-one, order_of_pieces}
 use Rattle.strip_reduce.proofs.Places.{gap_below, gap-renumbered}
 use Rattle.strip_reduce.proofs.Renumber.{unpaired}

@@ -16,7 +16,7 @@ use Rattle.strip_pay.proofs.Blocks.{All-from_contains, blocks-pay}
 use Rattle.strip_pay.proofs.Counts.{count, contains_counted, counted_contains}
 use Rattle.strip_reduce.specs.State.{State, way_back}
 use Rattle.strip_reduce.specs.Steps.{joined, summed, renumbered, renumbered_pair, scenes_joined}
-use Rattle.strip_reduce.proofs.Kept.{IsBackFrom}
+use Rattle.strip_reduce.proofs.StepKeeps.{IsBackFrom}
 use Rattle.strip_reduce.proofs.JoinScenesPieces.{pieces, pieces-both, pieces-one, place-other, count-pieces, pieces_are_order}
 use Rattle.strip_reduce.proofs.Places.{gap_below, gap-renumbered, joined-elsewhere, joined-here, removed-at, renumbered-gap}
 

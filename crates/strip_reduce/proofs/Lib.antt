@@ -1,10 +1,10 @@
-pub mod Rows
+pub mod Examples
 pub mod Places
 pub mod Columns
 pub mod Least
 pub mod Renumber
 pub mod Fixed
-pub mod Kept
+pub mod StepKeeps
 pub mod DropActor
 pub mod JoinActors
 pub mod JoinScenesPieces

@@ -11,7 +11,7 @@ use Rattle.strip_reduce.specs.Steps.{actors_joined, can_drop, can_join_actors, c
 use Rattle.strip_reduce.specs.Reduction.{least_below, least_two, next}
 use Rattle.strip_reduce.specs.Law.{KeepsOptimum}
 use Rattle.strip_reduce.proofs.Least.{AreLeastTwo, IsLeastBelow, least_told, least_two_told}
-use Rattle.strip_reduce.proofs.Kept.{IsBackFrom, StepKeeps}
+use Rattle.strip_reduce.proofs.StepKeeps.{IsBackFrom, StepKeeps}
 use Rattle.strip_reduce.proofs.DropActor.{drop_keeps}
 use Rattle.strip_reduce.proofs.JoinScenes.{scenes_join_keeps}
 use Rattle.strip_reduce.proofs.JoinActors.{actors_join_keeps}

@@ -1,4 +1,4 @@
-mod Rows
+mod Examples
 pub mod Counted
 pub mod Sized
 pub mod Written

@@ -4,4 +4,4 @@ pub mod Exchange
 pub mod Open
 pub mod Firsts
 pub mod Held
-pub mod Rows
+pub mod Examples

@@ -13,12 +13,12 @@ use Rattle.strip_film.specs.Path.{PathData}
 use Rattle.strip_film.specs.declared.shared.Line.{Line}
 use Rattle.strip_film.specs.Film.{all_scenes}
 use Rattle.strip_lines.specs.Lines.{AreJustified, known, rules_of}
-use Rattle.strip_count.specs.Paths.{factorial, few}
+use Rattle.strip_count.specs.Paths.{factorial, candidate_count}
 use Rattle.strip_reduce.specs.Law.{StandsFor}
 use Rattle.strip_reduce.specs.Oriented.{oriented}
 use Rattle.strip_reduce.specs.Reduction.{reduced}
 use Rattle.strip_reduce.specs.State.{State, way_back}
-use Rattle.strip_team.specs.Ended.{EndedData, IsEnded}
+use Rattle.strip_worker.specs.Ended.{EndedData, IsEnded}
 use Rattle.strip_proof.specs.declared.plan.Status.{Status}
 use Rattle.strip_proof.specs.declared.plan.Status.TheVariants.{Optimal, Bounded}
 use Rattle.strip_proof.specs.Plan.{PlanData}
@@ -56,7 +56,7 @@ HasOptimum film = (cost : ℕ) × IsOptimum film cost
 module _ (kind : Kind) (film : FilmData) (most : ℕ) (start varied : PathData) (ended : EndedData) (stands : StandsFor film (reduced film))
     (is_start : IsStart (reduced film).film start) (is_varied : IsVaried (reduced film).film start varied)
     (is : IsEnded kind (reduced film).film varied most ended)
-    (optimum : HasOptimum (reduced film).film) (orders : few (class_rules kind film) varied.paid ≤ 2 * factorial (length (reduced film).film.casts)) where
+    (optimum : HasOptimum (reduced film).film) (orders : candidate_count (class_rules kind film) varied.paid ≤ 2 * factorial (length (reduced film).film.casts)) where
   abbrev state : State
   state = reduced film
 
@@ -151,7 +151,7 @@ module _ (kind : Kind) (film : FilmData) (most : ℕ) (start varied : PathData) 
 abbrev Solves : Kind → FilmData → ℕ → PathData → PathData → EndedData → List ℕ → Status → List Line → State → Type 0
 Solves kind film most start varied ended order status lines draft =
     StandsFor film draft → IsStart draft.film start → IsVaried draft.film start varied → IsEnded kind draft.film varied most ended
-    → HasOptimum draft.film → few (rules_of kind draft.film) varied.paid ≤ 2 * factorial (length draft.film.casts)
+    → HasOptimum draft.film → candidate_count (rules_of kind draft.film) varied.paid ≤ 2 * factorial (length draft.film.casts)
     → IsKeptOrder draft.film order → pay_of draft.film order ≡ pay_of draft.film ended.order → Tells ended status
     → AreRows (rules_of kind draft.film) status ended.lines lines → (draft.film.pairs ≡ [] → order ≡ oriented order)
     → IsSolved kind film most (record {

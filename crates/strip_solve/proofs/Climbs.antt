@@ -6,16 +6,16 @@ use Rattle.strip_kind.specs.declared.kind.Kind.{Kind}
 use Rattle.strip_pay.specs.Film.{FilmData}
 use Rattle.strip_film.specs.Path.{PathData}
 use Rattle.strip_lines.specs.Lines.{rules_of}
-use Rattle.strip_count.specs.Paths.{few, ways}
+use Rattle.strip_count.specs.Paths.{candidate_count, leaving_count}
 use Rattle.strip_climb.specs.declared.climbed.Climbed.{Climbed}
 use Rattle.strip_climb.specs.Climbed.{ClimbedData, IsClimbed}
 use Rattle.strip_climb.specs.Shown.{climbed_data}
-use Rattle.strip_team.specs.Ended.{EndedData, IsEnded, RanOut}
+use Rattle.strip_worker.specs.Ended.{EndedData, IsEnded, RanOut}
 use Rattle.strip_solve.specs.Outset.{IsBetter, IsFull, IsProvedBy}
 
 module _ (kind : Kind) (film : FilmData) (begun from : PathData) (most : ℕ) (ended : EndedData) (no_dearer : from.paid ≤ begun.paid)
-    (few_stay : few (rules_of kind film) from.paid ≤ few (rules_of kind film) begun.paid)
-    (ways_stay : (set : ℕ) → ways (rules_of kind film) from.paid set ≤ ways (rules_of kind film) begun.paid set)
+    (few_stay : candidate_count (rules_of kind film) from.paid ≤ candidate_count (rules_of kind film) begun.paid)
+    (ways_stay : (set : ℕ) → leaving_count (rules_of kind film) from.paid set ≤ leaving_count (rules_of kind film) begun.paid set)
     (is : IsEnded kind film from most ended) where
   ran_out : ended.spent ≡ true → RanOut kind film begun most ended
   ran_out spent =

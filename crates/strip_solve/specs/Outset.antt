@@ -7,8 +7,8 @@ use Rattle.strip_film.specs.Shown.{path_data}
 use Rattle.strip_climb.specs.declared.climbed.Climbed.{Climbed}
 use Rattle.strip_climb.specs.Climbed.{ClimbedData, IsClimbed}
 use Rattle.strip_climb.specs.Shown.{climbed_data}
-use Rattle.strip_team.specs.Ended.{EndedData, IsEnded}
-use Rattle.strip_team.specs.Shown.{ended_data}
+use Rattle.strip_worker.specs.Ended.{EndedData, IsEnded}
+use Rattle.strip_worker.specs.Shown.{ended_data}
 use Rattle.strip_solve.specs.declared.outset.Opened.{Opened}
 use Rattle.strip_solve.specs.declared.outset.Outset.{Outset}
 use Rattle.strip_solve.specs.declared.outset.Outset.TheVariants.{Open, Over}

@@ -9,7 +9,7 @@ use Rattle.strip_film.specs.Film.{all_scenes}
 use Rattle.strip_film.specs.Path.{PathData, IsComplete}
 use Rattle.strip_film.specs.Rules.{Rules}
 use Rattle.strip_lines.specs.Lines.{AreJustified, ahead, known}
-use Rattle.strip_count.specs.Paths.{factorial, few, ways}
+use Rattle.strip_count.specs.Paths.{factorial, candidate_count, leaving_count}
 use Rattle.strip_reduce.specs.Oriented.{oriented}
 use Rattle.strip_reduce.specs.Reduction.{reduced}
 use Rattle.strip_reduce.specs.State.{way_back}
@@ -48,15 +48,15 @@ pub record AreProof (kind : Kind) (film : FilmData) (begun : PathData) (plan : P
   pub justified : AreJustified (class_rules kind film) plan.lines
   pub reaches : plan.bound ≤ known (class_rules kind film) plan.lines (all_scenes (reduced film).film) + (reduced film).apart
   pub few_rows : length plan.lines ≤ plan.held
-  pub candidates : plan.held ≤ few (class_rules kind film) begun.paid
-  pub sets : (set : ℕ) → count_by (λ line. line.set == set) plan.lines ≤ ways (class_rules kind film) begun.paid set
+  pub candidates : plan.held ≤ candidate_count (class_rules kind film) begun.paid
+  pub sets : (set : ℕ) → count_by (λ line. line.set == set) plan.lines ≤ leaving_count (class_rules kind film) begun.paid set
 
 -- the lines that there may be were all made, though there are fewer than candidates of the path that the search began with, and so than twice the orders of the
 -- classes; and the bound is at least the look-ahead of all classes with what is set apart
 pub record RanOut (kind : Kind) (film : FilmData) (most : ℕ) (begun : PathData) (plan : PlanData) : Type 0 where
   pub below : plan.bound < plan.cost
   pub full : plan.held ≡ most
-  pub fewer : most < few (class_rules kind film) begun.paid
+  pub fewer : most < candidate_count (class_rules kind film) begun.paid
   pub orders : most < 2 * factorial (length (reduced film).film.casts)
   pub ahead_reached : ahead (class_rules kind film) (all_scenes (reduced film).film) + (reduced film).apart ≤ plan.bound
 

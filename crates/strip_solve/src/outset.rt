@@ -5,12 +5,12 @@ ghost use Rattle.strip_pay.specs.Film.{FilmData};
 ghost use Rattle.strip_film.specs.Film.{IsFilm};
 ghost use Rattle.strip_film.specs.Path.{IsComplete, PathData};
 ghost use Rattle.strip_film.specs.Shown.{path_data};
-ghost use Rattle.strip_bound.specs.Kept.{Keeps};
+ghost use Rattle.strip_bound.specs.StoredBound.{Keeps};
 ghost use Rattle.strip_memo.specs.Memo.{IsMemo};
 ghost use Rattle.strip_climb.specs.Climbed.{IsClimbed};
 ghost use Rattle.strip_climb.specs.Shown.{climbed_data};
-ghost use Rattle.strip_team.specs.Ended.{IsEnded};
-ghost use Rattle.strip_team.specs.Shown.{ended_data};
+ghost use Rattle.strip_worker.specs.Ended.{IsEnded};
+ghost use Rattle.strip_worker.specs.Shown.{ended_data};
 ghost use Rattle.strip_solve.specs.Answer.{MayBe};
 ghost use Rattle.strip_solve.specs.Outset.{IsBetter, IsOpened, IsOutset, IsProvedBy};
 
@@ -18,7 +18,7 @@ use crate::solve::SearchOptions;
 use std::alloc::Global;
 use std::sync::Wait;
 use std::thread::Threads;
-use strip_bound::Kept;
+use strip_bound::StoredBound;
 use strip_climb::{Climbed, climb};
 use strip_count::laws::a_lesser_cost_has_fewer_candidates;
 use strip_crew::race;
@@ -26,8 +26,8 @@ use strip_film::Path;
 use strip_film::laws::{kept_orders_are_ready_lists, steps_add_up_to_the_pay};
 use strip_io::Memory;
 use strip_memo::Memo;
-use strip_race::Limits;
-use strip_team::{Ended, Gate, alone_through};
+use strip_worker::{Ended, Gate, alone_through};
+use strip_world::Limits;
 
 /// How a search begins: it is over already, or the film is searched from a path.
 #[derive(Debug, Drop)]
@@ -47,7 +47,7 @@ struct Opened {
 /// The end of the search that begins with this path, by one worker.
 pub(crate) fn end_alone<F: Fn(u64, u64) -> u64, G: Gate>(
     alloc: Global,
-    kept: &Kept<F>,
+    kept: &StoredBound<F>,
     memo: &mut Memo,
     begun: &Path,
     options: SearchOptions,
@@ -82,7 +82,7 @@ pub(crate) fn end_alone<F: Fn(u64, u64) -> u64, G: Gate>(
 pub(crate) fn end_beside<R: Threads + Wait + Sync, F: Fn(u64, u64) -> u64 + Sync, G: Gate>(
     rt: &R,
     alloc: Global,
-    kept: &Kept<F>,
+    kept: &StoredBound<F>,
     memo: &mut Memo,
     begun: &Path,
     options: SearchOptions,
@@ -125,7 +125,7 @@ pub(crate) fn end_beside<R: Threads + Wait + Sync, F: Fn(u64, u64) -> u64 + Sync
 /// where the bound then is what the best path pays.
 fn set_out<F: Fn(u64, u64) -> u64>(
     alloc: Global,
-    kept: &Kept<F>,
+    kept: &StoredBound<F>,
     memo: &mut Memo,
     begun: &Path,
     options: SearchOptions,
@@ -148,7 +148,7 @@ fn set_out<F: Fn(u64, u64) -> u64>(
 /// Climbs from the path in so many steps, with at most so many lines.
 fn climb_out<F: Fn(u64, u64) -> u64>(
     alloc: Global,
-    kept: &Kept<F>,
+    kept: &StoredBound<F>,
     memo: &mut Memo,
     begun: &Path,
     steps: u32,

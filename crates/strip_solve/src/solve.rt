@@ -9,10 +9,10 @@ ghost use Rattle.strip_reduce.specs.Law.{StandsFor};
 ghost use Rattle.strip_reduce.specs.Oriented.{oriented};
 ghost use Rattle.strip_reduce.specs.Reduction.{reduced as reduction};
 ghost use Rattle.strip_reduce.specs.Shown.{reduced_data};
-ghost use Rattle.strip_bound.specs.Kept.{Keeps};
+ghost use Rattle.strip_bound.specs.StoredBound.{Keeps};
 ghost use Rattle.strip_lines.specs.Lines.{AreJustified, rules_of};
 ghost use Rattle.strip_memo.specs.Memo.{IsMemo};
-ghost use Rattle.strip_team.specs.Shown.{ended_data};
+ghost use Rattle.strip_worker.specs.Shown.{ended_data};
 ghost use Rattle.strip_proof.specs.Plan.{plan_data};
 ghost use Rattle.strip_solve.specs.Answer.{IsAnswerFor, MayBe};
 ghost use Rattle.strip_solve.specs.Searched.{IsProofOf, IsSearchedFrom, IsTrimmed};
@@ -23,7 +23,7 @@ use std::alloc::Global;
 use std::marker::Brand;
 use std::sync::Wait;
 use std::thread::Threads;
-use strip_bound::{BoundTables, Kept, static_reach};
+use strip_bound::{BoundTables, StoredBound, static_reach};
 use strip_count::laws::paths_are_few;
 use strip_film::laws::{a_least_tail_exists, finishing_everything_is_the_optimum};
 use strip_film::{Film, Line, Path};
@@ -38,8 +38,8 @@ use strip_proof::{Plan, Status};
 use strip_reduce::{ReduceFault, Reduced, expand, orient, reduce};
 use strip_start::{greedy, improve, vary};
 use strip_store::{Bounded, Store};
-use strip_team::{Ended, Gate, OpenGate};
 use strip_trim::trim;
+use strip_worker::{Ended, Gate, OpenGate};
 
 /// How often the order that a search begins with is varied for each class, where nothing is said of it.
 const TRIES_A_CLASS: u32 = 5_000;
@@ -180,7 +180,7 @@ fn search<G: Gate>(
     ensures { IfOk result (IsSearchedFrom options.kind film.now (path_data start.now) options.nodes) }
 {
     let tables = BoundTables::of(alloc, film)?;
-    let kept = Kept::new(film, options.kind, |q, need| {
+    let kept = StoredBound::new(film, options.kind, |q, need| {
         static_reach(film, &tables, options.kind, Mask(q), need)
     });
     let begun = varied(&kept, start, options.tries);
@@ -210,7 +210,7 @@ fn search_beside<R: Threads + Wait + Sync, G: Gate>(
     ensures { IfOk result (IsSearchedFrom options.kind film.now (path_data start.now) options.nodes) }
 {
     let tables = BoundTables::of(alloc, film)?;
-    let kept = Kept::new(film, options.kind, |q, need| {
+    let kept = StoredBound::new(film, options.kind, |q, need| {
         static_reach(film, &tables, options.kind, Mask(q), need)
     });
     search_stored::<Brand, R, _, G>(rt, alloc, &kept, start, options, workers, gate)
@@ -225,7 +225,7 @@ fn search_stored<
 >(
     rt: &R,
     alloc: Global,
-    kept: &Kept<F>,
+    kept: &StoredBound<F>,
     start: &Path,
     options: SearchOptions,
     workers: u32,
@@ -240,7 +240,7 @@ fn search_stored<
     ensures { IfOk result (IsSearchedFrom kept.now.kind kept.now.film.now (path_data start.now) options.nodes) }
 {
     let store: Store<N> = Store::new(alloc, kept)?;
-    let stored = Kept::new(
+    let stored = StoredBound::new(
         kept.film(),
         kept.kind(),
         |q, need| store.reach(rt, kept, Mask(q), need),
@@ -262,7 +262,7 @@ fn search_stored<
 /// The lines that the bound needs, where it is the cost.
 fn trimmed<F: Fn(u64, u64) -> u64>(
     alloc: Global,
-    kept: &Kept<F>,
+    kept: &StoredBound<F>,
     memo: &mut Memo,
     ended: &Ended,
 ) -> Result<Option<Vec<Line>>, Memory>
@@ -279,7 +279,7 @@ fn trimmed<F: Fn(u64, u64) -> u64>(
 }
 
 /// What varying the path gives; nothing is tried where the static bound of all scenes says that none is cheaper.
-fn varied<F: Fn(u64, u64) -> u64>(kept: &Kept<F>, start: &Path, tries: Option<u32>) -> Path
+fn varied<F: Fn(u64, u64) -> u64>(kept: &StoredBound<F>, start: &Path, tries: Option<u32>) -> Path
     requires keeps { Keeps (F.pre kept.now.f) (F.post kept.now.f) kept.now.kind kept.now.film.now }
     requires start { IsComplete kept.now.film.now (path_data start.now) }
     ensures { IsVaried kept.now.film.now (path_data start.now) (path_data result) }

@@ -1,7 +1,7 @@
 pub mod Parts
 pub mod Along
 pub mod Turned
-pub mod Kept
+pub mod Neighbours
 pub mod Places
 pub mod Tried
 pub mod Chains
@@ -10,4 +10,4 @@ pub mod Past
 pub mod Small
 pub mod Onward
 pub mod Chosen
-pub mod Rows
+pub mod Examples

@@ -18,7 +18,7 @@ use Rattle.strip_start.specs.Moves.{IsBetter, moved, taken_out}
 use Rattle.strip_start.specs.Scan.{IsFirstPlace, NoPlace}
 use Rattle.strip_start.specs.Sides.{cast_along, turn_cost}
 use Rattle.strip_start.proofs.Turned.{turned_costs}
-use Rattle.strip_start.proofs.Kept.{turned_once, never_behind}
+use Rattle.strip_start.proofs.Neighbours.{turned_once, never_behind}
 use Rattle.strip_start.proofs.Places.{length-base, moved_back, next_behind, next_before}
 
 -- with the scene at this place the order keeps the pairs, and costs this

@@ -2,7 +2,7 @@
 ghost use Rattle.std.specs.Prelude.{◌≡◌, ◌≤◌, ◌⊎◌, true, vec_len};
 ghost use Rattle.strip_film.specs.Film.{LiesIn};
 ghost use Rattle.strip_bound.specs.Bounds.{bound};
-ghost use Rattle.strip_bound.specs.Kept.{Keeps};
+ghost use Rattle.strip_bound.specs.StoredBound.{Keeps};
 ghost use Rattle.strip_store.specs.Entry.{IsEntry};
 
 use crate::bounded::Bounded;
@@ -10,7 +10,7 @@ use crate::drawer::{DRAWERS, Drawer, drawer_of};
 use crate::entry::Entry;
 use std::alloc::Global;
 use std::sync::{Mutex, Wait};
-use strip_bound::Kept;
+use strip_bound::StoredBound;
 use strip_io::Memory;
 use strip_kind::Kind;
 use strip_mask::Mask;
@@ -27,7 +27,10 @@ impl<N: Bounded> Store<N> {
     /// A store that knows nothing yet. It takes all the memory that it ever needs: for groups and arrivals
     /// 2^20 entries of 24 bytes, some 25 MB, and at most one for each set where the film has few; for the
     /// kinds that are cheap to ask for 64 entries, which stay as they are.
-    pub fn new<F: Fn(u64, u64) -> u64>(alloc: Global, kept: &Kept<F>) -> Result<Store<N>, Memory> {
+    pub fn new<F: Fn(u64, u64) -> u64>(
+        alloc: Global,
+        kept: &StoredBound<F>,
+    ) -> Result<Store<N>, Memory> {
         let bits = bits_of(kept.kind(), kept.film().scenes());
         let mut drawers = Vec::new(alloc);
         for _turn in 0..64usize {
@@ -44,7 +47,7 @@ impl<N: Bounded> Store<N> {
     pub fn reach<R: Wait, F: Fn(u64, u64) -> u64>(
         &self,
         rt: &R,
-        kept: &Kept<F>,
+        kept: &StoredBound<F>,
         q: Mask,
         need: u64,
     ) -> u64
@@ -70,7 +73,7 @@ impl<N: Bounded> Store<N> {
 }
 
 /// What the stored bound answers of the set, asked for as much as is needed.
-fn asked<F: Fn(u64, u64) -> u64>(kept: &Kept<F>, q: Mask, need: u64) -> Entry
+fn asked<F: Fn(u64, u64) -> u64>(kept: &StoredBound<F>, q: Mask, need: u64) -> Entry
     requires keeps { Keeps (F.pre kept.now.f) (F.post kept.now.f) kept.now.kind kept.now.film.now }
     requires lies { LiesIn kept.now.film.now q.0 }
     ensures set { result.set ≡ q.0 }

@@ -1,7 +1,7 @@
 // Stores of the bounds of the triangle, a film of three scenes of two of three actors each.
 ghost use Rattle.std.specs.Prelude.{◌≡◌};
 ghost use Rattle.strip_film.specs.Film.{LiesIn};
-ghost use Rattle.strip_bound.specs.Kept.{Keeps};
+ghost use Rattle.strip_bound.specs.StoredBound.{Keeps};
 
 use crate::bounded::Bounded;
 use crate::store::Store;
@@ -12,7 +12,7 @@ use std::sync::atomic::{AtomicU64, Ordering};
 use std::test::Fail;
 use std::thread;
 use std::thread::Threads;
-use strip_bound::{BoundTables, Kept, static_bound, static_reach};
+use strip_bound::{BoundTables, StoredBound, static_bound, static_reach};
 use strip_film::Film;
 use strip_kind::Kind;
 use strip_mask::Mask;
@@ -37,7 +37,7 @@ fn all_of(film: &Film) -> Mask
 fn asked_thrice<R: Wait, N: Bounded, F: Fn(u64, u64) -> u64>(
     rt: &R,
     alloc: Global,
-    kept: &Kept<F>,
+    kept: &StoredBound<F>,
 ) -> Result<[u64; 3], Fail>
     requires kind { kept.now.kind ≡ N.kind }
     requires film { kept.now.film.now ≡ N.film }
@@ -56,7 +56,7 @@ fn times_asked<R: Wait>(rt: &R, alloc: Global, kind: Kind) -> Result<Option<u64>
     let film = triangle(alloc)?;
     let tables = BoundTables::of(alloc, &film)?;
     let times = AtomicU64::new(0);
-    let kept = Kept::new(&film, kind, |q, need| {
+    let kept = StoredBound::new(&film, kind, |q, need| {
         times.fetch_add(1, Ordering::SeqCst);
         static_reach(&film, &tables, kind, Mask(q), need)
     });
@@ -80,7 +80,7 @@ fn a_bound_is_worked_out_once(rt: HostRuntime) -> Result<(), Fail> {
 /// What a stored bound answers of a set, asked for each of these in a thread.
 fn reached<R: Threads + Wait + Sync, F: Fn(u64, u64) -> u64 + Sync>(
     rt: &R,
-    kept: &Kept<F>,
+    kept: &StoredBound<F>,
     set: Mask,
     needs: Vec<u64>,
 ) -> Result<Vec<u64>, Fail>
@@ -102,13 +102,13 @@ fn reached_by_store<
     R: Threads + Wait + Sync,
     N: Bounded + Send + Sync,
     F: Fn(u64, u64) -> u64 + Sync,
->(rt: &R, alloc: Global, kept: &Kept<F>, needs: Vec<u64>) -> Result<Vec<u64>, Fail>
+>(rt: &R, alloc: Global, kept: &StoredBound<F>, needs: Vec<u64>) -> Result<Vec<u64>, Fail>
     requires kind { kept.now.kind ≡ N.kind }
     requires film { kept.now.film.now ≡ N.film }
     requires keeps { Keeps (F.pre kept.now.f) (F.post kept.now.f) kept.now.kind kept.now.film.now }
 {
     let store: Store<N> = Store::new(alloc, kept)?;
-    let stored = Kept::new(
+    let stored = StoredBound::new(
         kept.film(),
         kept.kind(),
         |q, need| store.reach(rt, kept, Mask(q), need),
@@ -122,7 +122,7 @@ fn workers_share_a_store(rt: HostRuntime) -> Result<(), Fail> {
     let film = triangle(alloc)?;
     let tables = BoundTables::of(alloc, &film)?;
     let kind = Kind::Arrivals;
-    let kept = Kept::new(
+    let kept = StoredBound::new(
         &film,
         kind,
         |q, need| static_reach(&film, &tables, kind, Mask(q), need),

@@ -10,7 +10,7 @@ use Rattle.strip_film.specs.declared.shared.Noted.{Noted}
 use Rattle.strip_lines.specs.Lines.{GrowTo}
 use Rattle.strip_table.specs.Bucket.{Puts}
 use Rattle.strip_table.specs.Stripe.{bucket_at}
-use Rattle.strip_table.proofs.Kept.{all_after}
+use Rattle.strip_table.proofs.PutLeaves.{all_after}
 use Rattle.strip_hand.specs.Hand.{Knows}
 use Rattle.strip_stripes.specs.Shelf.{AreKnown}
 

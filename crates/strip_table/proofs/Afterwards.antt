@@ -16,7 +16,7 @@ use Rattle.strip_table.specs.Home.{bucket_of}
 use Rattle.strip_table.specs.Bucket.{Puts, find_in}
 use Rattle.strip_table.specs.Stripe.{bucket_at, home}
 use Rattle.strip_table.proofs.Found.{Lacks, Once, found_from_place, found_is, none_from_lacks}
-use Rattle.strip_table.proofs.Kept.{all_after, once_after}
+use Rattle.strip_table.proofs.PutLeaves.{all_after, once_after}
 
 -- what is found are the entries
 pub found_iff : (bucket : List Known) (set : ℕ) (entry : Known) → Once bucket → (find_in bucket set ≡ Some entry) ↔ (Contains bucket entry × (entry.set ≡ set))

@@ -2,8 +2,8 @@ pub mod Homes
 mod Places
 mod Made
 pub mod Found
-pub mod Kept
+pub mod PutLeaves
 pub mod Stripes
 mod Outcomes
 mod Afterwards
-mod Rows
+mod Examples

@@ -10,7 +10,7 @@ use Rattle.strip_table.specs.Home.{bucket_of}
 use Rattle.strip_table.specs.Bucket.{IsBucket, Puts}
 use Rattle.strip_table.specs.Stripe.{IsStripe, bucket_at, home}
 use Rattle.strip_table.specs.Shown.{IsLaidOut, stripe_data, used}
-use Rattle.strip_table.proofs.Kept.{bucket_after}
+use Rattle.strip_table.proofs.PutLeaves.{bucket_after}
 
 pub length-stripe_data : (slots : List Slot) (lines : List (List ℕ)) (counts : List ℕ) → length lines ≡ length slots → length counts ≡ length slots
     → length (stripe_data slots lines counts) ≡ length slots

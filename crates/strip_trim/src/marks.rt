@@ -2,7 +2,7 @@
 ghost use Rattle.std.specs.Prelude.{◌≡◌, ◌↔◌, ℕ, ◌<◌, false, length, IfOk, IsTrue};
 ghost use Rattle.strip_film.specs.Film.{LiesIn};
 ghost use Rattle.strip_bound.specs.Bounds.{bound};
-ghost use Rattle.strip_bound.specs.Kept.{Keeps};
+ghost use Rattle.strip_bound.specs.StoredBound.{Keeps};
 ghost use Rattle.strip_lines.specs.Lines.{AreJustified, rules_of};
 ghost use Rattle.strip_memo.specs.Memo.{IsMemo};
 ghost use Rattle.strip_best.specs.Best.{best_bound};
@@ -10,7 +10,7 @@ ghost use Rattle.strip_trim.specs.Marks.{AreMarked, Follows, IsBestOf, MarksMore
 
 use std::alloc::Global;
 use strip_best::{Best, BestLine};
-use strip_bound::Kept;
+use strip_bound::StoredBound;
 use strip_film::step;
 use strip_io::Memory;
 use strip_mask::Mask;
@@ -20,7 +20,7 @@ use strip_rule::open_firsts;
 /// For each line whether it stays: it is the best one of its set, and the set is reached.
 pub(crate) fn marks_of<F: Fn(u64, u64) -> u64>(
     alloc: Global,
-    kept: &Kept<F>,
+    kept: &StoredBound<F>,
     memo: &mut Memo,
     best: &Best,
     count: usize,
@@ -40,7 +40,7 @@ pub(crate) fn marks_of<F: Fn(u64, u64) -> u64>(
 /// Marks the lines that stay. What a set leads on to has a lesser number, so one pass by falling set
 /// meets each set behind all that lead on to it.
 fn mark_reached<F: Fn(u64, u64) -> u64>(
-    kept: &Kept<F>,
+    kept: &StoredBound<F>,
     memo: &mut Memo,
     best: &Best,
     marks: &mut [bool],
@@ -63,7 +63,7 @@ fn mark_reached<F: Fn(u64, u64) -> u64>(
 
 /// Marks the lines that the best line of a set leads on to.
 fn mark_followers<F: Fn(u64, u64) -> u64>(
-    kept: &Kept<F>,
+    kept: &StoredBound<F>,
     memo: &mut Memo,
     best: &Best,
     marks: &mut [bool],
@@ -93,7 +93,7 @@ fn mark_followers<F: Fn(u64, u64) -> u64>(
 /// Marks the best line of the set, where a line has the set and the static bound of it is below this
 /// number. The bound is asked for only where the line isn't marked already.
 fn mark_below<F: Fn(u64, u64) -> u64>(
-    kept: &Kept<F>,
+    kept: &StoredBound<F>,
     memo: &mut Memo,
     best: &Best,
     marks: &mut [bool],
@@ -116,7 +116,12 @@ fn mark_below<F: Fn(u64, u64) -> u64>(
 }
 
 /// Whether the static bound of the set is below this number.
-fn is_below<F: Fn(u64, u64) -> u64>(kept: &Kept<F>, memo: &mut Memo, q: Mask, need: u64) -> bool
+fn is_below<F: Fn(u64, u64) -> u64>(
+    kept: &StoredBound<F>,
+    memo: &mut Memo,
+    q: Mask,
+    need: u64,
+) -> bool
     requires keeps { Keeps (F.pre kept.now.f) (F.post kept.now.f) kept.now.kind kept.now.film.now }
     requires memo { IsMemo kept.now.kind kept.now.film.now memo.old }
     requires lies { LiesIn kept.now.film.now q.0 }

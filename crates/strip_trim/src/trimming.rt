@@ -1,6 +1,6 @@
 // The lines of a list that stay.
 ghost use Rattle.std.specs.Prelude.{◌≡◌, length, IfOk};
-ghost use Rattle.strip_bound.specs.Kept.{Keeps};
+ghost use Rattle.strip_bound.specs.StoredBound.{Keeps};
 ghost use Rattle.strip_lines.specs.Lines.{AreJustified, rules_of};
 ghost use Rattle.strip_memo.specs.Memo.{IsMemo};
 ghost use Rattle.strip_trim.specs.Marks.{marked_lines};
@@ -9,7 +9,7 @@ ghost use Rattle.strip_trim.specs.Trimmed.{AreTrimmed};
 use crate::marks::marks_of;
 use std::alloc::Global;
 use strip_best::Best;
-use strip_bound::Kept;
+use strip_bound::StoredBound;
 use strip_film::Line;
 use strip_io::Memory;
 use strip_memo::Memo;
@@ -22,7 +22,7 @@ use strip_memo::Memo;
 /// memo, which is best the one of the search that made the lines.
 pub fn trim<F: Fn(u64, u64) -> u64>(
     alloc: Global,
-    kept: &Kept<F>,
+    kept: &StoredBound<F>,
     memo: &mut Memo,
     lines: &[Line],
 ) -> Result<Vec<Line>, Memory>

@@ -3,13 +3,13 @@ ghost use Rattle.std.specs.Prelude.{◌≡◌, ◌≢◌};
 ghost use Rattle.strip_film.specs.Film.{LiesIn};
 ghost use Rattle.strip_film.specs.Path.{IsComplete};
 ghost use Rattle.strip_film.specs.Shown.{cursor_data, path_data};
-ghost use Rattle.strip_bound.specs.Kept.{Keeps};
+ghost use Rattle.strip_bound.specs.StoredBound.{Keeps};
 ghost use Rattle.strip_walk.specs.Found.{IsSearchOf, MayExplore};
 ghost use Rattle.strip_walk.specs.Begun.{Asks, Begins, IsBest, IsThrough, IsWeighed, Meets, Offers};
 ghost use Rattle.strip_memo.specs.Memo.{IsMemo};
 
 use crate::found::{Begun, Found, Met, Opened, Passed};
-use strip_bound::Kept;
+use strip_bound::StoredBound;
 use strip_film::{Cursor, Listed, Path, Probe};
 use strip_hand::Hand;
 use strip_io::Memory;
@@ -35,7 +35,7 @@ pub(crate) fn offer<H: Hand>(hand: &mut H, path: &Path) -> Found
 
 /// Begins the walk of a path after which something remains: it is ruled out, or enlisted.
 pub(crate) fn begin<H: Hand, F: Fn(u64, u64) -> u64>(
-    kept: &Kept<F>,
+    kept: &StoredBound<F>,
     hand: &mut H,
     cursor: &mut Cursor,
     path: &Path,
@@ -63,7 +63,7 @@ pub(crate) fn begin<H: Hand, F: Fn(u64, u64) -> u64>(
 
 /// Looks at the least cost, and asks the static bound and the table whether they rule the path out.
 fn meet<H: Hand, F: Fn(u64, u64) -> u64>(
-    kept: &Kept<F>,
+    kept: &StoredBound<F>,
     hand: &mut H,
     path: &Path,
     memo: &mut Memo,

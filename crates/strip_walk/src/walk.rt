@@ -2,7 +2,7 @@
 ghost use Rattle.std.specs.Prelude.{◌≡◌, IfOk};
 ghost use Rattle.strip_film.specs.Running.{IsRunning};
 ghost use Rattle.strip_film.specs.Shown.{cursor_data, running_data};
-ghost use Rattle.strip_bound.specs.Kept.{Keeps};
+ghost use Rattle.strip_bound.specs.StoredBound.{Keeps};
 ghost use Rattle.strip_walk.specs.Found.{IsSearchOf, MayExplore};
 ghost use Rattle.strip_walk.specs.Walked.{Explores};
 ghost use Rattle.strip_memo.specs.Memo.{IsMemo};
@@ -11,7 +11,7 @@ use crate::beginning::{begin, offer};
 use crate::ending::close;
 use crate::found::{Begun, Found};
 use crate::sifting::sift;
-use strip_bound::Kept;
+use strip_bound::StoredBound;
 use strip_film::{Cursor, Known, Running};
 use strip_hand::Hand;
 use strip_io::Memory;
@@ -26,7 +26,7 @@ use strip_memo::Memo;
 /// Each path costs a look and a static bound; one that is enlisted a probe, a raise, a note, and a step and
 /// a static bound for each open first. It takes no memory but what the hand does.
 pub fn explore<H: Hand, F: Fn(u64, u64) -> u64>(
-    kept: &Kept<F>,
+    kept: &StoredBound<F>,
     hand: &mut H,
     cursor: &mut Cursor,
     running: &mut Running,

@@ -3,7 +3,7 @@ ghost use Rattle.strip_bound.specs.Tables.{AreTables};
 
 use std::alloc::Global;
 use std::test::Fail;
-use strip_bound::{BoundTables, Kept, static_reach};
+use strip_bound::{BoundTables, StoredBound, static_reach};
 use strip_film::Film;
 use strip_kind::Kind;
 use strip_mask::Mask;
@@ -40,7 +40,7 @@ pub(crate) fn kept_reach(film: &Film, tables: &BoundTables, set: Mask, need: u64
         return None;
     }
     let kind = Kind::Arrivals;
-    let kept = Kept::new(
+    let kept = StoredBound::new(
         film,
         kind,
         |q, need| static_reach(film, tables, kind, Mask(q), need),

@@ -3,7 +3,7 @@ ghost use Rattle.strip_bound.specs.Tables.{AreTables};
 
 use std::alloc::Global;
 use std::test::Fail;
-use strip_bound::{BoundTables, Kept, plain, static_reach};
+use strip_bound::{BoundTables, StoredBound, plain, static_reach};
 use strip_film::Film;
 use strip_kind::Kind;
 use strip_mask::Mask;
@@ -210,7 +210,7 @@ fn kept_plain(film: &Film, tables: &BoundTables, set: Mask) -> Option<u64>
     if !set.lies_below(film.scenes() as u32) {
         return None;
     }
-    let kept = Kept::new(film, Kind::Plain, |q, _| plain(film, tables, Mask(q)));
+    let kept = StoredBound::new(film, Kind::Plain, |q, _| plain(film, tables, Mask(q)));
     Some(kept.reach(set, 0))
 }
 
@@ -221,7 +221,7 @@ fn kept(film: &Film, tables: &BoundTables, kind: Kind, set: Mask) -> Option<u64>
     if !set.lies_below(film.scenes() as u32) {
         return None;
     }
-    let kept = Kept::new(
+    let kept = StoredBound::new(
         film,
         kind,
         |q, need| static_reach(film, tables, kind, Mask(q), need),

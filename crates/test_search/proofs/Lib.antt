@@ -1,2 +1,2 @@
 pub mod Way
-pub mod Rows
+pub mod Justified

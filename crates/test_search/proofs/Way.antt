@@ -19,9 +19,9 @@ use Rattle.strip_walk.specs.declared.found.Found.{Found}
 use Rattle.strip_walk.specs.Found.{IsFound, MayExplore}
 use Rattle.strip_walk.specs.Walked.{Walks}
 use Rattle.strip_walk.proofs.Bounds.{bound_known}
-use Rattle.strip_team.specs.Team.{beginning}
-use Rattle.strip_team.proofs.Settled.{found_with}
-use Rattle.strip_team.proofs.Tasks.{may_walk_task, open_task}
+use Rattle.strip_worker.specs.Team.{beginning}
+use Rattle.strip_worker.proofs.Settled.{found_with}
+use Rattle.strip_worker.proofs.Tasks.{may_walk_task, open_task}
 use Rattle.test_search.specs.Way.{IsOnItsWay}
 
 -- ---- the hand goes on

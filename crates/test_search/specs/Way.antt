@@ -7,7 +7,7 @@ use Rattle.strip_hand.specs.Hand.{HandData}
 use Rattle.strip_front.specs.Calls.{AreFound}
 use Rattle.strip_front.specs.Filled.{IsFilled}
 use Rattle.strip_front.specs.Front.{FrontData, IsFrontOf}
-use Rattle.strip_team.specs.Team.{IsSearchBy}
+use Rattle.strip_worker.specs.Team.{IsSearchBy}
 
 -- the front of its tasks was gone down, and what was found of each task is at most what is known of what remains after it
 pub record IsOnItsWay (kind : Kind) (film : FilmData) (hand : HandData) (front : FrontData) (found : List ℕ) : Type 0 where

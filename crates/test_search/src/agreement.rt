@@ -10,7 +10,7 @@ use strip_film::{Film as Classes, Line};
 use strip_kind::Kind;
 use strip_reduce::reduce;
 use strip_start::{greedy, improve};
-use strip_team::Ended;
+use strip_worker::Ended;
 
 /// Whether what a search found with at most so many lines is true of a film whose cheapest orders cost `least`.
 fn agrees(ended: &Ended, nodes: u32, least: u64) -> bool {

@@ -6,13 +6,13 @@ ghost use Rattle.strip_film.specs.Shown.{cursor_data, path_data};
 ghost use Rattle.strip_hand.specs.Calls.{Claims, Enlists, MayEnlist, MayRaise, Notes, Probes, Raises, Tells};
 ghost use Rattle.strip_hand.specs.Hand.{IsHand, Knows};
 ghost use Rattle.test_search.specs.Forgetful.{noting};
-ghost use Rattle.strip_race.specs.Hand.{IsOwned};
+ghost use Rattle.strip_world.specs.Hand.{IsOwned};
 
 use strip_film::{Cursor, Known, Listed, Noted, Path, Probe};
 use strip_hand::Hand;
 use strip_io::Memory;
 use strip_mask::Mask;
-use strip_race::World;
+use strip_world::World;
 
 /// The hand of a world's worker 0, but for its notes: none of them comes into the table.
 #[derive(Drop)]

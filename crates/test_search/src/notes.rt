@@ -1,23 +1,23 @@
 // What the table saves: a search whose hand drops its notes makes more lines.
 ghost use Rattle.strip_film.specs.Path.{IsComplete};
 ghost use Rattle.strip_film.specs.Shown.{path_data};
-ghost use Rattle.strip_bound.specs.Kept.{Keeps};
+ghost use Rattle.strip_bound.specs.StoredBound.{Keeps};
 
 use crate::films::eight;
 use crate::forgetful::Forgetful;
 use crate::walks::search;
 use std::alloc::Global;
 use std::test::Fail;
-use strip_bound::{BoundTables, Kept, static_reach};
+use strip_bound::{BoundTables, StoredBound, static_reach};
 use strip_film::{Film, Path};
 use strip_front::laws::tasks_are_starts;
-use strip_front::layers;
+use strip_front::make_front;
 use strip_kind::Kind;
 use strip_mask::Mask;
 use strip_memo::Memo;
-use strip_race::{Limits, World};
 use strip_start::{greedy, improve};
-use strip_team::alone;
+use strip_worker::alone;
+use strip_world::{Limits, World};
 
 /// What a search comes to: the cost of its best order and its bound, in units of money, and its lines.
 #[derive(Clone, Copy, Debug)]
@@ -35,7 +35,7 @@ const ENTRIES: u32 = 65_536;
 /// The end of a search that drops its notes.
 fn without_notes<F: Fn(u64, u64) -> u64>(
     alloc: Global,
-    kept: &Kept<F>,
+    kept: &StoredBound<F>,
     start: &Path,
 ) -> Result<Outcome, Fail>
     requires keeps { Keeps (F.pre kept.now.f) (F.post kept.now.f) kept.now.kind kept.now.film.now }
@@ -44,7 +44,7 @@ fn without_notes<F: Fn(u64, u64) -> u64>(
     let film = kept.film();
     film.keeps_limits();
     tasks_are_starts();
-    let mut front = layers(alloc, kept, 2)?;
+    let mut front = make_front(alloc, kept, 2)?;
     let limits = Limits {
         workers: 1,
         cap: CAP,
@@ -66,7 +66,7 @@ fn without_notes<F: Fn(u64, u64) -> u64>(
 /// The end of the search itself.
 fn with_notes<F: Fn(u64, u64) -> u64>(
     alloc: Global,
-    kept: &Kept<F>,
+    kept: &StoredBound<F>,
     start: &Path,
 ) -> Result<Outcome, Fail>
     requires keeps { Keeps (F.pre kept.now.f) (F.post kept.now.f) kept.now.kind kept.now.film.now }
@@ -85,7 +85,7 @@ fn with_notes<F: Fn(u64, u64) -> u64>(
 /// same order.
 fn both(alloc: Global, film: &Film, kind: Kind) -> Result<[Outcome; 2], Fail> {
     let tables = BoundTables::of(alloc, film)?;
-    let kept = Kept::new(film, kind, |q, need| {
+    let kept = StoredBound::new(film, kind, |q, need| {
         static_reach(film, &tables, kind, Mask(q), need)
     });
     let start = improve(film, &greedy(film));

@@ -4,13 +4,13 @@ ghost use Rattle.strip_film.specs.Path.{IsComplete};
 ghost use Rattle.strip_film.specs.Shown.{path_data};
 
 use std::alloc::Global;
-use strip_bound::{BoundTables, Kept, static_reach};
+use strip_bound::{BoundTables, StoredBound, static_reach};
 use strip_film::{Film, Path};
 use strip_io::Memory;
 use strip_kind::Kind;
 use strip_mask::Mask;
 use strip_memo::Memo;
-use strip_team::{Ended, alone};
+use strip_worker::{Ended, alone};
 
 /// The end of a search of the film, by static bounds of this kind, that begins with this path.
 pub(crate) fn searched(
@@ -26,7 +26,7 @@ pub(crate) fn searched(
     requires entries { (64 ≤ entries) × (entries ≤ 4194304) }
 {
     let tables = BoundTables::of(alloc, film)?;
-    let kept = Kept::new(film, kind, |q, need| {
+    let kept = StoredBound::new(film, kind, |q, need| {
         static_reach(film, &tables, kind, Mask(q), need)
     });
     let mut memo = Memo::new(alloc, &kept)?;

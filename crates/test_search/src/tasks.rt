@@ -4,9 +4,9 @@ ghost use Rattle.std.specs.Prelude.{◌≤◌};
 use crate::films::{film, ring};
 use std::alloc::Global;
 use std::test::Fail;
-use strip_bound::{BoundTables, Kept, static_reach};
+use strip_bound::{BoundTables, StoredBound, static_reach};
 use strip_film::Film;
-use strip_front::{Front, layers};
+use strip_front::{Front, make_front};
 use strip_kind::Kind;
 use strip_mask::Mask;
 
@@ -35,10 +35,10 @@ fn has_tasks(
     requires { (2 ≤ most) × (most ≤ 4) }
 {
     let tables = BoundTables::of(alloc, film)?;
-    let kept = Kept::new(film, kind, |q, need| {
+    let kept = StoredBound::new(film, kind, |q, need| {
         static_reach(film, &tables, kind, Mask(q), need)
     });
-    let front = layers(alloc, &kept, most)?;
+    let front = make_front(alloc, &kept, most)?;
     Ok(are_along(&front, scenes))
 }
 

@@ -5,7 +5,7 @@ ghost use Rattle.test_search.specs.Worked.{ring, triangle};
 
 use std::alloc::Global;
 use std::test::Fail;
-use strip_bound::{BoundTables, Kept, static_reach};
+use strip_bound::{BoundTables, StoredBound, static_reach};
 use strip_film::{Film, Line};
 use strip_kind::Kind;
 use strip_mask::Mask;
@@ -38,7 +38,7 @@ fn trimmed(alloc: Global, film: &Film, kind: Kind, lines: &[Line]) -> Result<Vec
     requires { AreJustified (rules_of kind film.now) lines.now }
 {
     let tables = BoundTables::of(alloc, film)?;
-    let kept = Kept::new(
+    let kept = StoredBound::new(
         film,
         kind,
         |q, need| static_reach(film, &tables, kind, Mask(q), need),

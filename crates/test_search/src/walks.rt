@@ -1,17 +1,17 @@
 // A search over a hand: its front, its tasks as they are claimed, and its front again.
 ghost use Rattle.std.specs.Prelude.{◌≡◌, IfOk, Some};
-ghost use Rattle.strip_bound.specs.Kept.{Keeps};
+ghost use Rattle.strip_bound.specs.StoredBound.{Keeps};
 ghost use Rattle.strip_lines.specs.Lines.{rules_of};
 ghost use Rattle.strip_front.specs.Front.{IsEmptyFront};
 ghost use Rattle.strip_front.specs.Shown.{front_data};
 ghost use Rattle.strip_hand.specs.Calls.{Claims};
 ghost use Rattle.test_search.specs.Way.{IsOnItsWay};
-ghost use Rattle.strip_team.specs.Team.{IsSearchBy};
+ghost use Rattle.strip_worker.specs.Team.{IsSearchBy};
 ghost use Rattle.strip_memo.specs.Memo.{IsMemo};
 
 use std::alloc::Global;
 use std::test::Fail;
-use strip_bound::Kept;
+use strip_bound::StoredBound;
 use strip_film::{Cursor, Running};
 use strip_front::{Front, close_up, go_down};
 use strip_hand::Hand;
@@ -21,7 +21,7 @@ use strip_walk::explore;
 /// Searches over a hand with which nobody claimed anything yet, and answers the bound that it comes to.
 pub(crate) fn search<H: Hand, F: Fn(u64, u64) -> u64>(
     alloc: Global,
-    kept: &Kept<F>,
+    kept: &StoredBound<F>,
     hand: &mut H,
     front: &mut Front,
 ) -> Result<u64, Fail>
@@ -42,7 +42,7 @@ pub(crate) fn search<H: Hand, F: Fn(u64, u64) -> u64>(
 /// Claims the front and goes down it. Nothing was found of any task yet.
 fn begin<H: Hand, F: Fn(u64, u64) -> u64>(
     alloc: Global,
-    kept: &Kept<F>,
+    kept: &StoredBound<F>,
     hand: &mut H,
     front: &mut Front,
 ) -> Result<Vec<u64>, Fail>
@@ -80,7 +80,7 @@ fn claimed<H: Hand>(hand: &mut H) -> Result<u32, Fail>
 /// Claims as many parts as there are tasks, and walks each task that is asked for.
 fn take_tasks<H: Hand, F: Fn(u64, u64) -> u64>(
     alloc: Global,
-    kept: &Kept<F>,
+    kept: &StoredBound<F>,
     hand: &mut H,
     front: &Front,
     found: &mut Vec<u64>,
@@ -101,7 +101,7 @@ fn take_tasks<H: Hand, F: Fn(u64, u64) -> u64>(
 
 /// Claims a task, and walks it where it is asked for.
 fn take_task<H: Hand, F: Fn(u64, u64) -> u64>(
-    kept: &Kept<F>,
+    kept: &StoredBound<F>,
     hand: &mut H,
     front: &Front,
     found: &mut Vec<u64>,

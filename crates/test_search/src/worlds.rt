@@ -4,27 +4,27 @@
 ghost use Rattle.std.specs.Prelude.{◌≤◌, IfOk};
 ghost use Rattle.strip_film.specs.Path.{IsComplete};
 ghost use Rattle.strip_film.specs.Shown.{path_data};
-ghost use Rattle.strip_bound.specs.Kept.{Keeps};
+ghost use Rattle.strip_bound.specs.StoredBound.{Keeps};
 ghost use Rattle.strip_hand.specs.Search.{GoesBy};
-ghost use Rattle.strip_race.specs.Sound.{IsSound};
+ghost use Rattle.strip_world.specs.Sound.{IsSound};
 
 use crate::films::{film, plain_triangle, triangle};
 use crate::paths::path;
 use std::alloc::Global;
 use std::test::Fail;
-use strip_bound::{BoundTables, Kept, static_reach};
+use strip_bound::{BoundTables, StoredBound, static_reach};
 use strip_film::{Film, Known, Line, Listed, Noted, Path, Probe};
 use strip_front::laws::tasks_are_starts;
-use strip_front::layers;
+use strip_front::make_front;
 use strip_kind::Kind;
 use strip_mask::Mask;
-use strip_race::laws::what_was_seen_stays_true;
-use strip_race::{Event, Limits, Reply, World};
 use strip_start::greedy;
+use strip_world::laws::what_was_seen_stays_true;
+use strip_world::{Event, Limits, Reply, World};
 
 fn world<F: Fn(u64, u64) -> u64>(
     alloc: Global,
-    kept: &Kept<F>,
+    kept: &StoredBound<F>,
     start: &Path,
     cap: u32,
 ) -> Result<World, Fail>
@@ -42,7 +42,7 @@ fn world<F: Fn(u64, u64) -> u64>(
         cap,
         entries: 64,
     };
-    let front = layers(alloc, kept, 2)?;
+    let front = make_front(alloc, kept, 2)?;
     let world = World::new(alloc, film, kept.kind(), start, front.tasks(), &limits)?;
     Ok(world)
 }
@@ -59,7 +59,11 @@ fn order(film: &Film, scenes: &[u32]) -> Result<Path, Fail>
 }
 
 /// The reply to an event, where it may come.
-fn reply<F: Fn(u64, u64) -> u64>(kept: &Kept<F>, world: &mut World, event: &Event) -> Option<Reply>
+fn reply<F: Fn(u64, u64) -> u64>(
+    kept: &StoredBound<F>,
+    world: &mut World,
+    event: &Event,
+) -> Option<Reply>
     requires sound { IsSound world.old }
     requires keeps { Keeps (F.pre kept.now.f) (F.post kept.now.f) kept.now.kind kept.now.film.now }
     requires search { GoesBy kept.now.kind kept.now.film.now world.old.search }
@@ -83,7 +87,11 @@ fn known(line: u32, set: u64, bound: u64) -> Known {
 struct Step(Event, Option<Reply>);
 
 /// Whether the events are replied so, one after the other.
-fn are_replied<F: Fn(u64, u64) -> u64>(kept: &Kept<F>, world: &mut World, steps: &[Step]) -> bool
+fn are_replied<F: Fn(u64, u64) -> u64>(
+    kept: &StoredBound<F>,
+    world: &mut World,
+    steps: &[Step],
+) -> bool
     requires sound { IsSound world.old }
     requires keeps { Keeps (F.pre kept.now.f) (F.post kept.now.f) kept.now.kind kept.now.film.now }
     requires search { GoesBy kept.now.kind kept.now.film.now world.old.search }
@@ -137,7 +145,7 @@ fn nine_steps(start: Path) -> [Step; 9] {
 
 fn replies_to_nine_events<F: Fn(u64, u64) -> u64>(
     alloc: Global,
-    kept: &Kept<F>,
+    kept: &StoredBound<F>,
 ) -> Result<bool, Fail>
     requires { Keeps (F.pre kept.now.f) (F.post kept.now.f) kept.now.kind kept.now.film.now }
 {
@@ -154,7 +162,7 @@ fn has_line_of_13(world: &World) -> bool {
 // The first scene pays 3, and to finish costs 10 at least: no less than 13, which was told.
 fn rules_out_by_its_bound<F: Fn(u64, u64) -> u64>(
     alloc: Global,
-    kept: &Kept<F>,
+    kept: &StoredBound<F>,
 ) -> Result<bool, Fail>
     requires { Keeps (F.pre kept.now.f) (F.post kept.now.f) kept.now.kind kept.now.film.now }
 {
@@ -170,7 +178,7 @@ fn worlds_by_pairs(rt: HostRuntime) -> Result<(), Fail> {
     let alloc = rt.alloc();
     let film = plain_triangle(alloc)?;
     let tables = BoundTables::of(alloc, &film)?;
-    let kept = Kept::new(
+    let kept = StoredBound::new(
         &film,
         Kind::Pairs,
         |q, need| static_reach(&film, &tables, Kind::Pairs, Mask(q), need),
@@ -181,7 +189,10 @@ fn worlds_by_pairs(rt: HostRuntime) -> Result<(), Fail> {
 }
 
 // With one line at most, the second is refused.
-fn spends_its_lines<F: Fn(u64, u64) -> u64>(alloc: Global, kept: &Kept<F>) -> Result<bool, Fail>
+fn spends_its_lines<F: Fn(u64, u64) -> u64>(
+    alloc: Global,
+    kept: &StoredBound<F>,
+) -> Result<bool, Fail>
     requires { Keeps (F.pre kept.now.f) (F.post kept.now.f) kept.now.kind kept.now.film.now }
 {
     let film = kept.film();
@@ -201,7 +212,7 @@ fn spends_its_lines<F: Fn(u64, u64) -> u64>(alloc: Global, kept: &Kept<F>) -> Re
 }
 
 /// Takes the events, each where it may come.
-fn take_all<F: Fn(u64, u64) -> u64>(kept: &Kept<F>, world: &mut World, events: &[Event])
+fn take_all<F: Fn(u64, u64) -> u64>(kept: &StoredBound<F>, world: &mut World, events: &[Event])
     requires sound { IsSound world.old }
     requires keeps { Keeps (F.pre kept.now.f) (F.post kept.now.f) kept.now.kind kept.now.film.now }
     requires search { GoesBy kept.now.kind kept.now.film.now world.old.search }
@@ -215,7 +226,7 @@ fn take_all<F: Fn(u64, u64) -> u64>(kept: &Kept<F>, world: &mut World, events: &
 
 // The world of the triangle with plain bounds and an order that costs 14, in which worker 0 has the front and worker 1 the first task,
 // and the empty path and that of scene 1 are enlisted, with the bounds 12 and 9.
-fn begun<F: Fn(u64, u64) -> u64>(alloc: Global, kept: &Kept<F>) -> Result<World, Fail>
+fn begun<F: Fn(u64, u64) -> u64>(alloc: Global, kept: &StoredBound<F>) -> Result<World, Fail>
     requires keeps { Keeps (F.pre kept.now.f) (F.post kept.now.f) kept.now.kind kept.now.film.now }
     ensures sound { IfOk result IsSound }
     ensures search { IfOk result (λ world. GoesBy kept.now.kind kept.now.film.now world.search) }
@@ -298,7 +309,11 @@ fn unfit(unfinished: Path) -> [Event; 9] {
     ]
 }
 
-fn none_may_come<F: Fn(u64, u64) -> u64>(kept: &Kept<F>, world: &World, events: &[Event]) -> bool
+fn none_may_come<F: Fn(u64, u64) -> u64>(
+    kept: &StoredBound<F>,
+    world: &World,
+    events: &[Event],
+) -> bool
     requires sound { IsSound world.now }
     requires keeps { Keeps (F.pre kept.now.f) (F.post kept.now.f) kept.now.kind kept.now.film.now }
     requires search { GoesBy kept.now.kind kept.now.film.now world.now.search }
@@ -311,7 +326,10 @@ fn none_may_come<F: Fn(u64, u64) -> u64>(kept: &Kept<F>, world: &World, events: 
     true
 }
 
-fn refuses_events<F: Fn(u64, u64) -> u64>(alloc: Global, kept: &Kept<F>) -> Result<bool, Fail>
+fn refuses_events<F: Fn(u64, u64) -> u64>(
+    alloc: Global,
+    kept: &StoredBound<F>,
+) -> Result<bool, Fail>
     requires { Keeps (F.pre kept.now.f) (F.post kept.now.f) kept.now.kind kept.now.film.now }
 {
     let film = kept.film();
@@ -336,7 +354,7 @@ static PATHS: [(u32, u32, &'static [u32]); 9] = [
     (1, 1, &[0, 1]),
 ];
 
-fn refuses_paths<F: Fn(u64, u64) -> u64>(alloc: Global, kept: &Kept<F>) -> Result<bool, Fail>
+fn refuses_paths<F: Fn(u64, u64) -> u64>(alloc: Global, kept: &StoredBound<F>) -> Result<bool, Fail>
     requires { Keeps (F.pre kept.now.f) (F.post kept.now.f) kept.now.kind kept.now.film.now }
 {
     let world = begun(alloc, kept)?;
@@ -351,7 +369,7 @@ fn refuses_paths<F: Fn(u64, u64) -> u64>(alloc: Global, kept: &Kept<F>) -> Resul
 
 fn refuses_paths_of_other_films<F: Fn(u64, u64) -> u64>(
     alloc: Global,
-    kept: &Kept<F>,
+    kept: &StoredBound<F>,
 ) -> Result<bool, Fail>
     requires { Keeps (F.pre kept.now.f) (F.post kept.now.f) kept.now.kind kept.now.film.now }
 {
@@ -367,7 +385,10 @@ fn refuses_paths_of_other_films<F: Fn(u64, u64) -> u64>(
 }
 
 // The path of a task may be enlisted once a set that remains after it was looked up.
-fn asks_for_a_probe<F: Fn(u64, u64) -> u64>(alloc: Global, kept: &Kept<F>) -> Result<bool, Fail>
+fn asks_for_a_probe<F: Fn(u64, u64) -> u64>(
+    alloc: Global,
+    kept: &StoredBound<F>,
+) -> Result<bool, Fail>
     requires { Keeps (F.pre kept.now.f) (F.post kept.now.f) kept.now.kind kept.now.film.now }
 {
     let event = enlist(1, 1, path(kept.film(), &[0, 1])?);
@@ -385,7 +406,7 @@ fn worlds_by_plain_bounds(rt: HostRuntime) -> Result<(), Fail> {
     let alloc = rt.alloc();
     let film = plain_triangle(alloc)?;
     let tables = BoundTables::of(alloc, &film)?;
-    let kept = Kept::new(
+    let kept = StoredBound::new(
         &film,
         Kind::Plain,
         |q, need| static_reach(&film, &tables, Kind::Plain, Mask(q), need),
@@ -400,7 +421,7 @@ fn worlds_by_plain_bounds(rt: HostRuntime) -> Result<(), Fail> {
 
 fn lets_open_paths_through<F: Fn(u64, u64) -> u64>(
     alloc: Global,
-    kept: &Kept<F>,
+    kept: &StoredBound<F>,
 ) -> Result<bool, Fail>
     requires { Keeps (F.pre kept.now.f) (F.post kept.now.f) kept.now.kind kept.now.film.now }
 {
@@ -419,7 +440,10 @@ fn listed(line: u32) -> Option<Reply> {
 
 // The ranks of the ring's scenes are 21, 23, 22 and 21, so the front's paths come in the order of the scenes
 // 0, 3, 2 and 1.
-fn enlists_by_rank<F: Fn(u64, u64) -> u64>(alloc: Global, kept: &Kept<F>) -> Result<bool, Fail>
+fn enlists_by_rank<F: Fn(u64, u64) -> u64>(
+    alloc: Global,
+    kept: &StoredBound<F>,
+) -> Result<bool, Fail>
     requires { Keeps (F.pre kept.now.f) (F.post kept.now.f) kept.now.kind kept.now.film.now }
 {
     let film = kept.film();
@@ -447,7 +471,7 @@ fn worlds_by_groups(rt: HostRuntime) -> Result<(), Fail> {
         &[4, 3, 2, 1],
     )?;
     let tables = BoundTables::of(alloc, &film)?;
-    let kept = Kept::new(
+    let kept = StoredBound::new(
         &film,
         Kind::Groups,
         |q, need| static_reach(&film, &tables, Kind::Groups, Mask(q), need),
@@ -462,7 +486,7 @@ fn paths_that_are_not_open(rt: HostRuntime) -> Result<(), Fail> {
     let alloc = rt.alloc();
     let film = film(alloc, &[0b01, 0b10, 0b11], &[1, 1, 1], &[10, 20])?;
     let tables = BoundTables::of(alloc, &film)?;
-    let kept = Kept::new(
+    let kept = StoredBound::new(
         &film,
         Kind::Plain,
         |q, need| static_reach(&film, &tables, Kind::Plain, Mask(q), need),

@@ -6,7 +6,7 @@ ghost use Rattle.strip_mask.specs.Set.{has, without};
 ghost use Rattle.strip_film.specs.Film.{LiesIn, all_scenes};
 ghost use Rattle.strip_film.specs.Shoot.{step_cost};
 ghost use Rattle.strip_bound.specs.Bounds.{bound};
-ghost use Rattle.strip_bound.specs.Kept.{Keeps};
+ghost use Rattle.strip_bound.specs.StoredBound.{Keeps};
 ghost use Rattle.strip_rule.specs.Rule.{open_firsts};
 ghost use Rattle.strip_lines.specs.Lines.{line_at};
 ghost use Rattle.strip_hand.specs.Hand.{no_path_yet};
@@ -18,7 +18,7 @@ use crate::least::task_of_two;
 use std::alloc::Global;
 use std::test::Fail;
 use strip_book::{Book, BookPass};
-use strip_bound::{BoundTables, Kept, static_reach};
+use strip_bound::{BoundTables, StoredBound, static_reach};
 use strip_film::{Film, Line, Listed, Path, ready, step};
 use strip_kind::Kind;
 use strip_mask::Mask;
@@ -43,7 +43,7 @@ pub(crate) struct Enlisted {
 /// Enlists the path without a scene in the front, and then that of one scene, where they may be and the
 /// first gets a line.
 pub(crate) fn enlist_two<F: Fn(u64, u64) -> u64>(
-    kept: &Kept<F>,
+    kept: &StoredBound<F>,
     book: &Book,
     pass: &mut BookPass,
     first: u32,
@@ -86,7 +86,7 @@ pub(crate) fn enlist_two<F: Fn(u64, u64) -> u64>(
 }
 
 /// Whether each step to an open first of all scenes reaches the bound with that of what then remains.
-pub(crate) fn each_first_reaches<F: Fn(u64, u64) -> u64>(kept: &Kept<F>, number: u64) -> bool
+pub(crate) fn each_first_reaches<F: Fn(u64, u64) -> u64>(kept: &StoredBound<F>, number: u64) -> bool
     requires keeps { Keeps (F.pre kept.now.f) (F.post kept.now.f) kept.now.kind kept.now.film.now }
     ensures { IsTrue result → (scene : ℕ) → has (open_firsts kept.now.film.now (all_scenes kept.now.film.now)) scene ≡ true
         → number ≤ step_cost kept.now.film.now (all_scenes kept.now.film.now) scene
@@ -106,7 +106,7 @@ pub(crate) fn each_first_reaches<F: Fn(u64, u64) -> u64>(kept: &Kept<F>, number:
 
 /// Raises the line of all scenes, where each first step reaches the bound.
 pub(crate) fn raise_whole<F: Fn(u64, u64) -> u64>(
-    kept: &Kept<F>,
+    kept: &StoredBound<F>,
     book: &Book,
     pass: &mut BookPass,
     line: u32,
@@ -131,7 +131,10 @@ pub(crate) fn raise_whole<F: Fn(u64, u64) -> u64>(
 
 /// The lines of a book with room for one and a task of two scenes, in whose front two paths are enlisted and the first one's line is
 /// raised to 13; and whether the second was told that the lines are spent.
-fn lines_of_one<F: Fn(u64, u64) -> u64>(alloc: Global, kept: &Kept<F>) -> Result<Vec<Line>, Fail>
+fn lines_of_one<F: Fn(u64, u64) -> u64>(
+    alloc: Global,
+    kept: &StoredBound<F>,
+) -> Result<Vec<Line>, Fail>
     requires { Keeps (F.pre kept.now.f) (F.post kept.now.f) kept.now.kind kept.now.film.now }
 {
     let task = task_of_two(kept.film()).ok_or("a task")?;
@@ -153,7 +156,7 @@ fn a_book_of_one_line(rt: HostRuntime) -> Result<(), Fail> {
     let alloc = rt.alloc();
     let film = triangle(alloc)?;
     let tables = BoundTables::of(alloc, &film)?;
-    let kept = Kept::new(
+    let kept = StoredBound::new(
         &film,
         Kind::Pairs,
         |q, need| static_reach(&film, &tables, Kind::Pairs, Mask(q), need),

@@ -5,7 +5,7 @@ use std::sync::Wait;
 use std::sync::atomic::{AtomicBool, AtomicU32, AtomicU64, Ordering};
 use std::test::Fail;
 use std::thread::Threads;
-use strip_team::Gate;
+use strip_worker::Gate;
 
 /// Holds the worker that begins a task first until another one begins a task, for a bounded number of turns.
 #[derive(Drop)]

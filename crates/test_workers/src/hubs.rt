@@ -4,7 +4,7 @@ ghost use Rattle.std.specs.Prelude.{◌≡◌, ◌≤◌, ℕ, suc, None, IfOk};
 ghost use Rattle.strip_film.specs.Film.{all_scenes};
 ghost use Rattle.strip_film.specs.Path.{IsComplete};
 ghost use Rattle.strip_film.specs.Shown.{cursor_data, path_data};
-ghost use Rattle.strip_bound.specs.Kept.{Keeps};
+ghost use Rattle.strip_bound.specs.StoredBound.{Keeps};
 ghost use Rattle.strip_hand.specs.Calls.{StandsAt};
 ghost use Rattle.strip_hand.specs.Hand.{Knows};
 ghost use Rattle.strip_hand.specs.Search.{GoesBy, depth_of};
@@ -20,7 +20,7 @@ use std::marker::Brand;
 use std::sync::Wait;
 use std::test::Fail;
 use strip_book::Book;
-use strip_bound::{BoundTables, Kept, static_reach};
+use strip_bound::{BoundTables, StoredBound, static_reach};
 use strip_film::{Cursor, Film, Known, Listed, Noted, Path, Probe};
 use strip_hand::Hand;
 use strip_hub::{Hub, HubParts, Source};
@@ -86,7 +86,7 @@ fn claim_front<H: Hand>(hand: &mut H) -> Result<Cursor, Fail>
 
 /// Makes a line of all scenes, with their static bound.
 fn enlist_whole<H: Hand, F: Fn(u64, u64) -> u64>(
-    kept: &Kept<F>,
+    kept: &StoredBound<F>,
     hand: &mut H,
     cursor: &mut Cursor,
 ) -> Result<u32, Fail>
@@ -116,7 +116,7 @@ fn enlist_whole<H: Hand, F: Fn(u64, u64) -> u64>(
 
 /// Raises the line of all scenes, where each first step reaches the bound.
 fn raise_to<H: Hand, F: Fn(u64, u64) -> u64>(
-    kept: &Kept<F>,
+    kept: &StoredBound<F>,
     hand: &mut H,
     line: u32,
     bound: u64,
@@ -137,7 +137,10 @@ fn raise_to<H: Hand, F: Fn(u64, u64) -> u64>(
 }
 
 /// Makes a line of all scenes in the front, raises it to 60, and notes it.
-fn note_whole<H: Hand, F: Fn(u64, u64) -> u64>(kept: &Kept<F>, hand: &mut H) -> Result<Noted, Fail>
+fn note_whole<H: Hand, F: Fn(u64, u64) -> u64>(
+    kept: &StoredBound<F>,
+    hand: &mut H,
+) -> Result<Noted, Fail>
     requires sound { H.is_sound hand.old }
     requires keeps { Keeps (F.pre kept.now.f) (F.post kept.now.f) kept.now.kind kept.now.film.now }
     requires goes_by { GoesBy kept.now.kind kept.now.film.now (H.shows hand.old).search }
@@ -160,7 +163,7 @@ fn note_whole<H: Hand, F: Fn(u64, u64) -> u64>(kept: &Kept<F>, hand: &mut H) -> 
 
 /// The first worker makes and notes a line, and then offers a path; the second asks behind each.
 fn take_turns<H: Hand, F: Fn(u64, u64) -> u64>(
-    kept: &Kept<F>,
+    kept: &StoredBound<F>,
     first: &mut H,
     second: &mut H,
     path: &Path,
@@ -189,7 +192,7 @@ fn take_turns<H: Hand, F: Fn(u64, u64) -> u64>(
 fn share<N: Named, R: Wait, F: Fn(u64, u64) -> u64>(
     rt: &R,
     alloc: Global,
-    kept: &Kept<F>,
+    kept: &StoredBound<F>,
     least: &Least,
     book: &Book,
     passes: HubParts,
@@ -235,7 +238,7 @@ fn share<N: Named, R: Wait, F: Fn(u64, u64) -> u64>(
 fn shared<R: Wait, F: Fn(u64, u64) -> u64>(
     rt: &R,
     alloc: Global,
-    kept: &Kept<F>,
+    kept: &StoredBound<F>,
     start: &Path,
     path: &Path,
 ) -> Result<Told, Fail>
@@ -263,7 +266,7 @@ fn another_worker_is_told_of_a_line_and_a_path(rt: HostRuntime) -> Result<(), Fa
     let start = path(&film, &[0, 1, 2])?;
     let better = path(&film, &[0, 2, 1])?;
     let tables = BoundTables::of(alloc, &film)?;
-    let kept = Kept::new(
+    let kept = StoredBound::new(
         &film,
         Kind::Pairs,
         |q, need| static_reach(&film, &tables, Kind::Pairs, Mask(q), need),

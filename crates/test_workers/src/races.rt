@@ -12,14 +12,14 @@ use std::alloc::Global;
 use std::sync::Wait;
 use std::test::Fail;
 use std::thread::Threads;
-use strip_bound::{BoundTables, Kept, static_reach};
+use strip_bound::{BoundTables, StoredBound, static_reach};
 use strip_crew::race;
 use strip_film::Film;
 use strip_kind::Kind;
 use strip_mask::Mask;
 use strip_memo::Memo;
-use strip_race::Limits;
-use strip_team::{Ended, Gate, OpenGate};
+use strip_worker::{Ended, Gate, OpenGate};
+use strip_world::Limits;
 
 fn ring(alloc: Global) -> Result<Film, Fail> {
     let casts = Vec::from_slice(alloc, &[0b10001, 0b00011, 0b00110, 0b01100, 0b11000])?;
@@ -46,7 +46,7 @@ pub(crate) fn raced<R: Threads + Wait + Sync, G: Gate>(
     let film = ring(alloc)?;
     let start = path(&film, &[0, 1, 2, 3, 4])?;
     let tables = BoundTables::of(alloc, &film)?;
-    let kept = Kept::new(
+    let kept = StoredBound::new(
         &film,
         Kind::Plain,
         |q, need| static_reach(&film, &tables, Kind::Plain, Mask(q), need),

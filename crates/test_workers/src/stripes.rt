@@ -1,6 +1,6 @@
 // What another worker finds in the shared table of a line that one noted, on the triangle.
 ghost use Rattle.std.specs.Prelude.{◌≡◌, ◌≤◌};
-ghost use Rattle.strip_bound.specs.Kept.{Keeps};
+ghost use Rattle.strip_bound.specs.StoredBound.{Keeps};
 ghost use Rattle.strip_hand.specs.Hand.{Knows};
 ghost use Rattle.strip_book.specs.Pass.{IsPassOf, known, table_of};
 
@@ -11,7 +11,7 @@ use std::marker::Brand;
 use std::sync::Wait;
 use std::test::Fail;
 use strip_book::{Book, BookPass};
-use strip_bound::{BoundTables, Kept, static_reach};
+use strip_bound::{BoundTables, StoredBound, static_reach};
 use strip_film::{Known, Noted, Probe};
 use strip_io::Memory;
 use strip_kind::Kind;
@@ -52,7 +52,7 @@ fn ask<R: Wait, N: Named>(
 fn ask_for_all<R: Wait, F: Fn(u64, u64) -> u64>(
     rt: &R,
     alloc: Global,
-    kept: &Kept<F>,
+    kept: &StoredBound<F>,
 ) -> Result<Answers, Fail>
     requires { Keeps (F.pre kept.now.f) (F.post kept.now.f) kept.now.kind kept.now.film.now }
 {
@@ -76,7 +76,7 @@ fn another_worker_finds_the_line(rt: HostRuntime) -> Result<(), Fail> {
     let alloc = rt.alloc();
     let film = triangle(alloc)?;
     let tables = BoundTables::of(alloc, &film)?;
-    let kept = Kept::new(
+    let kept = StoredBound::new(
         &film,
         Kind::Pairs,
         |q, need| static_reach(&film, &tables, Kind::Pairs, Mask(q), need),

@@ -2,7 +2,7 @@
 // are the path without a scene, and enlists that path in each. A book doesn't ask that the parts of two
 // passes differ.
 ghost use Rattle.std.specs.Prelude.{◌≡◌, ℕ, suc, ◌+◌, ◌<◌, ◌≤◌, All, IfOk, IfSome, length, vec_len};
-ghost use Rattle.strip_bound.specs.Kept.{Keeps};
+ghost use Rattle.strip_bound.specs.StoredBound.{Keeps};
 ghost use Rattle.strip_book.specs.Pass.{IsPassOf, known};
 ghost use Rattle.strip_book.specs.Rule.{full_weight};
 ghost use Rattle.test_workers.specs.Team.{AreFreshFrom, IsNew, IsOfWholes, IsOne, IsWorker};
@@ -13,7 +13,7 @@ use std::test::Fail;
 use std::thread;
 use std::thread::Threads;
 use strip_book::{Book, BookPass};
-use strip_bound::{BoundTables, Kept, static_reach};
+use strip_bound::{BoundTables, StoredBound, static_reach};
 use strip_check::{Verdict, check};
 use strip_film::{Line, Listed, Path};
 use strip_instance::read_instance;
@@ -27,7 +27,7 @@ const SHARE: u32 = 2500;
 
 /// Begins a part, makes a line of the path without a scene, and raises it to 13; whether that went so.
 fn make_line<F: Fn(u64, u64) -> u64>(
-    kept: &Kept<F>,
+    kept: &StoredBound<F>,
     book: &Book,
     pass: &mut BookPass,
     part: u32,
@@ -59,7 +59,7 @@ fn make_line<F: Fn(u64, u64) -> u64>(
 
 /// Makes a line in each part, and answers the pass where all went so.
 fn make_lines<F: Fn(u64, u64) -> u64>(
-    kept: &Kept<F>,
+    kept: &StoredBound<F>,
     book: &Book,
     pass: BookPass,
 ) -> Option<BookPass>
@@ -79,7 +79,7 @@ fn make_lines<F: Fn(u64, u64) -> u64>(
 /// Each pass makes its lines in a thread of its own, beside the others.
 fn make_beside<R: Threads + Sync, F: Fn(u64, u64) -> u64 + Sync>(
     rt: &R,
-    kept: &Kept<F>,
+    kept: &StoredBound<F>,
     book: &Book,
     passes: Vec<BookPass>,
 ) -> Result<Vec<Option<BookPass>>, AllocError>
@@ -103,7 +103,7 @@ fn make_beside<R: Threads + Sync, F: Fn(u64, u64) -> u64 + Sync>(
 fn make_all<R: Threads + Sync, F: Fn(u64, u64) -> u64 + Sync>(
     rt: &R,
     alloc: Global,
-    kept: &Kept<F>,
+    kept: &StoredBound<F>,
     book: &Book,
     pass: &mut BookPass,
 ) -> Result<Vec<Option<BookPass>>, AllocError>
@@ -140,7 +140,7 @@ fn gather(book: &Book, pass: BookPass, passes: Vec<Option<BookPass>>) -> Option<
 fn lines_of_four<R: Threads + Sync, F: Fn(u64, u64) -> u64 + Sync>(
     rt: &R,
     alloc: Global,
-    kept: &Kept<F>,
+    kept: &StoredBound<F>,
 ) -> Result<Vec<Line>, Fail>
     requires { Keeps (F.pre kept.now.f) (F.post kept.now.f) kept.now.kind kept.now.film.now }
 {
@@ -182,7 +182,7 @@ fn four_workers_make_ten_thousand_lines(rt: HostRuntime) -> Result<(), Fail> {
     let alloc = rt.alloc();
     let film = triangle(alloc)?;
     let tables = BoundTables::of(alloc, &film)?;
-    let kept = Kept::new(
+    let kept = StoredBound::new(
         &film,
         Kind::Pairs,
         |q, need| static_reach(&film, &tables, Kind::Pairs, Mask(q), need),

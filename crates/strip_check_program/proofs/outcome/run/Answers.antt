@@ -1,6 +1,6 @@
 use Rattle.strip_answer.specs.Headline.{IsHeadline}
 use Rattle.strip_host.proofs.Ends.{ends}
-use Rattle.strip_audit.specs.Claims.{audit_claims}
+use Rattle.strip_check_command.specs.Claims.{audit_claims}
 use Rattle.strip_check_program.proofs.outcome.run.Goals as goal
 
 pub returns : goal.returns

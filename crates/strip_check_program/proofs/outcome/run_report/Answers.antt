@@ -1,7 +1,7 @@
 use Rattle.std.proofs.Common.{refl}
 use Rattle.strip_answer.specs.Headline.{IsHeadline}
 use Rattle.strip_host.proofs.Ends.{ran}
-use Rattle.strip_audit.specs.Claims.{audit_claims}
+use Rattle.strip_check_command.specs.Claims.{audit_claims}
 use Rattle.strip_check_program.proofs.outcome.run_report.Goals as goal
 
 pub returns : goal.returns

@@ -9,8 +9,8 @@ use Rattle.strip_book.specs.Pass.{known}
 use Rattle.strip_hub.specs.declared.hub.HubParts.{HubParts}
 use Rattle.strip_hub.specs.Source.{source_home}
 use Rattle.strip_hub.specs.Hub.{HubHome, hand_of}
-use Rattle.strip_team.specs.Team.{GoesOn, HasWorked}
-use Rattle.strip_team.proofs.Moved.{moved_same}
+use Rattle.strip_worker.specs.Team.{GoesOn, HasWorked}
+use Rattle.strip_worker.proofs.Moved.{moved_same}
 use Rattle.strip_crew.specs.Crew.{Weigh, shown}
 use Rattle.strip_crew.proofs.Done.{goes_from_unasked}
 use Rattle.strip_crew.proofs.Parted.{bears_still}

@@ -5,7 +5,7 @@ use Rattle.strip_film.specs.Shown.{path_data}
 use Rattle.strip_hand.specs.Hand.{HandData}
 use Rattle.strip_least.specs.Pass.{best_path, known as known_least}
 use Rattle.strip_book.specs.Pass.{known}
-use Rattle.strip_team.specs.Closed.{IsSettled}
+use Rattle.strip_worker.specs.Closed.{IsSettled}
 use Rattle.strip_crew.specs.Crew.{shown}
 use Rattle.strip_crew.proofs.Settled.{counted_by}
 use Rattle.strip_crew.proofs.Shut.{where_ended}

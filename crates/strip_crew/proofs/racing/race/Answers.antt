@@ -5,8 +5,8 @@ use Rattle.strip_film.specs.Film.{IsFilm}
 use Rattle.strip_film.specs.Path.{PathData}
 use Rattle.strip_film.specs.Shown.{path_data}
 use Rattle.strip_lines.specs.Lines.{rules_of}
-use Rattle.strip_count.specs.Paths.{factorial, few, is_candidate}
-use Rattle.strip_team.specs.Shown.{ended_data}
+use Rattle.strip_count.specs.Paths.{factorial, candidate_count, is_candidate}
+use Rattle.strip_worker.specs.Shown.{ended_data}
 use Rattle.strip_crew.proofs.Shut.{ended_within, where_ended}
 use Rattle.strip_crew.proofs.racing.race.Goals as goal
 
@@ -17,7 +17,7 @@ returns-clause-ended g c =
     let start : PathData = path_data c.args.start.now in
     let is_film : IsFilm film = subst IsFilm c.film.ensures c.keeps_limits.ensures in
     let classes : c.scenes.result ≡ length film.casts = c.scenes.ensures ∙ ap (λ (f : FilmData). length f.casts) c.film-2.ensures in
-    let orders : few (rules_of kind film) start.paid ≤ 2 * factorial c.scenes.result
+    let orders : candidate_count (rules_of kind film) start.paid ≤ 2 * factorial c.scenes.result
     = omega (
       arith,
       c.paths_are_few.ensures.most film (is_candidate (rules_of kind film) start.paid) is_film,

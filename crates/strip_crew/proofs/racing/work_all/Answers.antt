@@ -1,7 +1,7 @@
 use Rattle.std.proofs.Common.{ℕ, ◌-◌, subst, arith}
 use Rattle.strip_front.specs.Shown.{front_data}
 use Rattle.strip_least.specs.Rule.{full_weight}
-use Rattle.strip_team.proofs.Moved.{moved_same}
+use Rattle.strip_worker.proofs.Moved.{moved_same}
 use Rattle.strip_crew.specs.Crew.{Weigh, shown}
 use Rattle.strip_crew.proofs.Done.{goes_after}
 use Rattle.strip_crew.proofs.racing.work_all.Goals as goal

@@ -2,7 +2,7 @@ use Rattle.std.proofs.Common.{◌∙◌, ℕ, suc, ◌+◌, ◌-◌, ap, arith, 
 use Rattle.std.proofs.lemmas.List.Elements.{All-push}
 use Rattle.strip_front.specs.Shown.{front_data}
 use Rattle.strip_hand.specs.Hand.{HandData}
-use Rattle.strip_team.specs.Team.{IsFresh, IsSearchBy}
+use Rattle.strip_worker.specs.Team.{IsFresh, IsSearchBy}
 use Rattle.strip_crew.specs.Crew.{AreDealt, IsJob, Weigh, shown}
 use Rattle.strip_crew.specs.Sources.{Deals, split_home}
 use Rattle.strip_crew.proofs.working.deal.Goals as goal

@@ -1,5 +1,5 @@
 use Rattle.std.proofs.Common.{◌∙◌, sym, subst}
-use Rattle.strip_team.specs.Team.{IsSearchBy}
+use Rattle.strip_worker.specs.Team.{IsSearchBy}
 use Rattle.strip_crew.proofs.working.do_job.Goals as goal
 
 pub returns : goal.returns

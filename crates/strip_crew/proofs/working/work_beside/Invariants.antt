@@ -1,7 +1,7 @@
 use Rattle.std.proofs.Common.{◌≡◌, ◌+◌, ◌⊎◌, ℕ, All, IfOk, vec_len}
 use Rattle.strip_memo.specs.Memo.{IsMemo}
 use Rattle.strip_front.specs.Shown.{front_data}
-use Rattle.strip_team.specs.Team.{GoesOn, HasWorked}
+use Rattle.strip_worker.specs.Team.{GoesOn, HasWorked}
 use Rattle.strip_crew.specs.Crew.{ArePassesOf, IsDone, NoPartLeft, Weigh, shown}
 use Rattle.strip_crew.specs.Sources.{split_home}
 use Rattle.strip_crew.proofs.working.work_beside.Given as goal

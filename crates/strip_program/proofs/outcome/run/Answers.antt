@@ -1,6 +1,6 @@
 use Rattle.strip_answer.specs.Headline.{IsHeadline}
 use Rattle.strip_host.proofs.Ends.{ends}
-use Rattle.strip_top.specs.Due.{board_claims}
+use Rattle.strip_commands.specs.Due.{board_claims}
 use Rattle.strip_program.proofs.outcome.run.Goals as goal
 
 pub returns : goal.returns

@@ -1,7 +1,7 @@
 use Rattle.std.proofs.Common.{refl}
 use Rattle.strip_answer.specs.Headline.{IsHeadline}
 use Rattle.strip_host.proofs.Ends.{ran}
-use Rattle.strip_top.specs.Due.{board_claims}
+use Rattle.strip_commands.specs.Due.{board_claims}
 use Rattle.strip_program.proofs.outcome.run_through.Goals as goal
 
 pub returns : goal.returns

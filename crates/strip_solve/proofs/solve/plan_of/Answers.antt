@@ -7,11 +7,11 @@ use Rattle.strip_film.specs.Film.{all_scenes}
 use Rattle.strip_film.specs.Path.{PathData}
 use Rattle.strip_film.specs.Shown.{path_data}
 use Rattle.strip_lines.specs.Lines.{rules_of}
-use Rattle.strip_count.specs.Paths.{factorial, few, is_candidate}
+use Rattle.strip_count.specs.Paths.{factorial, candidate_count, is_candidate}
 use Rattle.strip_reduce.specs.Shown.{reduced_data}
 use Rattle.strip_reduce.specs.State.{way_back}
-use Rattle.strip_team.specs.Ended.{EndedData}
-use Rattle.strip_team.specs.Shown.{ended_data}
+use Rattle.strip_worker.specs.Ended.{EndedData}
+use Rattle.strip_worker.specs.Shown.{ended_data}
 use Rattle.strip_proof.specs.declared.plan.Status.{Status}
 use Rattle.strip_proof.specs.declared.plan.Status.TheVariants.{Optimal}
 use Rattle.strip_solve.specs.Searched.{IsProofOf, IsTrimmed}
@@ -39,7 +39,7 @@ returns-clause-solved c = λ film same stands.
     let finish = c.a_least_tail_exists.ensures classes (all_scenes classes) c.keeps_limits.ensures (IsSet-full (length classes.casts) c.keeps_limits.ensures.scene_count.1) in
     let optimum : HasOptimum classes = (finish.0, (c.finishing_everything_is_the_optimum.ensures classes finish.0 c.keeps_limits.ensures).0 finish.1) in
     let most = c.paths_are_few.ensures.most classes (is_candidate (rules_of c.args.options.kind classes) varied.paid) c.keeps_limits.ensures in
-    let orders : few (rules_of c.args.options.kind classes) varied.paid ≤ 2 * factorial (length classes.casts)
+    let orders : candidate_count (rules_of c.args.options.kind classes) varied.paid ≤ 2 * factorial (length classes.casts)
     = omega (arith, most, c.paths_are_few.ensures.orders (length classes.casts)) in
     let status = c.proof_of-status.result.0 in
     let lines = c.proof_of-status.result.1.items in

@@ -1,5 +1,5 @@
 use Rattle.strip_table.proofs.Afterwards.{entries_after}
-use Rattle.strip_table.proofs.Kept.{bucket_after}
+use Rattle.strip_table.proofs.PutLeaves.{bucket_after}
 use Rattle.strip_table.proofs.laws.a_put_leaves_a_bucket.Goals as goal
 
 pub returns : goal.returns

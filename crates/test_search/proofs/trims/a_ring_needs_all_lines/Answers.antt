@@ -3,7 +3,7 @@ use Rattle.strip_kind.specs.declared.kind.Kind.TheVariants.{Plain}
 use Rattle.strip_pay.specs.Film.{FilmData}
 use Rattle.strip_lines.specs.Lines.{AreJustified, rules_of}
 use Rattle.test_search.specs.Worked.{ring_lines}
-use Rattle.test_search.proofs.Rows.{ring_justified}
+use Rattle.test_search.proofs.Justified.{ring_justified}
 use Rattle.test_search.proofs.trims.a_ring_needs_all_lines.Goals as goal
 
 pub trimmed-requires : goal.trimmed-requires

@@ -3,7 +3,7 @@ use Rattle.strip_kind.specs.declared.kind.Kind.TheVariants.{Pairs}
 use Rattle.strip_pay.specs.Film.{FilmData}
 use Rattle.strip_lines.specs.Lines.{AreJustified, rules_of}
 use Rattle.test_search.specs.Worked.{triangle_lines}
-use Rattle.test_search.proofs.Rows.{triangle_justified}
+use Rattle.test_search.proofs.Justified.{triangle_justified}
 use Rattle.test_search.proofs.trims.a_triangle_needs_one_line.Goals as goal
 
 pub trimmed-requires : goal.trimmed-requires

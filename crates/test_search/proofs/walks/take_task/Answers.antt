@@ -6,7 +6,7 @@ use Rattle.strip_front.specs.Shown.{front_data}
 use Rattle.strip_front.specs.Front.{task_at}
 use Rattle.strip_hand.specs.Calls.{Claims}
 use Rattle.strip_walk.specs.Found.{MayExplore}
-use Rattle.strip_team.proofs.Taken.{task_read}
+use Rattle.strip_worker.proofs.Taken.{task_read}
 use Rattle.test_search.proofs.Way.{may_walk, task_open, way_claimed, way_walked, within}
 use Rattle.test_search.proofs.walks.take_task.Goals as goal
 

@@ -1,5 +1,5 @@
 use Rattle.strip_hand.specs.Search.{GoesBy}
-use Rattle.strip_race.specs.Sound.{IsSound}
+use Rattle.strip_world.specs.Sound.{IsSound}
 use Rattle.test_search.proofs.worlds.take_all.Given as goal
 
 -- the world is sound, and its search stays

@@ -1,7 +1,7 @@
 use Rattle.strip_film.specs.Path.{PathData}
 use Rattle.strip_film.specs.Shown.{path_data}
 use Rattle.strip_lines.specs.Lines.{rules_of}
-use Rattle.strip_team.specs.Shown.{ended_data}
+use Rattle.strip_worker.specs.Shown.{ended_data}
 use Rattle.strip_solve.proofs.Climbs.{better_climbed, better_ended, better_no_less}
 use Rattle.strip_solve.proofs.outset.Opened.ended_by.Goals as goal
 

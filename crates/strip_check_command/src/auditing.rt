@@ -1,0 +1,98 @@
+// A plan checked, from its files to the answer.
+ghost use Rattle.std.specs.Prelude.{◌≡◌, Err, IfOk, string_bytes};
+ghost use Rattle.strip_proof.specs.Plan.{plan_data};
+ghost use Rattle.strip_check.specs.declared.verdict.Verdict.TheVariants.{Accepted, Refused};
+ghost use Rattle.strip_answer.specs.Ending.{answer_text};
+ghost use Rattle.strip_answer.specs.Run.{FilesStay, HasReadFault, files_data};
+ghost use Rattle.strip_inputs.specs.Both.{IsEither};
+ghost use Rattle.strip_words.specs.Shown.{plan_files_data};
+ghost use Rattle.strip_check_command.specs.Claims.{IsAuditDue};
+ghost use Rattle.strip_check_command.specs.Audit.{IsAudited, status_of, verdict_text};
+
+use std::alloc::Global;
+use strip_answer::{Answer, Status, Stop, told_row};
+use strip_check::{CheckFault, Reason, Verdict, check};
+use strip_inputs::{PlanJob, answer_plan, too_many_classes};
+use strip_io::{Files, Memory};
+use strip_model::Instance;
+use strip_proof::Plan;
+use strip_text::Text;
+use strip_words::PlanFiles;
+
+/// The answer to a film's file and a plan's: that the plan is accepted, or the first reason why not, or why
+/// a file isn't fit.
+pub fn audit<F: Files>(alloc: Global, files: &mut F, names: &PlanFiles) -> Result<Answer, Stop>
+    ensures due { IfOk result (λ answer. IsAuditDue (plan_files_data names.now)
+        (files_data (F.holds files.old) (F.bytes files.old) (F.faults files.old) (F.came files.old))
+        (files_data (F.holds files.new) (F.bytes files.new) (F.faults files.new) (F.came files.new))
+        answer.status (answer_text answer)) }
+    ensures read { result ≡ Err Stop.Read → HasReadFault
+        (files_data (F.holds files.old) (F.bytes files.old) (F.faults files.old) (F.came files.old))
+        (files_data (F.holds files.new) (F.bytes files.new) (F.faults files.new) (F.came files.new))
+        (IsEither (string_bytes names.now.film) (string_bytes names.now.plan)) }
+    ensures files { FilesStay
+        (files_data (F.holds files.old) (F.bytes files.old) (F.faults files.old) (F.came files.old))
+        (files_data (F.holds files.new) (F.bytes files.new) (F.faults files.new) (F.came files.new))
+        (IsEither (string_bytes names.now.film) (string_bytes names.now.plan)) (result ≡ Err Stop.Read) }
+{
+    answer_plan::<AuditJob, F>(alloc, files, names)
+}
+
+/// Whether the plan is accepted.
+struct AuditJob;
+
+impl PlanJob for AuditJob {
+    ghost use Rattle.strip_check_command.specs.Audit.{IsAudited};
+
+    ghost Due = { IsAudited };
+
+    fn answer(alloc: Global, inst: &Instance, plan: Plan) -> Result<Answer, Memory> {
+        checked(alloc, inst, &plan)
+    }
+}
+
+/// The answer to an instance and a plan of it.
+fn checked(alloc: Global, inst: &Instance, plan: &Plan) -> Result<Answer, Memory>
+    ensures { IfOk result (λ answer. IsAudited inst.now (plan_data plan.now) answer.status (answer_text answer)) }
+{
+    match check(alloc, inst, plan) {
+        Ok(verdict) => told(alloc, verdict),
+        Err(CheckFault::TooManyClasses { count }) => too_many_classes(alloc, count),
+        Err(CheckFault::Memory) => Err(Memory),
+    }
+}
+
+/// The answer that tells a verdict.
+fn told(alloc: Global, verdict: Verdict) -> Result<Answer, Memory>
+    ensures status { IfOk result (λ answer. answer.status ≡ status_of verdict) }
+    ensures text { IfOk result (λ answer. answer_text answer ≡ verdict_text verdict) }
+{
+    match verdict {
+        Verdict::Accepted => accepted(alloc),
+        Verdict::Refused(reason) => refused(alloc, reason),
+    }
+}
+
+fn accepted(alloc: Global) -> Result<Answer, Memory>
+    ensures status { IfOk result (λ answer. answer.status ≡ status_of Accepted) }
+    ensures text { IfOk result (λ answer. answer_text answer ≡ verdict_text Accepted) }
+{
+    let mut text = Text::new(alloc);
+    text.push(&[b"check", b"accepted"])?;
+    Ok(Answer {
+        status: Status::Done,
+        text: text.into_bytes()?,
+        lines: Vec::new(alloc),
+    })
+}
+
+fn refused(alloc: Global, reason: Reason) -> Result<Answer, Memory>
+    ensures status { IfOk result (λ answer. answer.status ≡ status_of (Refused reason)) }
+    ensures text { IfOk result (λ answer. answer_text answer ≡ verdict_text (Refused reason)) }
+{
+    Ok(Answer {
+        status: Status::NotAccepted,
+        text: told_row(alloc, b"refused", reason.told())?,
+        lines: Vec::new(alloc),
+    })
+}

@@ -1,0 +1,54 @@
+// The whole program, over handed-in words, files and sink.
+ghost use Rattle.std.specs.Prelude.{◌≡◌, Err, IfOk};
+ghost use Rattle.strip_words.specs.Shown.{texts};
+ghost use Rattle.strip_answer.specs.Claims.{AsksFor, IsDue};
+ghost use Rattle.strip_answer.specs.Ending.{answer_text};
+ghost use Rattle.strip_answer.specs.Headline.{IsHeadline};
+ghost use Rattle.strip_answer.specs.Run.{FilesStay, HasReadFault, files_data, sink_data};
+ghost use Rattle.strip_check_command.specs.Claims.{IsProved, audit_claims};
+
+use crate::auditing::audit;
+use std::alloc::Global;
+use strip_answer::{Answer, Stop, finish};
+use strip_io::{Files, Sink};
+use strip_words::{WordsFault, plan_files};
+
+/// Checks the plan of the second file that the words name against the film of the first, and answers the
+/// exit status. It takes all its memory before it writes.
+pub fn report<F: Files, S: Sink>(alloc: Global, words: &[String], files: &mut F, out: &mut S) -> u8
+    ensures headline { IsHeadline audit_claims (record {
+      words = texts words.now;
+      files_before = files_data (F.holds files.old) (F.bytes files.old) (F.faults files.old) (F.came files.old);
+      files_after = files_data (F.holds files.new) (F.bytes files.new) (F.faults files.new) (F.came files.new);
+      sink_before = sink_data (S.taken out.old) (S.faults out.old);
+      sink_after = sink_data (S.taken out.new) (S.faults out.new);
+    }) result }
+    ensures proved { result ≡ 0 → IsProved (texts words.now)
+        (files_data (F.holds files.old) (F.bytes files.old) (F.faults files.old) (F.came files.old)) }
+{
+    let answer = answer_words(alloc, words, files);
+    finish(out, &answer).code()
+}
+
+/// The answer to the words: that they name no two files, or what is due for the two.
+fn answer_words<F: Files>(alloc: Global, words: &[String], files: &mut F) -> Result<Answer, Stop>
+    ensures due { IfOk result (λ answer. IsDue audit_claims (texts words.now)
+        (files_data (F.holds files.old) (F.bytes files.old) (F.faults files.old) (F.came files.old))
+        (files_data (F.holds files.new) (F.bytes files.new) (F.faults files.new) (F.came files.new))
+        answer.status (answer_text answer)) }
+    ensures read { result ≡ Err Stop.Read → HasReadFault
+        (files_data (F.holds files.old) (F.bytes files.old) (F.faults files.old) (F.came files.old))
+        (files_data (F.holds files.new) (F.bytes files.new) (F.faults files.new) (F.came files.new))
+        (AsksFor audit_claims (texts words.now)) }
+    ensures files { FilesStay
+        (files_data (F.holds files.old) (F.bytes files.old) (F.faults files.old) (F.came files.old))
+        (files_data (F.holds files.new) (F.bytes files.new) (F.faults files.new) (F.came files.new))
+        (AsksFor audit_claims (texts words.now)) (result ≡ Err Stop.Read) }
+{
+    // The words are those of the command `check` behind its own.
+    match plan_files(alloc, "check", words) {
+        Ok(names) => audit(alloc, files, &names),
+        Err(WordsFault::BadWords) => Ok(Answer::no_job(alloc)?),
+        Err(WordsFault::Memory) => Err(Stop::Memory),
+    }
+}

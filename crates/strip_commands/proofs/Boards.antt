@@ -1,0 +1,161 @@
+-- What is claimed of each command.
+use Rattle.std.proofs.Common.{◌≡◌, ◌∙◌, ◌⊎◌, inl, inr, ◌<◌, ◌≤◌, ℕ, List, Option, Result, Ok, Err, refl, sym, subst, ap}
+use Rattle.std.proofs.lemmas.Bool.{cases_lt}
+use Rattle.strip_model.specs.Data.{InstanceData}
+use Rattle.strip_model.specs.Film.{film_of}
+use Rattle.strip_reduce.specs.Reduction.{class_count}
+use Rattle.strip_reports.specs.Text.{dood_text}
+use Rattle.strip_reports.specs.Sheet.{sheet_text}
+use Rattle.strip_text.specs.Told.{ToldData}
+use Rattle.strip_words.specs.Words.{Word}
+use Rattle.strip_words.specs.Solve.{SolveData}
+use Rattle.strip_words.specs.Plans.{PlanFilesData}
+use Rattle.strip_words.specs.Gen.{GenData, TrialData}
+use Rattle.strip_words.specs.Jobs.{JobData, Solve, Check, Convert, Dood, Sheet, Gen, Trial, NameJob}
+use Rattle.strip_proof.specs.declared.plan.Status.{Status as PlanStatus}
+use Rattle.strip_proof.specs.declared.plan.Status.TheVariants.{Optimal, Bounded as CutShort}
+use Rattle.strip_proof.specs.Plan.{PlanData}
+use Rattle.strip_answer.specs.declared.status.Status.{Status}
+use Rattle.strip_answer.specs.declared.status.Status.TheVariants.{Done, Bounded}
+use Rattle.strip_answer.specs.Run.{FilesData}
+use Rattle.strip_answer.proofs.Endings.{AreShown, IsOfJob}
+use Rattle.strip_inputs.specs.Fit.{AreTold, AreUnfit}
+use Rattle.strip_inputs.specs.Said.{film_said}
+use Rattle.strip_inputs.proofs.Ways.{due_by, due_told, due_unfit}
+use Rattle.strip_check_command.proofs.Audits.{audit_answers, audit_fit, audit_unfit}
+use Rattle.strip_commands.specs.Plan.{IsPlan, exit_of}
+use Rattle.strip_commands.specs.Solve.{HasClasses, IsAnswerTo, IsSolveAnswer, IsSolveDue, IsSolveFit, IsSolveUnfit}
+use Rattle.strip_commands.specs.Convert.{IsConvertDue, IsConvertFit, IsConverted}
+use Rattle.strip_commands.specs.Report.{IsReportDue, IsReportFit, IsReportUnfit, IsReported, Report}
+use Rattle.strip_commands.specs.Made.{IsGenDue, IsTrialDue, IsTried, made_of}
+use Rattle.strip_commands.specs.Due.{IsDueFor, IsFitFor, IsFitStatus, IsUnfitFor, board_claims}
+
+exits : (status : PlanStatus) → (exit_of status ≡ Done) ⊎ (exit_of status ≡ Bounded)
+exits Optimal = inl refl
+exits CutShort = inr refl
+
+plan_ends : (job : SolveData) (inst : InstanceData) (status : Status) (printed : List ℕ) → IsPlan job inst status printed → (status ≡ Done) ⊎ (status ≡ Bounded)
+plan_ends job inst status printed plan = elim (exits plan.plan.status) [
+  | inl done ↦ inl (plan.ends ∙ done)
+  | inr bounded ↦ inr (plan.ends ∙ bounded)
+]
+
+ends_answer : (status : Status) → (status ≡ Done) ⊎ (status ≡ Bounded) → IsOfJob status
+ends_answer status (inl is) = subst IsOfJob (sym is) tt
+ends_answer status (inr is) = subst IsOfJob (sym is) tt
+
+module _ (job : SolveData) (before after : FilesData) (status : Status) (printed : List ℕ) (due : IsSolveDue job before after status printed) where
+  solve_answers : IsOfJob status
+  solve_answers = by (film_said due.text) due.holds
+    where
+      by : (said : Result InstanceData (Option ToldData)) → IsAnswerTo job status printed said → IsOfJob status
+      by (Ok inst) is = elim (cases_lt 64 (class_count (film_of inst))) [
+        | inl many ↦ subst IsOfJob (sym (is.too_many many).0) tt
+        | inr few ↦ ends_answer status (plan_ends job inst status printed (is.plan few))
+      ]
+      by (Err told) is = subst IsOfJob (sym is.0) tt
+
+  -- what is due for an instance that the files tell
+  solve_told : (IsCount : ℕ → Type 0) (has : HasClasses IsCount job before) → IsSolveAnswer job has.inst status printed
+  solve_told IsCount has =
+      subst (IsAnswerTo job status printed) (ap film_said (due.told has.text has.told) ∙ has.says) due.holds
+
+  solve_fit : IsSolveFit job before → (status ≡ Done) ⊎ (status ≡ Bounded)
+  solve_fit has = plan_ends job has.inst status printed ((solve_told (λ count. count ≤ 64) has).plan has.count)
+
+  solve_unfit : (why : Status) → IsSolveUnfit job before why → status ≡ why
+  solve_unfit why (inl none, is) =
+      let way : IsAnswerTo job status printed (Err none.fault)
+      = subst (IsAnswerTo job status printed) (ap film_said (due.told none.text none.told) ∙ none.refused) due.holds in
+      way.0 ∙ sym is
+  solve_unfit why (inr has, is) = ((solve_told (λ count. 64 < count) has).too_many has.count).0 ∙ sym is
+
+module _ (files : PlanFilesData) (before after : FilesData) (status : Status) (printed : List ℕ) (due : IsConvertDue files before after status printed) where
+  convert_answers : IsOfJob status
+  convert_answers =
+      due_by IsConverted files.film files.plan before after status printed IsOfJob tt tt (λ inst plan is. subst IsOfJob (sym is.done) tt) due
+
+  convert_fit : IsConvertFit files before → status ≡ Done
+  convert_fit (inst, plan, told, any) = (due_told IsConverted files.film files.plan before after status printed inst plan told due).1.done
+
+  convert_unfit : (why : Status) → AreUnfit files.film files.plan before why → status ≡ why
+  convert_unfit why unfit = due_unfit IsConverted files.film files.plan before after status printed why unfit due
+
+module _ (report : Report) (files : PlanFilesData) (before after : FilesData) (status : Status) (printed : List ℕ)
+    (due : IsReportDue report files before after status printed) where
+  abbrev reported : InstanceData → PlanData → Status → List ℕ → Type 0
+  reported inst plan = IsReported report inst plan.order
+
+  report_answers : IsOfJob status
+  report_answers = due_by reported files.film files.plan before after status printed IsOfJob tt tt (λ inst plan. by_order inst plan.order) due
+    where
+      by_order : (inst : InstanceData) (order : List ℕ) → IsReported report inst order status printed → IsOfJob status
+      by_order inst order (inl is) = subst IsOfJob (sym is.done) tt
+      by_order inst order (inr none) = subst IsOfJob (sym none.refused) tt
+
+  -- what is due for an instance and a plan that the files tell
+  report_told : (inst : InstanceData) (plan : PlanData) → AreTold files.film files.plan before inst plan → IsReported report inst plan.order status printed
+  report_told inst plan told = (due_told reported files.film files.plan before after status printed inst plan told due).1
+
+  report_fit : IsReportFit files before → status ≡ Done
+  report_fit (inst, plan, told, order) = by (report_told inst plan told)
+    where
+      by : IsReported report inst plan.order status printed → status ≡ Done
+      by (inl is) = is.done
+      by (inr none) = absurd (none.no_order order)
+
+  report_unfit : (why : Status) → IsReportUnfit files before why → status ≡ why
+  report_unfit why (inl unfit) = due_unfit reported files.film files.plan before after status printed why unfit due
+  report_unfit why (inr ((inst, plan, told, none), why_is)) = by (report_told inst plan told)
+    where
+      by : IsReported report inst plan.order status printed → status ≡ why
+      by (inl is) = absurd (none is.is_order)
+      by (inr is) = is.refused ∙ sym why_is
+
+gen_answers : (film : GenData) (status : Status) (printed : List ℕ) → IsGenDue film status printed → IsOfJob status
+gen_answers film status printed due = subst IsOfJob (sym due.done) tt
+
+tried_ends : (job : TrialData) (status : Status) (printed : List ℕ) → IsTried job status printed → (status ≡ Done) ⊎ (status ≡ Bounded)
+tried_ends job status printed tried = elim (exits tried.plan.status) [
+  | inl done ↦ inl (tried.ends ∙ done)
+  | inr bounded ↦ inr (tried.ends ∙ bounded)
+]
+
+trial_answers : (job : TrialData) (status : Status) (printed : List ℕ) → IsTrialDue job status printed → IsOfJob status
+trial_answers job status printed due = elim (cases_lt 64 (class_count (film_of (made_of job.film)))) [
+  | inl many ↦ subst IsOfJob (sym (due.too_many many).0) tt
+  | inr few ↦ ends_answer status (tried_ends job status printed (due.tried few))
+]
+
+job_answers : (job : JobData) (before after : FilesData) (status : Status) (printed : List ℕ) → IsDueFor job before after status printed → IsOfJob status
+job_answers (Solve job) before after status printed due = solve_answers job before after status printed due
+job_answers (Check files) before after status printed due = audit_answers files before after status printed due
+job_answers (Convert files) before after status printed due = convert_answers files before after status printed due
+job_answers (Dood files) before after status printed due = report_answers dood_text files before after status printed due
+job_answers (Sheet files) before after status printed due = report_answers sheet_text files before after status printed due
+job_answers (Gen film) before after status printed due = gen_answers film status printed due
+job_answers (Trial job) before after status printed due = trial_answers job status printed due
+
+job_fit : (job : JobData) (before after : FilesData) (status : Status) (printed : List ℕ) → IsFitFor job before
+    → IsDueFor job before after status printed → IsFitStatus job status
+job_fit (Solve job) before after status printed fit due = solve_fit job before after status printed due fit
+job_fit (Check files) before after status printed fit due = audit_fit files before after status printed due fit
+job_fit (Convert files) before after status printed fit due = convert_fit files before after status printed due fit
+job_fit (Dood files) before after status printed fit due = report_fit dood_text files before after status printed due fit
+job_fit (Sheet files) before after status printed fit due = report_fit sheet_text files before after status printed due fit
+job_fit (Gen film) before after status printed fit due = due.done
+job_fit (Trial job) before after status printed fit due = tried_ends job status printed (due.tried fit)
+
+job_unfit : (job : JobData) (before after : FilesData) (status why : Status) (printed : List ℕ) → IsUnfitFor job before why
+    → IsDueFor job before after status printed → status ≡ why
+job_unfit (Solve job) before after status why printed unfit due = solve_unfit job before after status printed due why unfit
+job_unfit (Check files) before after status why printed unfit due = audit_unfit files before after status printed due why unfit
+job_unfit (Convert files) before after status why printed unfit due = convert_unfit files before after status printed due why unfit
+job_unfit (Dood files) before after status why printed unfit due = report_unfit dood_text files before after status printed due why unfit
+job_unfit (Sheet files) before after status why printed unfit due = report_unfit sheet_text files before after status printed due why unfit
+job_unfit (Gen film) before after status why printed unfit due = absurd unfit
+job_unfit (Trial job) before after status why printed unfit due = (due.too_many unfit.0).0 ∙ sym unfit.1
+
+-- the claims hold where words name one job
+pub board_shown : ((words : List Word) (a b : JobData) → NameJob words a → NameJob words b → a ≡ b) → AreShown board_claims
+board_shown once = record { once = once; answers = job_answers; fit = job_fit; unfit = job_unfit }

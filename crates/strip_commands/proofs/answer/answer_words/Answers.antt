@@ -1,0 +1,16 @@
+use Rattle.std.proofs.Common.{inr}
+use Rattle.strip_words.specs.Shown.{job_data, texts}
+use Rattle.strip_answer.specs.Claims.{AsksFor}
+use Rattle.strip_answer.proofs.Endings.{stay_wider}
+use Rattle.strip_inputs.proofs.Given.{of_ok}
+use Rattle.strip_commands.specs.Due.{IsFileOf, board_claims}
+use Rattle.strip_commands.proofs.answer.answer_words.Goals as goal
+
+pub returns-in-Ok-clause-files : goal.returns-in-Ok-clause-files
+returns-in-Ok-clause-files g c =
+    stay_wider _ _ (IsFileOf (job_data c.in-Ok.job)) (AsksFor board_claims (texts c.args.words.now)) _
+    (λ name its. (job_data c.in-Ok.job, c.in-Ok.ensures.named, its)) c.answer_job.ensures.files
+
+pub returns-in-Ok-clause-due : goal.returns-in-Ok-clause-due
+returns-in-Ok-clause-due g c =
+    of_ok _ _ c.answer_job.result (λ answer due. inr (job_data c.in-Ok.job, c.in-Ok.ensures.named, due)) c.answer_job.ensures.due

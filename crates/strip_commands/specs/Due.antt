@@ -1,0 +1,93 @@
+-- What the program claims of its jobs. Each command has a line in each definition by jobs.
+use Rattle.std.specs.Prelude.{◌≡◌, ◌⊎◌, ◌<◌, ◌≤◌, List, IfSome, ℕ}
+use Rattle.strip_model.specs.Film.{film_of}
+use Rattle.strip_reduce.specs.Reduction.{class_count}
+use Rattle.strip_reports.specs.Text.{dood_text}
+use Rattle.strip_reports.specs.Sheet.{sheet_text}
+use Rattle.strip_words.specs.Gen.{IsSized}
+use Rattle.strip_words.specs.Jobs.{JobData, Solve, Check, Convert, Dood, Sheet, Gen, Trial, NameJob}
+use Rattle.strip_answer.specs.declared.status.Status.{Status}
+use Rattle.strip_answer.specs.declared.status.Status.TheVariants.{Done, Bounded, BadInstance}
+use Rattle.strip_answer.specs.Claims.{Claims}
+use Rattle.strip_answer.specs.Run.{FilesData}
+use Rattle.strip_inputs.specs.Both.{IsEither}
+use Rattle.strip_inputs.specs.Fit.{AreUnfit}
+use Rattle.strip_check_command.specs.Claims.{IsAuditDue, IsAuditFit, IsAuditStatus, IsAuditUnfit}
+use Rattle.strip_commands.specs.Solve.{IsSolveDue, IsSolveFit, IsSolveUnfit}
+use Rattle.strip_commands.specs.Convert.{IsConvertDue, IsConvertFit}
+use Rattle.strip_commands.specs.Report.{IsReportDue, IsReportFit, IsReportUnfit}
+use Rattle.strip_commands.specs.Made.{IsGenDue, IsTrialDue, made_of}
+
+-- the job asks for this file
+abbrev pub IsFileOf : JobData → List ℕ → Type 0
+IsFileOf (Solve job) file = job.file ≡ file
+IsFileOf (Check files) file = IsEither files.film files.plan file
+IsFileOf (Convert files) file = IsEither files.film files.plan file
+IsFileOf (Dood files) file = IsEither files.film files.plan file
+IsFileOf (Sheet files) file = IsEither files.film files.plan file
+IsFileOf (Gen film) file = ⊥
+IsFileOf (Trial job) file = ⊥
+
+-- the job's numbers lie within their ends
+abbrev pub IsWithin : JobData → Type 0
+IsWithin (Solve job) =
+    (1 ≤ job.nodes) × (job.nodes ≤ 16777216) × (64 ≤ job.table) × (job.table ≤ 4194304)
+    × IfSome job.tries (λ tries. tries ≤ 100000000) × (1 ≤ job.workers) × (job.workers ≤ 64)
+    × IfSome job.steps (λ steps. (1 ≤ steps) × (steps ≤ 1000))
+IsWithin (Check files) = Unit {0}
+IsWithin (Convert files) = Unit {0}
+IsWithin (Dood files) = Unit {0}
+IsWithin (Sheet files) = Unit {0}
+IsWithin (Gen film) = IsSized film
+IsWithin (Trial job) =
+    IsSized job.film × (1 ≤ job.nodes) × (job.nodes ≤ 16777216) × (64 ≤ job.table) × (job.table ≤ 4194304)
+    × IfSome job.tries (λ tries. tries ≤ 100000000) × IfSome job.steps (λ steps. (1 ≤ steps) × (steps ≤ 1000))
+
+-- what is due for the job
+abbrev pub IsDueFor : JobData → FilesData → FilesData → Status → List ℕ → Type 0
+IsDueFor (Solve job) before after status printed = IsSolveDue job before after status printed
+IsDueFor (Check files) before after status printed = IsAuditDue files before after status printed
+IsDueFor (Convert files) before after status printed = IsConvertDue files before after status printed
+IsDueFor (Dood files) before after status printed = IsReportDue dood_text files before after status printed
+IsDueFor (Sheet files) before after status printed = IsReportDue sheet_text files before after status printed
+IsDueFor (Gen film) before after status printed = IsGenDue film status printed
+IsDueFor (Trial job) before after status printed = IsTrialDue job status printed
+
+-- the job can be done with what its files tell, and the statuses with which it then ends, unless something fails
+abbrev pub IsFitFor : JobData → FilesData → Type 0
+IsFitFor (Solve job) told = IsSolveFit job told
+IsFitFor (Check files) told = IsAuditFit files told
+IsFitFor (Convert files) told = IsConvertFit files told
+IsFitFor (Dood files) told = IsReportFit files told
+IsFitFor (Sheet files) told = IsReportFit files told
+IsFitFor (Gen film) told = Unit {0}
+IsFitFor (Trial job) told = class_count (film_of (made_of job.film)) ≤ 64
+
+abbrev pub IsFitStatus : JobData → Status → Type 0
+IsFitStatus (Solve job) status = (status ≡ Done) ⊎ (status ≡ Bounded)
+IsFitStatus (Check files) status = IsAuditStatus status
+IsFitStatus (Convert files) status = status ≡ Done
+IsFitStatus (Dood files) status = status ≡ Done
+IsFitStatus (Sheet files) status = status ≡ Done
+IsFitStatus (Gen film) status = status ≡ Done
+IsFitStatus (Trial job) status = (status ≡ Done) ⊎ (status ≡ Bounded)
+
+-- it can't be done with what its files tell, as this status says
+abbrev pub IsUnfitFor : JobData → FilesData → Status → Type 0
+IsUnfitFor (Solve job) told why = IsSolveUnfit job told why
+IsUnfitFor (Check files) told why = IsAuditUnfit files told why
+IsUnfitFor (Convert files) told why = AreUnfit files.film files.plan told why
+IsUnfitFor (Dood files) told why = IsReportUnfit files told why
+IsUnfitFor (Sheet files) told why = IsReportUnfit files told why
+IsUnfitFor (Gen film) told why = ⊥
+IsUnfitFor (Trial job) told why = (64 < class_count (film_of (made_of job.film))) × (why ≡ BadInstance)
+
+abbrev pub board_claims : Claims JobData
+board_claims = record {
+  Names = NameJob;
+  Asks = IsFileOf;
+  Due = IsDueFor;
+  Fit = IsFitFor;
+  FitStatus = IsFitStatus;
+  Unfit = IsUnfitFor;
+}

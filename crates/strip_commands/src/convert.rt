@@ -1,0 +1,42 @@
+// The command `convert`.
+ghost use Rattle.std.specs.Prelude.{IfOk};
+ghost use Rattle.strip_proof.specs.Plan.{plan_data};
+ghost use Rattle.strip_proof.specs.Text.{HasReadableScenes, IsReadablePlan};
+ghost use Rattle.strip_answer.specs.Ending.{answer_text};
+ghost use Rattle.strip_commands.specs.Convert.{IsConverted};
+
+use std::alloc::Global;
+use strip_answer::{Answer, Status};
+use strip_inputs::PlanJob;
+use strip_io::Memory;
+use strip_model::Instance;
+use strip_proof::laws::written_plans_read_back;
+use strip_proof::{Plan, head_text};
+
+/// The plan in the newest format. It checks nothing of the plan.
+pub(crate) struct ConvertJob;
+
+impl PlanJob for ConvertJob {
+    ghost use Rattle.strip_commands.specs.Convert.{IsConverted};
+
+    ghost Due = { IsConverted };
+
+    fn answer(alloc: Global, inst: &Instance, plan: Plan) -> Result<Answer, Memory> {
+        written(alloc, inst, plan)
+    }
+}
+
+/// The answer that prints the plan with all its lines.
+fn written(alloc: Global, inst: &Instance, plan: Plan) -> Result<Answer, Memory>
+    requires names { HasReadableScenes inst.now }
+    requires readable { IsReadablePlan inst.now (plan_data plan) }
+    ensures { IfOk result (λ answer. IsConverted inst.now (plan_data plan) answer.status (answer_text answer)) }
+{
+    written_plans_read_back();
+    let text = head_text(alloc, inst, &plan, plan.lines.len() as u64)?;
+    Ok(Answer {
+        status: Status::Done,
+        text,
+        lines: plan.lines,
+    })
+}

@@ -1,0 +1,121 @@
+// The whole program, over handed-in words, files and sink.
+ghost use Rattle.std.specs.Prelude.{◌≤◌};
+ghost use Rattle.std.specs.Thread.{IsSync};
+ghost use Rattle.strip_solve.specs.Answer.{IsAnswerFor, MayBe};
+ghost use Rattle.strip_words.specs.Shown.{texts};
+ghost use Rattle.strip_answer.specs.Run.{files_data, sink_data};
+ghost use Rattle.strip_answer.specs.Headline.{IsHeadline};
+ghost use Rattle.strip_commands.specs.Due.{board_claims};
+ghost use Rattle.strip_commands.specs.Proved.{IsBoardProved};
+ghost use Rattle.strip_commands.specs.Solver.{Solves};
+
+use crate::answer::answer_words;
+use crate::solver::solve_by;
+use std::alloc::Global;
+use std::sync::Wait;
+use std::thread::Threads;
+use strip_answer::finish;
+use strip_io::{Files, Sink};
+use strip_model::Instance;
+use strip_proof::Plan;
+use strip_reduce::ReduceFault;
+use strip_solve::{SearchOptions, solve_alone};
+use strip_words::laws::words_name_one_job;
+use strip_worker::Gate;
+
+/// Does all that the program does, and answers its exit status. It reads the files that the words
+/// ask for, and takes all its memory before it writes. One worker searches, whatever the words say.
+pub fn report<F: Files, S: Sink>(alloc: Global, words: &[String], files: &mut F, out: &mut S) -> u8
+    ensures headline { IsHeadline board_claims (record {
+      words = texts words.now;
+      files_before = files_data (F.holds files.old) (F.bytes files.old) (F.faults files.old) (F.came files.old);
+      files_after = files_data (F.holds files.new) (F.bytes files.new) (F.faults files.new) (F.came files.new);
+      sink_before = sink_data (S.taken out.old) (S.faults out.old);
+      sink_after = sink_data (S.taken out.new) (S.faults out.new);
+    }) result }
+    ensures proved { IsBoardProved (record {
+      words = texts words.now;
+      files_before = files_data (F.holds files.old) (F.bytes files.old) (F.faults files.old) (F.came files.old);
+      files_after = files_data (F.holds files.new) (F.bytes files.new) (F.faults files.new) (F.came files.new);
+      sink_before = sink_data (S.taken out.old) (S.faults out.old);
+      sink_after = sink_data (S.taken out.new) (S.faults out.new);
+    }) result }
+{
+    report_by(
+        alloc,
+        &|inst: &Instance, options: SearchOptions, _workers: u32| -> Result<Plan, ReduceFault>
+            requires { MayBe options }
+            ensures { IsAnswerFor options inst.now result }
+        { solve_alone(alloc, inst, options) },
+        words,
+        files,
+        out,
+    )
+}
+
+/// Does what `report` does, with as many workers as the words say, in threads of the runtime where they
+/// are several. The gate is told how a search gets on.
+pub fn run<R: Threads + Wait + Sync, F: Files, S: Sink, G: Gate>(
+    rt: &R,
+    alloc: Global,
+    words: &[String],
+    files: &mut F,
+    out: &mut S,
+    gate: &G,
+) -> u8
+    ensures headline { IsHeadline board_claims (record {
+      words = texts words.now;
+      files_before = files_data (F.holds files.old) (F.bytes files.old) (F.faults files.old) (F.came files.old);
+      files_after = files_data (F.holds files.new) (F.bytes files.new) (F.faults files.new) (F.came files.new);
+      sink_before = sink_data (S.taken out.old) (S.faults out.old);
+      sink_after = sink_data (S.taken out.new) (S.faults out.new);
+    }) result }
+    ensures proved { IsBoardProved (record {
+      words = texts words.now;
+      files_before = files_data (F.holds files.old) (F.bytes files.old) (F.faults files.old) (F.came files.old);
+      files_after = files_data (F.holds files.new) (F.bytes files.new) (F.faults files.new) (F.came files.new);
+      sink_before = sink_data (S.taken out.old) (S.faults out.old);
+      sink_after = sink_data (S.taken out.new) (S.faults out.new);
+    }) result }
+{
+    report_by(
+        alloc,
+        &|inst: &Instance, options: SearchOptions, workers: u32| -> Result<Plan, ReduceFault>
+            requires { IsSync R.row × IsSync G.row × MayBe options × (1 ≤ workers) × (workers ≤ 64) }
+            ensures { IsAnswerFor options inst.now result }
+        { solve_by(rt, alloc, inst, options, workers, gate) },
+        words,
+        files,
+        out,
+    )
+}
+
+/// The same by any solver.
+fn report_by<V: Fn(&Instance, SearchOptions, u32) -> Result<Plan, ReduceFault>, F: Files, S: Sink>(
+    alloc: Global,
+    solver: &V,
+    words: &[String],
+    files: &mut F,
+    out: &mut S,
+) -> u8
+    requires { Solves (V.pre solver.now) (V.post solver.now) }
+    ensures headline { IsHeadline board_claims (record {
+      words = texts words.now;
+      files_before = files_data (F.holds files.old) (F.bytes files.old) (F.faults files.old) (F.came files.old);
+      files_after = files_data (F.holds files.new) (F.bytes files.new) (F.faults files.new) (F.came files.new);
+      sink_before = sink_data (S.taken out.old) (S.faults out.old);
+      sink_after = sink_data (S.taken out.new) (S.faults out.new);
+    }) result }
+    ensures proved { IsBoardProved (record {
+      words = texts words.now;
+      files_before = files_data (F.holds files.old) (F.bytes files.old) (F.faults files.old) (F.came files.old);
+      files_after = files_data (F.holds files.new) (F.bytes files.new) (F.faults files.new) (F.came files.new);
+      sink_before = sink_data (S.taken out.old) (S.faults out.old);
+      sink_after = sink_data (S.taken out.new) (S.faults out.new);
+    }) result }
+{
+    // The words name one job at most, and so its files.
+    words_name_one_job();
+    let answer = answer_words(alloc, solver, words, files);
+    finish(out, &answer).code()
+}

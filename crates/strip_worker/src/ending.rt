@@ -1,0 +1,114 @@
+// The end of a search.
+ghost use Rattle.std.specs.Prelude.{◌≡◌, ◌≤◌, true, false, IfErr, IfOk};
+ghost use Rattle.strip_io.specs.Counts.{Rose};
+ghost use Rattle.strip_bound.specs.StoredBound.{Keeps};
+ghost use Rattle.strip_film.specs.Film.{all_scenes};
+ghost use Rattle.strip_film.specs.Shown.{path_data};
+ghost use Rattle.strip_lines.specs.Lines.{known, rules_of};
+ghost use Rattle.strip_hand.specs.Hand.{HandData};
+ghost use Rattle.strip_front.specs.Calls.{Learns};
+ghost use Rattle.strip_front.specs.Shown.{front_data};
+ghost use Rattle.strip_worker.specs.Closed.{EndsFrom, HasAll, IsClosed, IsSettled};
+ghost use Rattle.strip_worker.specs.Shown.{ended_data};
+ghost use Rattle.strip_worker.specs.Team.{HasWorked, IsSearchBy};
+
+use crate::ended::Ended;
+use crate::walked::Walked;
+use std::alloc::Global;
+use strip_bound::StoredBound;
+use strip_film::{Line, Path};
+use strip_front::{Front, close_up};
+use strip_hand::Hand;
+use strip_io::Memory;
+use strip_lines::laws::the_rules_are_true;
+
+/// Closes the front up, once each part was claimed and worked in, and answers the number to which the line
+/// of all scenes was raised, in units of money. It answers `Memory` only where the hand was refused it.
+pub fn close<H: Hand, F: Fn(u64, u64) -> u64>(
+    kept: &StoredBound<F>,
+    hand: &mut H,
+    front: &mut Front,
+    walked: &Walked,
+) -> Result<u64, Memory>
+    requires sound { H.is_sound hand.old }
+    requires keeps { Keeps (F.pre kept.now.f) (F.post kept.now.f) kept.now.kind kept.now.film.now }
+    requires search { IsSearchBy kept.now.kind kept.now.film.now (H.shows hand.old).search }
+    requires worked { HasWorked (H.shows hand.old) (front_data front.old) walked.now.found.items walked.now.spent }
+    requires all { HasAll (H.shows hand.old) }
+    ensures sound { H.is_sound hand.new }
+    ensures home { H.home hand.new ≡ H.home hand.old }
+    ensures learns { Learns (H.shows hand.old) (H.shows hand.new) }
+    ensures closed { IfOk result (λ number. IsClosed kept.now.kind kept.now.film.now (H.shows hand.new) walked.now.spent number) }
+    ensures memory { IfErr result (λ _. Rose (H.shows hand.old).refusals (H.shows hand.new).refusals) }
+{
+    let number = close_up(kept, hand, front, &walked.found)?;
+    hand.keeps_limits();
+    Ok(number)
+}
+
+/// Tells how a search ended, by what it left: its best path, its lines, the number that closing its front
+/// up answered, and whether it was cut short. The lines are moved, and the order is copied; a turn for
+/// each line where it was cut short. Of any hand by which the search was closed and settled so, it ended as
+/// `EndsFrom` says, at no more than the least cost that the hand was told.
+pub fn tell<F: Fn(u64, u64) -> u64>(
+    alloc: Global,
+    kept: &StoredBound<F>,
+    best: &Path,
+    lines: Vec<Line>,
+    number: u64,
+    spent: bool,
+) -> Result<Ended, Memory>
+    requires keeps { Keeps (F.pre kept.now.f) (F.post kept.now.f) kept.now.kind kept.now.film.now }
+    ensures ended { IfOk result (λ ended. (hand : HandData) → IsClosed kept.now.kind kept.now.film.now hand spent number
+        → IsSettled hand (path_data best.now) lines.items
+        → EndsFrom kept.now.kind kept.now.film.now hand.search.start hand.search.cap (ended_data ended)) }
+    ensures cost { IfOk result (λ ended. (hand : HandData) → IsSettled hand (path_data best.now) lines.items → ended.cost ≤ hand.told) }
+{
+    the_rules_are_true();
+    let order = best.scenes().to_vec(alloc)?;
+    let bound = whole_bound(kept, &lines, number, spent);
+    Ok(Ended {
+        order,
+        cost: best.paid(),
+        bound,
+        held: lines.len() as u64,
+        lines,
+        spent,
+    })
+}
+
+/// What is known of all scenes: the number that closing the front up answered, unless the search was cut
+/// short; then a turn for each line.
+fn whole_bound<F: Fn(u64, u64) -> u64>(
+    kept: &StoredBound<F>,
+    lines: &[Line],
+    number: u64,
+    spent: bool,
+) -> u64
+    requires keeps { Keeps (F.pre kept.now.f) (F.post kept.now.f) kept.now.kind kept.now.film.now }
+    ensures whole { spent ≡ false → result ≡ number }
+    ensures spent { spent ≡ true → result ≡ known (rules_of kept.now.kind kept.now.film.now) lines.now (all_scenes kept.now.film.now) }
+{
+    if spent {
+        known_of_all(kept, lines)
+    } else {
+        number
+    }
+}
+
+/// The greatest of the static bound of all scenes and the bounds of the lines of them.
+fn known_of_all<F: Fn(u64, u64) -> u64>(kept: &StoredBound<F>, lines: &[Line]) -> u64
+    requires { Keeps (F.pre kept.now.f) (F.post kept.now.f) kept.now.kind kept.now.film.now }
+    ensures { result ≡ known (rules_of kept.now.kind kept.now.film.now) lines.now (all_scenes kept.now.film.now) }
+{
+    let film = kept.film();
+    film.keeps_limits();
+    let all = film.all();
+    let mut greatest = kept.at(all);
+    for line in lines {
+        if line.set == all.0 {
+            greatest = greatest.max(line.bound);
+        }
+    }
+    greatest
+}

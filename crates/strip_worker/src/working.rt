@@ -1,0 +1,145 @@
+// What a worker does in a search: the way down the front, and the tasks.
+ghost use Rattle.std.specs.Prelude.{◌≡◌, ◌≤◌, true, IfErr, IfOk};
+ghost use Rattle.strip_io.specs.Counts.{Rose};
+ghost use Rattle.strip_bound.specs.StoredBound.{Keeps};
+ghost use Rattle.strip_film.specs.Shown.{CursorData, path_data};
+ghost use Rattle.strip_hand.specs.Search.{search_rules};
+ghost use Rattle.strip_memo.specs.Memo.{IsMemo};
+ghost use Rattle.strip_front.specs.Calls.{GoesDown};
+ghost use Rattle.strip_front.specs.Front.{IsEmptyFront};
+ghost use Rattle.strip_front.specs.Shown.{front_data};
+ghost use Rattle.strip_walk.specs.Found.{IsSearchOf, MayExplore};
+ghost use Rattle.strip_worker.specs.Team.{GoesOn, HasClaimed, HasFront, HasWorked, IsSearchBy, OwnsFront, WalksPart, WalksTask, beginning};
+
+use crate::gate::{Gate, Worker};
+use crate::walked::Walked;
+use std::alloc::Global;
+use strip_bound::StoredBound;
+use strip_film::{Cursor, Path, Running};
+use strip_front::{Front, go_down};
+use strip_hand::Hand;
+use strip_io::Memory;
+use strip_memo::Memo;
+use strip_walk::{Found, explore};
+
+/// Goes down the front, which the hand has claimed and nothing else, and answers what was found: nothing of
+/// any task yet, and whether the front was cut short. The hand has worked so where it knows no more lines
+/// than it made on the way. It takes a number for each task, and then the calls of `go_down`.
+pub fn go_down_front<H: Hand, F: Fn(u64, u64) -> u64>(
+    alloc: Global,
+    kept: &StoredBound<F>,
+    hand: &mut H,
+    front: &mut Front,
+) -> Result<Walked, Memory>
+    requires sound { H.is_sound hand.old }
+    requires keeps { Keeps (F.pre kept.now.f) (F.post kept.now.f) kept.now.kind kept.now.film.now }
+    requires search { IsSearchBy kept.now.kind kept.now.film.now (H.shows hand.old).search }
+    requires some_lines { 1 ≤ (H.shows hand.old).search.cap }
+    requires claimed { HasFront (H.shows hand.old) }
+    requires tasks { (H.shows hand.old).search.tasks ≡ (front_data front.old).tasks }
+    requires front { IsEmptyFront (search_rules (H.shows hand.old).search) (front_data front.old) }
+    ensures sound { H.is_sound hand.new }
+    ensures home { H.home hand.new ≡ H.home hand.old }
+    ensures tasks { (front_data front.new).tasks ≡ (front_data front.old).tasks }
+    ensures down { (cursor : CursorData) × GoesDown (H.shows hand.old) (H.shows hand.new) cursor }
+    ensures worked { IfOk result (λ walked. OwnsFront (H.shows hand.new)
+        → HasWorked (H.shows hand.new) (front_data front.new) walked.found.items walked.spent) }
+{
+    let mut walked = Walked::new(alloc, front)?;
+    let spent = go_down(kept, hand, &mut Cursor::of(0), front)?;
+    walked.spent = spent;
+    Ok(walked)
+}
+
+/// Claims parts until none is left, and walks each task that is asked for, which the worker's gate is told
+/// of; with the front, which the caller went down, it does nothing. `walked` is what the hand found before, and then what it has found. It
+/// answers `Memory` only where the hand was refused it. The time may grow with the number of open paths
+/// that the start leaves.
+pub fn work<H: Hand, F: Fn(u64, u64) -> u64, G: Gate>(
+    kept: &StoredBound<F>,
+    hand: &mut H,
+    front: &Front,
+    worker: &Worker<G>,
+    memo: &mut Memo,
+    walked: &mut Walked,
+) -> Result<(), Memory>
+    requires sound { H.is_sound hand.old }
+    requires keeps { Keeps (F.pre kept.now.f) (F.post kept.now.f) kept.now.kind kept.now.film.now }
+    requires search { IsSearchBy kept.now.kind kept.now.film.now (H.shows hand.old).search }
+    requires memo { IsMemo kept.now.kind kept.now.film.now memo.old }
+    requires worked { HasWorked (H.shows hand.old) (front_data front.now) walked.old.found.items walked.old.spent }
+    ensures sound { H.is_sound hand.new }
+    ensures home { H.home hand.new ≡ H.home hand.old }
+    ensures memo { IsMemo kept.now.kind kept.now.film.now memo.new }
+    ensures goes_on { GoesOn (H.shows hand.old) (H.shows hand.new) }
+    ensures no_fewer { (H.shows hand.old).refusals ≤ (H.shows hand.new).refusals }
+    ensures worked { IfOk result (λ _. HasWorked (H.shows hand.new) (front_data front.now) walked.new.found.items walked.new.spent) }
+    ensures ended { IfOk result (λ _. (H.shows hand.new).ended ≡ true) }
+    ensures memory { IfErr result (λ _. Rose (H.shows hand.old).refusals (H.shows hand.new).refusals) }
+{
+    while let Some(part) = hand.claim() {
+        walk_part(kept, hand, front, worker, part, memo, walked)?;
+    }
+    Ok(())
+}
+
+/// Walks the task of a part that was claimed, where it is asked for.
+fn walk_part<H: Hand, F: Fn(u64, u64) -> u64, G: Gate>(
+    kept: &StoredBound<F>,
+    hand: &mut H,
+    front: &Front,
+    worker: &Worker<G>,
+    part: u32,
+    memo: &mut Memo,
+    walked: &mut Walked,
+) -> Result<(), Memory>
+    requires sound { H.is_sound hand.old }
+    requires keeps { Keeps (F.pre kept.now.f) (F.post kept.now.f) kept.now.kind kept.now.film.now }
+    requires search { IsSearchBy kept.now.kind kept.now.film.now (H.shows hand.old).search }
+    requires memo { IsMemo kept.now.kind kept.now.film.now memo.old }
+    requires claimed { HasClaimed (H.shows hand.old) (front_data front.now) walked.old.found.items walked.old.spent part }
+    ensures sound { H.is_sound hand.new }
+    ensures home { H.home hand.new ≡ H.home hand.old }
+    ensures memo { IsMemo kept.now.kind kept.now.film.now memo.new }
+    ensures walks { WalksPart (H.shows hand.old) part (H.shows hand.new) }
+    ensures worked { IfOk result (λ _. HasWorked (H.shows hand.new) (front_data front.now) walked.new.found.items walked.new.spent) }
+    ensures memory { IfErr result (λ _. Rose (H.shows hand.old).refusals (H.shows hand.new).refusals) }
+{
+    hand.keeps_limits();
+    // Part 0 is the front.
+    if part == 0 {
+        return Ok(());
+    }
+    let task = part as usize - 1;
+    if front.wanted[task] {
+        worker.begin(part);
+        let found = walk(kept, hand, &front.tasks()[task], part, memo)?;
+        hand.keeps_limits();
+        walked.found[task] = found.bound;
+        walked.spent |= found.spent;
+    }
+    Ok(())
+}
+
+/// Walks a task from its path on, where `part` is its number among the parts of the search.
+fn walk<H: Hand, F: Fn(u64, u64) -> u64>(
+    kept: &StoredBound<F>,
+    hand: &mut H,
+    task: &Path,
+    part: u32,
+    memo: &mut Memo,
+) -> Result<Found, Memory>
+    requires sound { H.is_sound hand.old }
+    requires keeps { Keeps (F.pre kept.now.f) (F.post kept.now.f) kept.now.kind kept.now.film.now }
+    requires search { IsSearchOf kept.now.kind kept.now.film.now (H.shows hand.old) }
+    requires memo { IsMemo kept.now.kind kept.now.film.now memo.old }
+    requires may { MayExplore (H.shows hand.old) (beginning part) (path_data task.now) }
+    ensures sound { H.is_sound hand.new }
+    ensures home { H.home hand.new ≡ H.home hand.old }
+    ensures memo { IsMemo kept.now.kind kept.now.film.now memo.new }
+    ensures walked { WalksTask (H.shows hand.old) part (path_data task.now) result (H.shows hand.new) }
+{
+    let mut cursor = Cursor::of(part);
+    let mut running = Running::of(kept.film(), task);
+    explore(kept, hand, &mut cursor, &mut running, memo)
+}

@@ -1,0 +1,16 @@
+pub mod Shown
+pub mod Stripes
+pub mod Numbers
+pub mod Stays
+pub mod Workers
+pub mod Claims
+pub mod Lines
+pub mod Table
+pub mod Opened
+pub mod Steps
+pub mod True
+pub mod Examples
+pub mod Runs
+pub mod Walked
+pub mod Reached
+pub mod Acting

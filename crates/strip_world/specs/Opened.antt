@@ -1,0 +1,43 @@
+-- The world that a search opens with, and its limits.
+use Rattle.std.specs.Prelude.{suc, ◌/◌, ◌≤◌, None, List, [], length, replicate}
+use Rattle.strip_kind.specs.declared.kind.Kind.{Kind}
+use Rattle.strip_pay.specs.Film.{FilmData}
+use Rattle.strip_film.specs.Path.{PathData}
+use Rattle.strip_world.specs.declared.event.Limits.{Limits}
+use Rattle.strip_hand.specs.Search.{SearchData}
+use Rattle.strip_world.specs.World.{WorldData, no_part, WorkerData}
+
+pub record AreLimits (limits : Limits) : Type 0 where
+  pub some_workers : 1 ≤ limits.workers
+  pub few_workers : limits.workers ≤ 64
+  pub some_lines : 1 ≤ limits.cap
+  pub few_lines : limits.cap ≤ 16777216
+  pub some_entries : 64 ≤ limits.entries
+  pub few_entries : limits.entries ≤ 4194304
+
+-- what a search goes by that starts with this path
+abbrev pub search_of : FilmData → Kind → PathData → List PathData → Limits → SearchData
+search_of film kind start tasks limits = record {
+  film = film;
+  kind = kind;
+  cap = limits.cap;
+  start = start.paid;
+  tasks = tasks;
+}
+
+-- a worker that was told the start path and did nothing
+abbrev pub idle_worker : PathData → WorkerData
+idle_worker start = record { told = start.paid; best = start; probe = None; note = None }
+
+-- nobody has done anything: the start path is each worker's best, and the least cost is what it pays
+abbrev pub opened : FilmData → Kind → PathData → List PathData → Limits → WorldData
+opened film kind start tasks limits = record {
+  search = search_of film kind start tasks limits;
+  buckets = limits.entries / 64;
+  least = start.paid;
+  lines = [];
+  stripes = replicate 16 (replicate (limits.entries / 64) []);
+  next = 0;
+  parts = replicate (suc (length tasks)) no_part;
+  workers = replicate limits.workers (idle_worker start);
+}

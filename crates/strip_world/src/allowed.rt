@@ -1,0 +1,301 @@
+// Which events may come.
+ghost use Rattle.std.specs.Prelude.{◌≡◌, ◌≢◌, ◌↔◌, ℕ, ◌+◌, ◌<◌, ◌≤◌, true, length, map, slice_index_or, IsTrue, Some};
+ghost use Rattle.std.specs.Option.{option_map};
+ghost use Rattle.strip_mask.specs.Set.{has, without};
+ghost use Rattle.strip_film.specs.Film.{LiesIn};
+ghost use Rattle.strip_film.specs.Path.{IsPath};
+ghost use Rattle.strip_film.specs.Shoot.{step_cost};
+ghost use Rattle.strip_film.specs.Shown.{path_data};
+ghost use Rattle.strip_bound.specs.Bounds.{bound};
+ghost use Rattle.strip_bound.specs.StoredBound.{Keeps};
+ghost use Rattle.strip_rule.specs.Rule.{open_firsts};
+ghost use Rattle.strip_lines.specs.Lines.{IsJustified, known};
+ghost use Rattle.strip_count.specs.Paths.{ComesAfter};
+ghost use Rattle.strip_count.specs.Parts.{lies_in, no_task};
+ghost use Rattle.strip_world.specs.Shown.{probe_data};
+ghost use Rattle.strip_hand.specs.Search.{GoesBy, depth_of, search_rules};
+ghost use Rattle.strip_world.specs.World.{part_at};
+ghost use Rattle.strip_hand.specs.Hand.{Knows, Lets, LetsThrough};
+ghost use Rattle.strip_world.specs.Allowed.{IsAllowed, IsFitting, MayEnlist, MayRaise, actor_of};
+ghost use Rattle.strip_world.specs.Sound.{IsSound};
+
+use crate::event::Event;
+use crate::paths::{is_complete, is_earlier, is_open};
+use crate::state::Asked;
+use crate::world::World;
+use strip_bound::StoredBound;
+use strip_film::{Film, Known, Path, Probe, step};
+use strip_mask::Mask;
+use strip_rule::open_firsts;
+
+impl World {
+    /// Whether the event may come now: its worker is one of the world's, and what it does is justified. A
+    /// path is walked anew, and a bound takes a turn for each line with each open first of its set. It takes
+    /// no memory.
+    pub fn allows<F: Fn(u64, u64) -> u64>(&self, kept: &StoredBound<F>, event: &Event) -> bool
+        requires sound { IsSound self.now }
+        requires keeps { Keeps (F.pre kept.now.f) (F.post kept.now.f) kept.now.kind kept.now.film.now }
+        requires search { GoesBy kept.now.kind kept.now.film.now self.now.search }
+        ensures { IsTrue result ↔ IsAllowed self.now event.now }
+    {
+        self.has_worker(actor_of(event)) && self.is_fitting(kept, event)
+    }
+
+    /// Whether a worker has this number.
+    fn has_worker(&self, who: u32) -> bool
+        ensures { IsTrue result ↔ (who < length self.now.workers) }
+    {
+        (who as usize) < self.workers.len()
+    }
+
+    /// Whether the event of one of the workers may come now.
+    fn is_fitting<F: Fn(u64, u64) -> u64>(&self, kept: &StoredBound<F>, event: &Event) -> bool
+        requires sound { IsSound self.now }
+        requires keeps { Keeps (F.pre kept.now.f) (F.post kept.now.f) kept.now.kind kept.now.film.now }
+        requires search { GoesBy kept.now.kind kept.now.film.now self.now.search }
+        requires worker { actor_of event.now < length self.now.workers }
+        ensures { IsTrue result ↔ IsFitting self.now event.now }
+    {
+        match event {
+            Event::Look { .. } | Event::Claim { .. } => true,
+            Event::Offer { path, .. } => is_complete(&self.film, path),
+            Event::Enlist { who, task, path } => self.may_enlist(kept, *who, *task, path),
+            Event::Raise { line, bound, .. } => self.may_raise(kept, *line, *bound),
+            Event::Probe { set, .. } => lies_in_film(&self.film, Mask(*set)),
+            Event::Note { known, .. } => self.may_note(known),
+        }
+    }
+
+    /// Whether the worker may enlist the path in the part.
+    fn may_enlist<F: Fn(u64, u64) -> u64>(
+        &self,
+        kept: &StoredBound<F>,
+        who: u32,
+        part: u32,
+        path: &Path,
+    ) -> bool
+        requires sound { IsSound self.now }
+        requires keeps { Keeps (F.pre kept.now.f) (F.post kept.now.f) kept.now.kind kept.now.film.now }
+        requires search { GoesBy kept.now.kind kept.now.film.now self.now.search }
+        requires worker { who < length self.now.workers }
+        ensures { IsTrue result ↔ MayEnlist self.now who part (path_data path.now) }
+    {
+        let worker = &self.workers[who as usize];
+        self.is_in_part_of(who, part, path)
+            && is_open(&self.film, path)
+            && self.comes_after(kept, part, path)
+            && !path.rest().is_empty()
+            && self.is_below(kept, path, worker.told)
+            && (part == 0 || lets_through(worker.asked, path, worker.told))
+    }
+
+    /// Whether the worker claimed the part, and the path lies in it.
+    fn is_in_part_of(&self, who: u32, part: u32, path: &Path) -> bool
+        requires { IsSound self.now }
+        ensures { IsTrue result ↔ ((part < length self.now.parts) × ((part_at self.now part).claimer ≡ Some who)
+            × (lies_in (depth_of self.now.search) self.now.search.tasks part (path_data path.now) ≡ true)) }
+    {
+        match self.parts.get(part as usize) {
+            Some(state) => {
+                state.claimer == Some(who)
+                    && lies_in(depth_of(&self.tasks), &self.tasks, part, path)
+            }
+            None => false,
+        }
+    }
+
+    /// Whether the path comes after the last one of the part, if there is one. For each scene that they
+    /// begin with alike a comparison, and two ranks.
+    fn comes_after<F: Fn(u64, u64) -> u64>(
+        &self,
+        kept: &StoredBound<F>,
+        part: u32,
+        path: &Path,
+    ) -> bool
+        requires sound { IsSound self.now }
+        requires keeps { Keeps (F.pre kept.now.f) (F.post kept.now.f) kept.now.kind kept.now.film.now }
+        requires search { GoesBy kept.now.kind kept.now.film.now self.now.search }
+        requires part { part < length self.now.parts }
+        requires path { IsPath self.now.search.film (path_data path.now) }
+        ensures { IsTrue result ↔ ComesAfter (search_rules self.now.search) (part_at self.now part).last (path_data path.now) }
+    {
+        match &self.parts[part as usize].last {
+            Some(last) => is_earlier(kept, self.film.all(), last.scenes(), path.scenes()),
+            None => true,
+        }
+    }
+
+    /// Whether the path with the static bound of what remains is below a cost.
+    fn is_below<F: Fn(u64, u64) -> u64>(
+        &self,
+        kept: &StoredBound<F>,
+        path: &Path,
+        cost: u64,
+    ) -> bool
+        requires keeps { Keeps (F.pre kept.now.f) (F.post kept.now.f) kept.now.kind kept.now.film.now }
+        requires search { GoesBy kept.now.kind kept.now.film.now self.now.search }
+        requires path { IsPath self.now.search.film (path_data path.now) }
+        ensures { IsTrue result ↔ ((path_data path.now).paid
+            + bound self.now.search.kind self.now.search.film (path_data path.now).rest < cost) }
+    {
+        self.bound(kept, path.rest()) < cost.saturating_sub(path.paid())
+    }
+
+    /// Whether the line may be raised to the bound.
+    fn may_raise<F: Fn(u64, u64) -> u64>(
+        &self,
+        kept: &StoredBound<F>,
+        line: u32,
+        bound: u64,
+    ) -> bool
+        requires sound { IsSound self.now }
+        requires keeps { Keeps (F.pre kept.now.f) (F.post kept.now.f) kept.now.kind kept.now.film.now }
+        requires search { GoesBy kept.now.kind kept.now.film.now self.now.search }
+        ensures { IsTrue result ↔ MayRaise self.now line bound }
+    {
+        match self.lines.get(line as usize) {
+            Some(line) => self.is_justified(kept, Mask(line.set), bound),
+            None => false,
+        }
+    }
+
+    /// Whether the bound is justified for the set by the lines: the static one reaches it, or each open
+    /// first's step with what is known of the rest does.
+    fn is_justified<F: Fn(u64, u64) -> u64>(
+        &self,
+        kept: &StoredBound<F>,
+        set: Mask,
+        bound: u64,
+    ) -> bool
+        requires keeps { Keeps (F.pre kept.now.f) (F.post kept.now.f) kept.now.kind kept.now.film.now }
+        requires search { GoesBy kept.now.kind kept.now.film.now self.now.search }
+        requires lies { LiesIn self.now.search.film set.0 }
+        ensures { IsTrue result ↔ IsJustified (search_rules self.now.search) self.now.lines (record { set = set.0; bound = bound }) }
+    {
+        bound <= self.bound(kept, set)
+            || !set.is_empty() && self.each_first_reaches(kept, set, bound)
+    }
+
+    /// Whether each open first's step with what is known of the rest reaches the bound. For each open first
+    /// a step, a static bound and a turn for each line.
+    fn each_first_reaches<F: Fn(u64, u64) -> u64>(
+        &self,
+        kept: &StoredBound<F>,
+        set: Mask,
+        bound: u64,
+    ) -> bool
+        requires keeps { Keeps (F.pre kept.now.f) (F.post kept.now.f) kept.now.kind kept.now.film.now }
+        requires search { GoesBy kept.now.kind kept.now.film.now self.now.search }
+        requires lies { LiesIn self.now.search.film set.0 }
+        ensures { IsTrue result ↔ ((scene : ℕ) → has (open_firsts self.now.search.film set.0) scene ≡ true
+            → bound ≤ step_cost self.now.search.film set.0 scene
+            + known (search_rules self.now.search) self.now.lines (without set.0 scene)) }
+    {
+        self.film.keeps_limits();
+        for scene in open_firsts(&self.film, set).iter() {
+            let rest = self.known(kept, set.without(scene));
+            if bound.saturating_sub(step(&self.film, set, scene)) > rest {
+                return false;
+            }
+        }
+        true
+    }
+
+    /// What is known of the set: the greatest of its static bound and the bounds of the lines with this set,
+    /// in units of money. One turn for each line.
+    pub fn known<F: Fn(u64, u64) -> u64>(&self, kept: &StoredBound<F>, set: Mask) -> u64
+        requires keeps { Keeps (F.pre kept.now.f) (F.post kept.now.f) kept.now.kind kept.now.film.now }
+        requires search { GoesBy kept.now.kind kept.now.film.now self.now.search }
+        requires lies { LiesIn self.now.search.film set.0 }
+        ensures { result ≡ known (search_rules self.now.search) self.now.lines set.0 }
+    {
+        let mut greatest = self.bound(kept, set);
+        for line in &self.lines {
+            if line.set == set.0 {
+                greatest = greatest.max(line.bound);
+            }
+        }
+        greatest
+    }
+
+    /// The static bound of the set.
+    pub(crate) fn bound<F: Fn(u64, u64) -> u64>(&self, kept: &StoredBound<F>, set: Mask) -> u64
+        requires keeps { Keeps (F.pre kept.now.f) (F.post kept.now.f) kept.now.kind kept.now.film.now }
+        requires search { GoesBy kept.now.kind kept.now.film.now self.now.search }
+        requires lies { LiesIn self.now.search.film set.0 }
+        ensures { result ≡ bound self.now.search.kind self.now.search.film set.0 }
+    {
+        kept.at(set)
+    }
+
+    /// Whether the table may be told of the known line.
+    fn may_note(&self, known: &Known) -> bool
+        ensures { IsTrue result ↔ Knows self.now.lines known.now }
+    {
+        match self.lines.get(known.line as usize) {
+            Some(line) => line.set == known.set && known.bound <= line.bound,
+            None => false,
+        }
+    }
+}
+
+/// The worker of an event.
+fn actor_of(event: &Event) -> u32
+    ensures { result ≡ actor_of event.now }
+{
+    match event {
+        Event::Look { who }
+        | Event::Offer { who, .. }
+        | Event::Claim { who }
+        | Event::Enlist { who, .. }
+        | Event::Raise { who, .. }
+        | Event::Probe { who, .. }
+        | Event::Note { who, .. } => *who,
+    }
+}
+
+/// Whether the set is one of scenes of the film.
+fn lies_in_film(film: &Film, set: Mask) -> bool
+    ensures { IsTrue result ↔ LiesIn film.now set.0 }
+{
+    film.keeps_limits();
+    set.lies_below(film.scenes() as u32)
+}
+
+/// How many scenes a task has.
+fn depth_of(tasks: &[Path]) -> usize
+    ensures { result ≡ length (slice_index_or (map path_data tasks.now) 0 no_task).scenes }
+{
+    tasks.first().map_or(0, |task| task.scenes().len())
+}
+
+/// Whether the path lies in the part: it is shorter than the tasks, or begins with the part's task.
+fn lies_in(depth: usize, tasks: &[Path], part: u32, path: &Path) -> bool
+    requires { part ≤ length tasks.now }
+    ensures { result ≡ lies_in depth (map path_data tasks.now) part (path_data path.now) }
+{
+    if part == 0 {
+        return path.scenes().len() < depth;
+    }
+    path.scenes().starts_with(tasks[part as usize - 1].scenes())
+}
+
+/// Whether the last probe was of what remains after the path, and doesn't rule the path out.
+fn lets_through(asked: Option<Asked>, path: &Path, told: u64) -> bool
+    ensures { IsTrue result ↔ LetsThrough (option_map probe_data asked) (path_data path.now) told }
+{
+    match asked {
+        Some(asked) => path.rest() == Mask(asked.set) && lets(asked.answer, path, told),
+        None => false,
+    }
+}
+
+/// Whether the answer to a probe doesn't rule the path out.
+fn lets(answer: Probe, path: &Path, told: u64) -> bool
+    ensures { IsTrue result ↔ Lets answer (path_data path.now) told }
+{
+    match answer {
+        Probe::Hit(known) => known.bound < told.saturating_sub(path.paid()),
+        Probe::Miss => true,
+    }
+}

@@ -1,0 +1,85 @@
+// The world that a search opens with.
+ghost use Rattle.std.specs.Prelude.{◌≡◌, ◌<◌, IfOk, [], map, replicate};
+ghost use Rattle.strip_film.specs.Path.{IsComplete};
+ghost use Rattle.strip_film.specs.Shown.{path_data};
+ghost use Rattle.strip_world.specs.Opened.{AreLimits, idle_worker, opened, search_of};
+ghost use Rattle.strip_world.specs.Sound.{IsSound};
+ghost use Rattle.strip_world.specs.Shown.{part_data, worker_data};
+ghost use Rattle.strip_hand.specs.Search.{AreStarts};
+ghost use Rattle.strip_world.specs.World.{no_part};
+
+use crate::event::Limits;
+use crate::laws::steps_keep_worlds_sound;
+use crate::state::{Part, Worker};
+use crate::world::World;
+use std::alloc::{AllocError, Global};
+use strip_film::{Film, Path};
+use strip_io::Memory;
+use strip_kind::Kind;
+use strip_table::{STRIPES, Stripe};
+
+impl World {
+    /// The world that a search of the film with bounds of this kind opens with: its start path, which is
+    /// complete, its tasks, paths of as many scenes each, and its limits. It takes
+    /// all the memory that the world ever needs, and fails only where that runs out.
+    pub fn new(
+        alloc: Global,
+        film: &Film,
+        kind: Kind,
+        start: &Path,
+        tasks: &[Path],
+        limits: &Limits,
+    ) -> Result<World, Memory>
+        requires start { IsComplete film.now (path_data start.now) }
+        requires tasks { AreStarts (search_of film.now kind (path_data start.now) (map path_data tasks.now) limits.now) }
+        requires limits { AreLimits limits.now }
+        ensures opened { IfOk result (λ world. world ≡ opened film.now kind (path_data start.now) (map path_data tasks.now) limits.now) }
+        ensures sound { IfOk result IsSound }
+    {
+        film.keeps_limits();
+        steps_keep_worlds_sound();
+        let buckets = limits.entries / 64;
+        Ok(World {
+            film: film.copy()?,
+            kind,
+            cap: limits.cap,
+            start: start.paid(),
+            tasks: tasks.to_vec(alloc)?,
+            buckets,
+            least: start.paid(),
+            lines: Vec::with_capacity(alloc, limits.cap as usize)?,
+            stripes: empty_stripes(alloc, buckets)?,
+            next: 0,
+            parts: free_parts(alloc, tasks.len() + 1)?,
+            workers: idle_workers(alloc, start, limits.workers as usize)?,
+        })
+    }
+}
+
+/// So many stripes of empty buckets.
+fn empty_stripes(alloc: Global, buckets: u32) -> Result<Vec<Stripe>, Memory>
+    requires { 0 < buckets }
+    ensures { IfOk result (λ stripes. stripes.items ≡ replicate 16 (replicate buckets [])) }
+{
+    let mut stripes = Vec::new(alloc);
+    for _stripe in 0..STRIPES {
+        stripes.push(Stripe::new(alloc, buckets)?)?;
+    }
+    Ok(stripes)
+}
+
+/// So many parts that nobody claimed.
+fn free_parts(alloc: Global, count: usize) -> Result<Vec<Part>, AllocError>
+    ensures { IfOk result (λ parts. map part_data parts.items ≡ replicate count no_part) }
+{
+    let parts = vec![in alloc; Part::free(); count]?;
+    Ok(parts)
+}
+
+/// So many workers that did nothing.
+fn idle_workers(alloc: Global, start: &Path, count: usize) -> Result<Vec<Worker>, AllocError>
+    ensures { IfOk result (λ workers. map worker_data workers.items ≡ replicate count (idle_worker (path_data start.now))) }
+{
+    let workers = vec![in alloc; Worker::of(start); count]?;
+    Ok(workers)
+}

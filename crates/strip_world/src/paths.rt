@@ -1,0 +1,122 @@
+// Whether a path is one of a film, and which of two comes first.
+ghost use Rattle.std.specs.Prelude.{◌≡◌, ◌↔◌, ◌<◌, true, IsTrue, IfSome, IfNone};
+ghost use Rattle.strip_mask.specs.Set.{has};
+ghost use Rattle.strip_film.specs.Film.{LiesIn, all_scenes};
+ghost use Rattle.strip_film.specs.Finish.{AreFirsts, Remained};
+ghost use Rattle.strip_film.specs.Path.{IsComplete, IsPath};
+ghost use Rattle.strip_film.specs.Ranks.{IsEarlier, IsSooner};
+ghost use Rattle.strip_film.specs.Rules.{rank};
+ghost use Rattle.strip_film.specs.Shown.{path_data};
+ghost use Rattle.strip_bound.specs.StoredBound.{Keeps};
+ghost use Rattle.strip_lines.specs.Lines.{rules_of};
+ghost use Rattle.strip_rule.specs.Rule.{open_firsts};
+
+use strip_bound::StoredBound;
+use strip_film::{Film, Path, ready};
+use strip_mask::Mask;
+use strip_rule::open_firsts;
+
+/// Whether the path is a complete one of the film. The time of `is_path`.
+pub(crate) fn is_complete(film: &Film, path: &Path) -> bool
+    ensures { IsTrue result ↔ IsComplete film.now (path_data path.now) }
+{
+    is_path(film, path) && path.rest().is_empty()
+}
+
+/// Whether the path is one of the film, along open firsts. The time of `is_path`, and of `open_firsts` for
+/// each scene of it.
+pub(crate) fn is_open(film: &Film, path: &Path) -> bool
+    ensures { IsTrue result ↔ (IsPath film.now (path_data path.now)
+        × AreFirsts (open_firsts film.now) (all_scenes film.now) (path_data path.now).scenes) }
+{
+    is_path(film, path) && are_open(film, path.scenes())
+}
+
+/// Whether the path is one of the film: its scenes are walked anew. The time of `Path::extend` for each.
+fn is_path(film: &Film, path: &Path) -> bool
+    ensures { IsTrue result ↔ IsPath film.now (path_data path.now) }
+{
+    match path_along(film, path.scenes()) {
+        Some(own) => own.rest() == path.rest() && own.paid() == path.paid(),
+        None => false,
+    }
+}
+
+/// The path of the film along the scenes, where each is ready in its turn.
+fn path_along(film: &Film, scenes: &[u8]) -> Option<Path>
+    ensures path { IfSome result (λ path. IsPath film.now (path_data path) × ((path_data path).scenes ≡ scenes.now)) }
+    ensures none { IfNone result (¬ Remained film.now (all_scenes film.now) scenes.now) }
+{
+    film.keeps_limits();
+    let mut path = Path::start(film);
+    for scene in scenes {
+        if !is_in(ready(film, path.rest()), *scene) {
+            return None;
+        }
+        path = path.extend(film, *scene as u32);
+    }
+    Some(path)
+}
+
+/// Whether each of the scenes is an open first of what remains in its turn.
+fn are_open(film: &Film, scenes: &[u8]) -> bool
+    ensures { IsTrue result ↔ AreFirsts (open_firsts film.now) (all_scenes film.now) scenes.now }
+{
+    film.keeps_limits();
+    let mut rest = film.all();
+    for scene in scenes {
+        if !is_in(open_firsts(film, rest), *scene) {
+            return false;
+        }
+        rest = rest.without(*scene as u32);
+    }
+    true
+}
+
+/// Whether the set has the scene, whatever number it is.
+fn is_in(set: Mask, scene: u8) -> bool
+    ensures member { result ≡ has set.0 scene }
+    ensures below { IsTrue result → scene < 64 }
+{
+    scene < 64 && set.has(scene as u32)
+}
+
+/// Whether the first of two lists of scenes comes before the second, both shot from the set. A turn for
+/// each scene that they begin with alike, and two ranks.
+pub(crate) fn is_earlier<F: Fn(u64, u64) -> u64>(
+    kept: &StoredBound<F>,
+    set: Mask,
+    first: &[u8],
+    second: &[u8],
+) -> bool
+    requires keeps { Keeps (F.pre kept.now.f) (F.post kept.now.f) kept.now.kind kept.now.film.now }
+    requires lies { LiesIn kept.now.film.now set.0 }
+    requires first { Remained kept.now.film.now set.0 first.now }
+    requires second { Remained kept.now.film.now set.0 second.now }
+    ensures { IsTrue result ↔ IsEarlier (rules_of kept.now.kind kept.now.film.now) set.0 first.now second.now }
+{
+    kept.film().keeps_limits();
+    let Some((other, after_other)) = second.split_first() else {
+        return false;
+    };
+    let Some((one, after_one)) = first.split_first() else {
+        return true;
+    };
+    if one == other {
+        return is_earlier(kept, set.without(*one as u32), after_one, after_other);
+    }
+    is_sooner(kept, set, *one as u32, *other as u32)
+}
+
+/// Whether scene `s` of the set goes before scene `t`: by rank, of equal ranks by number.
+fn is_sooner<F: Fn(u64, u64) -> u64>(kept: &StoredBound<F>, set: Mask, s: u32, t: u32) -> bool
+    requires keeps { Keeps (F.pre kept.now.f) (F.post kept.now.f) kept.now.kind kept.now.film.now }
+    requires lies { LiesIn kept.now.film.now set.0 }
+    requires one { has set.0 s ≡ true }
+    requires other { has set.0 t ≡ true }
+    ensures { IsTrue result ↔ IsSooner (rank (rules_of kept.now.kind kept.now.film.now) set.0) s t }
+{
+    let rank = kept.rank(set, s);
+    let other = kept.rank(set, t);
+    rank < other || rank == other && s < t
+}

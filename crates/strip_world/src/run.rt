@@ -1,0 +1,43 @@
+// A list of events.
+ghost use Rattle.std.specs.Prelude.{◌≡◌, ℕ, ◌<◌, ◌≤◌, length, Contains};
+ghost use Rattle.strip_pay.specs.Pay.{IsOptimum};
+ghost use Rattle.strip_film.specs.declared.shared.Known.{Known};
+ghost use Rattle.strip_film.specs.Finish.{IsAtMostFinish};
+ghost use Rattle.strip_bound.specs.StoredBound.{Keeps};
+ghost use Rattle.strip_table.specs.Stripe.{bucket_at};
+ghost use Rattle.strip_hand.specs.Search.{GoesBy};
+ghost use Rattle.strip_world.specs.Sound.{IsSound};
+ghost use Rattle.strip_world.specs.Steps.{Runs};
+ghost use Rattle.strip_world.specs.World.{stripe_at};
+
+use crate::event::Event;
+use crate::laws::a_sound_world_is_true;
+use crate::world::World;
+use strip_bound::StoredBound;
+
+impl World {
+    /// Takes the steps of the events, one after the other, up to the first that isn't allowed when it comes,
+    /// and answers how many it took. Whatever they are, each entry of the table is then a true bound, and
+    /// the least cost is no less than the optimum.
+    pub fn run<F: Fn(u64, u64) -> u64>(&mut self, kept: &StoredBound<F>, events: &[Event]) -> usize
+        requires sound { IsSound self.old }
+        requires keeps { Keeps (F.pre kept.now.f) (F.post kept.now.f) kept.now.kind kept.now.film.now }
+        requires search { GoesBy kept.now.kind kept.now.film.now self.old.search }
+        ensures runs { Runs self.old events.now result self.new }
+        ensures sound { IsSound self.new }
+        ensures entries { (stripe bucket : ℕ) (entry : Known) → stripe < 16 → bucket < length (stripe_at self.new stripe)
+            → Contains (bucket_at (stripe_at self.new stripe) bucket) entry
+            → IsAtMostFinish self.new.search.film entry.set entry.bound }
+        ensures least { (pay : ℕ) → IsOptimum self.new.search.film pay → pay ≤ self.new.least }
+    {
+        a_sound_world_is_true();
+        for count in 0..events.len() {
+            let event = &events[count];
+            if !self.allows(kept, event) {
+                return count;
+            }
+            self.step(kept, event);
+        }
+        events.len()
+    }
+}

@@ -1,0 +1,46 @@
+// One step of the world.
+ghost use Rattle.strip_bound.specs.StoredBound.{Keeps};
+ghost use Rattle.strip_hand.specs.Search.{GoesBy};
+ghost use Rattle.strip_world.specs.Allowed.{IsAllowed};
+ghost use Rattle.strip_world.specs.Sound.{IsSound};
+ghost use Rattle.strip_world.specs.Steps.{Steps};
+
+use crate::event::{Event, Reply};
+use crate::laws::steps_keep_worlds_sound;
+use crate::world::World;
+use strip_bound::StoredBound;
+use strip_mask::Mask;
+
+impl World {
+    /// Takes the step of an event that is allowed, and replies. It takes no memory, and but for the
+    /// static bound of a path that is enlisted, the same short time always.
+    pub fn step<F: Fn(u64, u64) -> u64>(&mut self, kept: &StoredBound<F>, event: &Event) -> Reply
+        requires sound { IsSound self.old }
+        requires keeps { Keeps (F.pre kept.now.f) (F.post kept.now.f) kept.now.kind kept.now.film.now }
+        requires search { GoesBy kept.now.kind kept.now.film.now self.old.search }
+        requires allowed { IsAllowed self.old event.now }
+        ensures steps { Steps self.old event.now self.new result }
+        ensures sound { IsSound self.new }
+    {
+        steps_keep_worlds_sound();
+        match event {
+            Event::Look { who } => Reply::Least(self.look_as(*who)),
+            Event::Offer { who, path } => Reply::Least(self.offer_as(*who, path)),
+            Event::Claim { who } => Reply::Task(self.claim_as(*who)),
+            Event::Enlist { who: _, task, path } => {
+                let bound = self.bound(kept, path.rest());
+                Reply::Listed(self.enlist_as(*task, path, bound))
+            }
+            Event::Raise {
+                who: _,
+                line,
+                bound,
+            } => {
+                self.raise_as(*line, *bound);
+                Reply::Raised
+            }
+            Event::Probe { who, set } => Reply::Probed(self.probe_as(*who, Mask(*set))),
+            Event::Note { who, known } => Reply::Noted(self.note_as(*who, known)),
+        }
+    }
+}
