@@ -15,25 +15,39 @@ use std::marker::Model;
 #[derive(Drop)]
 pub struct MemFiles {
     files: Table,
+    piece: usize,
     failing: Vec<u64>,
     calls: u64,
 }
 
 impl Model for MemFiles {
+    ghost use Rattle.std.specs.Prelude.{◌≤◌};
     ghost use Rattle.strip_io.specs.Memory.{MemoryFiles};
 
     ghost Value = { MemoryFiles };
 
-    ghost view = { λ m. record { files = m.files; failing = m.failing.items; calls = m.calls } };
+    ghost view = { λ m. record { files = m.files; piece = m.piece; failing = m.failing.items; calls = m.calls } };
+
+    ghost invariant = { λ m. 1 ≤ m.piece };
 }
 
 impl MemFiles {
-    /// No files yet. The reads with these numbers will fail.
+    /// No files yet, whose reads will give as many bytes as fit. The reads with these numbers will fail.
     pub fn new(alloc: Global, failing: &[u64]) -> Result<MemFiles, Memory>
-        ensures { IfOk result (λ m. m ≡ record { files = []; failing = failing.now; calls = 0 }) }
+        ensures { IfOk result (λ m. m ≡ record { files = []; piece = 2 ^ 64 - 1; failing = failing.now; calls = 0 }) }
+    {
+        MemFiles::short(alloc, usize::MAX, failing)
+    }
+
+    /// No files yet, of which each read will give at most `piece` bytes. The reads with these numbers
+    /// will fail.
+    pub fn short(alloc: Global, piece: usize, failing: &[u64]) -> Result<MemFiles, Memory>
+        requires { 1 ≤ piece }
+        ensures { IfOk result (λ m. m ≡ record { files = []; piece = piece; failing = failing.now; calls = 0 }) }
     {
         Ok(MemFiles {
             files: Table::new(alloc),
+            piece,
             failing: Vec::from_slice(alloc, failing)?,
             calls: 0,
         })
@@ -80,11 +94,12 @@ impl Files for MemFiles {
         ensures fails { IsErr result ↔ (Contains self.old.failing (next_count self.old.calls)
             ⊎ (is_held self.old.files name.now ≡ false)) }
         ensures exact { IfOk result (λ n. (text : List ℕ) → bytes_of self.old.files name.now ≡ Some text
-            → n ≡ min (length into.old) (length text - at)) }
+            → n ≡ min self.old.piece (min (length into.old) (length text - at))) }
 
         ensures ok { IfOk result (λ n. self.new.files ≡ count_came self.old.files name.now n) }
         ensures err { OnErr result (self.new.files ≡ count_fault self.old.files name.now) }
         ensures calls { self.new.calls ≡ next_count self.old.calls }
+        ensures piece { self.new.piece ≡ self.old.piece }
         ensures failing { self.new.failing ≡ self.old.failing }
     {
         self.calls = next_count(self.calls);
@@ -95,7 +110,7 @@ impl Files for MemFiles {
         let Some(text) = self.files.bytes(name) else {
             return Err(Failed);
         };
-        let count = copy_from(text, at as usize, into);
+        let count = copy_from(text, at as usize, self.piece, into);
         self.files.count_came(name, count);
         Ok(count)
     }

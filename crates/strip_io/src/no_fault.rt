@@ -62,7 +62,7 @@ impl Files for NoFaultFiles {
         ensures counted { IfOk result (λ n. self.new ≡ count_came self.old name.now n) }
     {
         let text = self.files.bytes(name).unwrap_or(&[]);
-        let count = copy_from(text, at as usize, into);
+        let count = copy_from(text, at as usize, into.len(), into);
         self.files.count_came(name, count);
         Ok(count)
     }
