@@ -1,5 +1,6 @@
 -- Which status comes where.
 use Rattle.std.proofs.Common.{◌≡◌, ◌∙◌, ◌≤◌, ◌⊎◌, inl, inr, ℕ, true, false, List, Result, Ok, Err, IfOk, refl, sym, subst}
+use Rattle.strip_io.specs.Files.{FilesData}
 use Rattle.strip_io.specs.Sink.{Took}
 use Rattle.strip_answer.specs.declared.status.Status.{Status}
 use Rattle.strip_answer.specs.declared.status.Status.TheVariants.{Done, NoJob, Bounded, NotAccepted, BadInstance, BadPlan, ReadFault, WriteFault, OutOfMemory}
@@ -8,7 +9,7 @@ use Rattle.strip_answer.specs.declared.ending.Stop.{Stop}
 use Rattle.strip_answer.specs.declared.ending.Stop.TheVariants.{Read, Memory}
 use Rattle.strip_answer.specs.Status.{code_of}
 use Rattle.strip_answer.specs.Ending.{IsEnd, answer_text}
-use Rattle.strip_answer.specs.Run.{FilesData, RunData, HasReadFault, HasWriteFault, IsOutcome, FilesStay, SinkStays}
+use Rattle.strip_answer.specs.Run.{RunData, HasReadFault, HasWriteFault, IsOutcome, FilesStay, SinkStays}
 use Rattle.strip_answer.specs.Claims.{Claims, AsksFor, IsDue, NameNone}
 use Rattle.strip_answer.specs.Headline.{IsHeadline, IsRead}
 

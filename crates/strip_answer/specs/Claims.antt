@@ -1,10 +1,10 @@
 -- What a program claims of its jobs, and what is due for words and files.
 use Rattle.std.specs.Prelude.{◌≡◌, ◌⊎◌, ℕ, List, codes, None}
+use Rattle.strip_io.specs.Files.{FilesData}
 use Rattle.strip_text.specs.Told.{ToldData, told_alone}
 use Rattle.strip_answer.specs.declared.status.Status.{Status}
 use Rattle.strip_answer.specs.declared.status.Status.TheVariants.{NoJob}
 use Rattle.strip_answer.specs.Rows.{error_row}
-use Rattle.strip_answer.specs.Run.{FilesData}
 
 -- the jobs of a program: which words name one, which files it asks for, which text is due for it with which status, by the files before
 -- and after; whether it can be done with what its files tell, and how it may end then; and whether it can't, as this status says

@@ -1,19 +1,10 @@
 -- The record of a run, and what each status says of it.
-use Rattle.std.specs.Prelude.{◌≡◌, ℕ, ◌≤◌, Bool, List, Option}
+use Rattle.std.specs.Prelude.{◌≡◌, ℕ, ◌≤◌, List, Option}
 use Rattle.strip_io.specs.Counts.{ReadFailed, Rose}
+use Rattle.strip_io.specs.Files.{FilesData}
 use Rattle.strip_io.specs.Sink.{Took, TookFront}
 use Rattle.strip_answer.specs.declared.status.Status.{Status}
 use Rattle.strip_answer.specs.declared.status.Status.TheVariants.{ReadFault, WriteFault, OutOfMemory}
-
--- the files at a moment: which names are held, their bytes where they are told, how often reads of a name failed, and how many bytes reads of it gave
-pub record FilesData : Type 0 where
-  pub holds : List ℕ → Bool
-  pub bytes : List ℕ → Option (List ℕ)
-  pub faults : List ℕ → ℕ
-  pub came : List ℕ → ℕ
-
-abbrev pub files_data : (List ℕ → Bool) → (List ℕ → Option (List ℕ)) → (List ℕ → ℕ) → (List ℕ → ℕ) → FilesData
-files_data holds bytes faults came = record { holds = holds; bytes = bytes; faults = faults; came = came }
 
 -- the sink at a moment: what it has taken where that is told, and how often writes failed
 pub record SinkData : Type 0 where

@@ -2,9 +2,10 @@
 use Rattle.std.specs.Prelude.{ℕ, List}
 use Rattle.strip_io.specs.Held.{HeldFile}
 
--- what files in memory hold, the numbers of the reads that fail, and how many reads there have been
+-- what files in memory hold, the most that a read gives, the numbers of the reads that fail, and how many reads there have been
 pub record MemoryFiles : Type 0 where
   pub files : List HeldFile
+  pub piece : ℕ
   pub failing : List ℕ
   pub calls : ℕ
 

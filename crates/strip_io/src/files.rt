@@ -1,7 +1,7 @@
 // Files by name, as the program sees them.
-ghost use Rattle.std.specs.Prelude.{◌≡◌, ℕ, ◌+◌, ◌^◌, ◌<◌, ◌≤◌, Bool, List, length, Option, Some, IfOk, OnOk, OnErr, codes};
+ghost use Rattle.std.specs.Prelude.{◌≡◌, ℕ, ◌+◌, ◌^◌, ◌<◌, ◌≤◌, List, length, Some, IfOk, OnOk, OnErr, codes};
 ghost use Rattle.strip_io.specs.Counts.{CameOnly, CountsOnly, ReadFailed};
-ghost use Rattle.strip_io.specs.Files.{CopiesFrom};
+ghost use Rattle.strip_io.specs.Files.{CopiesFrom, FilesData};
 
 use std::alloc::{AllocError, AllocFailed};
 use std::error::Error;
@@ -53,17 +53,8 @@ impl Error for Memory {}
 
 /// Files by name. A name is a text, seen as its bytes.
 pub trait Files {
-    /// Which names are held.
-    ghost holds: { Self → List ℕ → Bool };
-
-    /// The bytes of a held name, where they are told.
-    ghost bytes: { Self → List ℕ → Option (List ℕ) };
-
-    /// How often reads of a name have failed, at most 2^64 - 1.
-    ghost faults: { Self → List ℕ → ℕ };
-
-    /// How many bytes reads of a name have given, at most 2^64 - 1.
-    ghost came: { Self → List ℕ → ℕ };
+    /// The files as they stand: which names are held, their bytes where they are told, and both counts.
+    ghost state: { Self → FilesData };
 
     /// How many reads there have been, over all names, where they are counted.
     ghost reads: { Self → ℕ } = { λ _. 0 };
@@ -75,19 +66,19 @@ pub trait Files {
         requires place { at ≤ 2 ^ 31 }
 
         ensures within { IfOk result (λ n. n ≤ length into.new) }
-        ensures copied { IfOk result (λ n. (text : List ℕ) → bytes self.old name.now ≡ Some text
+        ensures copied { IfOk result (λ n. (text : List ℕ) → (state self.old).bytes name.now ≡ Some text
             → CopiesFrom text at n into.new) }
 
         // It fails only where the count of this name rose in this call, or the name isn't held.
-        ensures cause { OnErr result (ReadFailed name.now (holds self.old) (faults self.old) (faults self.new)) }
+        ensures cause { OnErr result (ReadFailed name.now (state self.old).holds (state self.old).faults (state self.new).faults) }
 
-        ensures held { holds self.new ≡ holds self.old }
-        ensures told { bytes self.new ≡ bytes self.old }
-        ensures counts { CountsOnly name.now (faults self.old) (faults self.new) }
+        ensures held { (state self.new).holds ≡ (state self.old).holds }
+        ensures told { (state self.new).bytes ≡ (state self.old).bytes }
+        ensures counts { CountsOnly name.now (state self.old).faults (state self.new).faults }
 
         // A read that answers Ok hides no fault, and one that fails gave nothing.
-        ensures unfailed { OnOk result (faults self.new ≡ faults self.old) }
-        ensures came { IfOk result (λ n. CameOnly name.now n (came self.old) (came self.new)) }
-        ensures none_came { OnErr result (came self.new ≡ came self.old) }
+        ensures unfailed { OnOk result ((state self.new).faults ≡ (state self.old).faults) }
+        ensures came { IfOk result (λ n. CameOnly name.now n (state self.old).came (state self.new).came) }
+        ensures none_came { OnErr result ((state self.new).came ≡ (state self.old).came) }
         ensures one_read { reads self.new ≤ reads self.old + 1 };
 }

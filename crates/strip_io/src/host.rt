@@ -2,6 +2,7 @@
 ghost use Rattle.std.specs.Prelude.{◌≡◌, ◌↔◌, ℕ, ◌^◌, ◌<◌, ◌≤◌, false, List, length, map, take, string_bytes, None, IfOk, OnOk, OnErr, IsErr, IsTrue, Contains};
 ghost use Rattle.std.specs.Io.KnownBytes.{Appends, Keeps};
 ghost use Rattle.strip_io.specs.Counts.{CameOnly, CountsOnly, ReadFailed, Rose};
+ghost use Rattle.strip_io.specs.Files.{files_data};
 ghost use Rattle.strip_io.specs.Held.{came_of, count_came, count_fault, faults_of, is_held, next_count};
 ghost use Rattle.strip_io.specs.Streams.{GaveFrom};
 
@@ -69,13 +70,7 @@ fn read_file<R: rt::Files>(host: &R, name: &str, at: u64, into: &mut [u8]) -> io
 }
 
 impl<'r, R: rt::Files> Files for HostFiles<'r, R> {
-    ghost holds = { λ f. is_held f };
-
-    ghost bytes = { λ _ _. None };
-
-    ghost faults = { λ f. faults_of f };
-
-    ghost came = { λ f. came_of f };
+    ghost state = { λ f. files_data (is_held f) (λ _. None) (faults_of f) (came_of f) };
 
     fn read(&mut self, name: &str, at: u64, into: &mut [u8]) -> Result<usize, Failed>
         requires room { 0 < length into.old }

@@ -1,7 +1,7 @@
 // Files in memory, which fail at chosen reads.
 ghost use Rattle.std.specs.Prelude.{◌≡◌, ◌≢◌, ◌⊎◌, ◌↔◌, ℕ, ◌+◌, ◌-◌, ◌^◌, ◌<◌, ◌≤◌, min, false, List, [], length, Some, IfOk, OnOk, OnErr, IsErr, Contains};
 ghost use Rattle.strip_io.specs.Counts.{CameOnly, CountsOnly, ReadFailed};
-ghost use Rattle.strip_io.specs.Files.{CopiesFrom};
+ghost use Rattle.strip_io.specs.Files.{CopiesFrom, files_data};
 ghost use Rattle.strip_io.specs.Held.{bytes_of, came_of, count_came, count_fault, faults_of, is_held, next_count, put};
 
 use crate::table::{Table, copy_from};
@@ -15,25 +15,39 @@ use std::marker::Model;
 #[derive(Drop)]
 pub struct MemFiles {
     files: Table,
+    piece: usize,
     failing: Vec<u64>,
     calls: u64,
 }
 
 impl Model for MemFiles {
+    ghost use Rattle.std.specs.Prelude.{◌≤◌};
     ghost use Rattle.strip_io.specs.Memory.{MemoryFiles};
 
     ghost Value = { MemoryFiles };
 
-    ghost view = { λ m. record { files = m.files; failing = m.failing.items; calls = m.calls } };
+    ghost view = { λ m. record { files = m.files; piece = m.piece; failing = m.failing.items; calls = m.calls } };
+
+    ghost invariant = { λ m. 1 ≤ m.piece };
 }
 
 impl MemFiles {
-    /// No files yet. The reads with these numbers will fail.
+    /// No files yet, whose reads will give as many bytes as fit. The reads with these numbers will fail.
     pub fn new(alloc: Global, failing: &[u64]) -> Result<MemFiles, Memory>
-        ensures { IfOk result (λ m. m ≡ record { files = []; failing = failing.now; calls = 0 }) }
+        ensures { IfOk result (λ m. m ≡ record { files = []; piece = 2 ^ 64 - 1; failing = failing.now; calls = 0 }) }
+    {
+        MemFiles::short(alloc, usize::MAX, failing)
+    }
+
+    /// No files yet, of which each read will give at most `piece` bytes. The reads with these numbers
+    /// will fail.
+    pub fn short(alloc: Global, piece: usize, failing: &[u64]) -> Result<MemFiles, Memory>
+        requires { 1 ≤ piece }
+        ensures { IfOk result (λ m. m ≡ record { files = []; piece = piece; failing = failing.now; calls = 0 }) }
     {
         Ok(MemFiles {
             files: Table::new(alloc),
+            piece,
             failing: Vec::from_slice(alloc, failing)?,
             calls: 0,
         })
@@ -56,13 +70,7 @@ impl MemFiles {
 }
 
 impl Files for MemFiles {
-    ghost holds = { λ m. is_held m.files };
-
-    ghost bytes = { λ m. bytes_of m.files };
-
-    ghost faults = { λ m. faults_of m.files };
-
-    ghost came = { λ m. came_of m.files };
+    ghost state = { λ m. files_data (is_held m.files) (bytes_of m.files) (faults_of m.files) (came_of m.files) };
 
     ghost reads = { λ m. m.calls };
 
@@ -86,11 +94,12 @@ impl Files for MemFiles {
         ensures fails { IsErr result ↔ (Contains self.old.failing (next_count self.old.calls)
             ⊎ (is_held self.old.files name.now ≡ false)) }
         ensures exact { IfOk result (λ n. (text : List ℕ) → bytes_of self.old.files name.now ≡ Some text
-            → n ≡ min (length into.old) (length text - at)) }
+            → n ≡ min self.old.piece (min (length into.old) (length text - at))) }
 
         ensures ok { IfOk result (λ n. self.new.files ≡ count_came self.old.files name.now n) }
         ensures err { OnErr result (self.new.files ≡ count_fault self.old.files name.now) }
         ensures calls { self.new.calls ≡ next_count self.old.calls }
+        ensures piece { self.new.piece ≡ self.old.piece }
         ensures failing { self.new.failing ≡ self.old.failing }
     {
         self.calls = next_count(self.calls);
@@ -101,7 +110,7 @@ impl Files for MemFiles {
         let Some(text) = self.files.bytes(name) else {
             return Err(Failed);
         };
-        let count = copy_from(text, at as usize, into);
+        let count = copy_from(text, at as usize, self.piece, into);
         self.files.count_came(name, count);
         Ok(count)
     }

@@ -2,7 +2,7 @@
 ghost use Rattle.std.specs.Prelude.{◌≡◌, ◌≢◌, ℕ, ◌+◌, ◌-◌, ◌^◌, ◌<◌, ◌≤◌, min, true, List, [], length, Some, None, Ok, IfOk, OnOk, OnErr};
 ghost use Rattle.std.specs.Option.{unwrap_or};
 ghost use Rattle.strip_io.specs.Counts.{CameOnly};
-ghost use Rattle.strip_io.specs.Files.{CopiesFrom};
+ghost use Rattle.strip_io.specs.Files.{CopiesFrom, files_data};
 ghost use Rattle.strip_io.specs.Held.{bytes_of, bytes_or_empty, came_of, count_came, put};
 
 use crate::table::{Table, copy_from};
@@ -48,13 +48,7 @@ impl NoFaultFiles {
 }
 
 impl Files for NoFaultFiles {
-    ghost holds = { λ _ _. true };
-
-    ghost bytes = { λ f. bytes_or_empty f };
-
-    ghost faults = { λ _ _. 0 };
-
-    ghost came = { λ f. came_of f };
+    ghost state = { λ f. files_data (λ _. true) (bytes_or_empty f) (λ _. 0) (came_of f) };
 
     fn read(&mut self, name: &str, at: u64, into: &mut [u8]) -> Result<usize, Failed>
         requires room { 0 < length into.old }
@@ -68,7 +62,7 @@ impl Files for NoFaultFiles {
         ensures counted { IfOk result (λ n. self.new ≡ count_came self.old name.now n) }
     {
         let text = self.files.bytes(name).unwrap_or(&[]);
-        let count = copy_from(text, at as usize, into);
+        let count = copy_from(text, at as usize, into.len(), into);
         self.files.count_came(name, count);
         Ok(count)
     }

@@ -104,13 +104,14 @@ impl Table {
     }
 }
 
-// Copies bytes of the text from a place on to the front of `into`, as many as there are and fit.
-pub(crate) fn copy_from(text: &[u8], at: usize, into: &mut [u8]) -> usize
-    ensures count { result ≡ min (length into.old) (length text.now - at) }
+// Copies bytes of the text from a place on to the front of `into`, as many as there are and fit, and at
+// most so many.
+pub(crate) fn copy_from(text: &[u8], at: usize, most: usize, into: &mut [u8]) -> usize
+    ensures count { result ≡ min most (min (length into.old) (length text.now - at)) }
     ensures bytes { take result into.new ≡ take result (drop at text.now) }
 {
     let rest = &text[at.min(text.len())..];
-    let count = rest.len().min(into.len());
+    let count = rest.len().min(into.len()).min(most);
     into[..count].copy_from_slice(&rest[..count]);
     count
 }

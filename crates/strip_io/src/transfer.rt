@@ -65,25 +65,25 @@ pub fn load<F: Files>(
 ) -> Result<Vec<u8>, LoadFault>
     requires { limit ≤ 2 ^ 30 }
 
-    ensures all { IfOk result (λ v. (text : List ℕ) → F.bytes files.old name.now ≡ Some text → v.items ≡ text) }
+    ensures all { IfOk result (λ v. (text : List ℕ) → (F.state files.old).bytes name.now ≡ Some text → v.items ≡ text) }
     ensures short { IfOk result (λ v. vec_len v ≤ limit) }
 
     ensures too_long { result ≡ Err LoadFault.TooLong → (text : List ℕ)
-        → F.bytes files.old name.now ≡ Some text → limit < length text }
+        → (F.state files.old).bytes name.now ≡ Some text → limit < length text }
     ensures read { result ≡ Err LoadFault.Read
-        → ReadFailed name.now (F.holds files.old) (F.faults files.old) (F.faults files.new) }
+        → ReadFailed name.now (F.state files.old).holds (F.state files.old).faults (F.state files.new).faults }
 
-    ensures held { F.holds files.new ≡ F.holds files.old }
-    ensures told { F.bytes files.new ≡ F.bytes files.old }
-    ensures counts { CountsOnly name.now (F.faults files.old) (F.faults files.new) }
-    ensures unfailed { result ≢ Err LoadFault.Read → F.faults files.new ≡ F.faults files.old }
+    ensures held { (F.state files.new).holds ≡ (F.state files.old).holds }
+    ensures told { (F.state files.new).bytes ≡ (F.state files.old).bytes }
+    ensures counts { CountsOnly name.now (F.state files.old).faults (F.state files.new).faults }
+    ensures unfailed { result ≢ Err LoadFault.Read → (F.state files.new).faults ≡ (F.state files.old).faults }
 
     // What came in this call, also where no bytes are told: as many bytes as it answers, or too many.
-    ensures came { IfOk result (λ v. CameOnly name.now (vec_len v) (F.came files.old) (F.came files.new)) }
+    ensures came { IfOk result (λ v. CameOnly name.now (vec_len v) (F.state files.old).came (F.state files.new).came) }
     ensures too_many { result ≡ Err LoadFault.TooLong
-        → CameAtLeast (limit + 1) (F.came files.old name.now) (F.came files.new name.now) }
+        → CameAtLeast (limit + 1) ((F.state files.old).came name.now) ((F.state files.new).came name.now) }
     ensures reads { F.reads files.new ≤ F.reads files.old + (limit + 1) }
-    ensures none_else { (other : List ℕ) → other ≢ name.now → F.came files.new other ≡ F.came files.old other }
+    ensures none_else { (other : List ℕ) → other ≢ name.now → (F.state files.new).came other ≡ (F.state files.old).came other }
 {
     let mut all = Vec::new(alloc);
     let mut piece = vec![in alloc; 0; PIECE]?;

@@ -10,9 +10,9 @@ pub loop-turn-init : goal.loop-turn-init
 loop-turn-init g c = record {
   held = refl;
   told = refl;
-  counts = counts_stay c.args.name.now (g.F.Files.faults c.args.files.now);
+  counts = counts_stay c.args.name.now (g.F.Files.state c.args.files.now).faults;
   unfailed = refl;
-  came = none_so_far c.args.name.now _ (g.F.Files.came c.args.files.now) c.new-all.ensures.len;
+  came = none_so_far c.args.name.now _ (g.F.Files.state c.args.files.now).came c.new-all.ensures.len;
   reads = omega arith;
   name = refl;
   limit = refl;
@@ -24,7 +24,7 @@ loop-turn-init g c = record {
 
 pub returns-in_err-count-clause-read : goal.returns-in_err-count-clause-read
 returns-in_err-count-clause-read g c =
-    λ _. failed_since c.args.name.now (g.F.Files.holds c.args.files.now) (g.F.Files.holds c.loop-turn.files) (g.F.Files.faults c.args.files.now) (g.F.Files.faults c.loop-turn.files) (g.F.Files.faults c.read.new.self) c.loop-turn.invariant.counts c.loop-turn.invariant.held c.in_err-count.ensures.cause
+    λ _. failed_since c.args.name.now (g.F.Files.state c.args.files.now).holds (g.F.Files.state c.loop-turn.files).holds (g.F.Files.state c.args.files.now).faults (g.F.Files.state c.loop-turn.files).faults (g.F.Files.state c.read.new.self).faults c.loop-turn.invariant.counts c.loop-turn.invariant.held c.in_err-count.ensures.cause
 
 pub returns-then-count-eq0-clause-all : goal.returns-then-count-eq0-clause-all
 returns-then-count-eq0-clause-all g c = λ text told.
@@ -69,4 +69,4 @@ loop-turn-preserved g c =
 pub returns-then-count-eq0-clause-came : goal.returns-then-count-eq0-clause-came
 returns-then-count-eq0-clause-came g c =
     let all = came_all _ _ _ _ _ _ c.loop-turn.invariant.came c.in_ok-count.ensures.came in
-    subst (λ (n : ℕ). CameOnly c.args.name.now n (g.F.Files.came c.args.files.now) (g.F.Files.came c.read.new.self)) (omega arith) all
+    subst (λ (n : ℕ). CameOnly c.args.name.now n (g.F.Files.state c.args.files.now).came (g.F.Files.state c.read.new.self).came) (omega arith) all
