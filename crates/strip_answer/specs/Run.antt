@@ -1,18 +1,10 @@
 -- The record of a run, and what each status says of it.
-use Rattle.std.specs.Prelude.{◌≡◌, ℕ, ◌≤◌, List, Option}
+use Rattle.std.specs.Prelude.{◌≡◌, ℕ, ◌≤◌, List}
 use Rattle.strip_io.specs.Counts.{ReadFailed, Rose}
 use Rattle.strip_io.specs.Files.{FilesData}
-use Rattle.strip_io.specs.Sink.{Took, TookFront}
+use Rattle.strip_io.specs.Sink.{SinkData, Took, TookFront}
 use Rattle.strip_answer.specs.declared.status.Status.{Status}
 use Rattle.strip_answer.specs.declared.status.Status.TheVariants.{ReadFault, WriteFault, OutOfMemory}
-
--- the sink at a moment: what it has taken where that is told, and how often writes failed
-pub record SinkData : Type 0 where
-  pub taken : Option (List ℕ)
-  pub faults : ℕ
-
-abbrev pub sink_data : Option (List ℕ) → ℕ → SinkData
-sink_data taken faults = record { taken = taken; faults = faults }
 
 -- a run: the words that the program is given, and the files and the sink before and after
 pub record RunData : Type 0 where
@@ -21,6 +13,15 @@ pub record RunData : Type 0 where
   pub files_after : FilesData
   pub sink_before : SinkData
   pub sink_after : SinkData
+
+abbrev pub run_data : List (List ℕ) → FilesData → FilesData → SinkData → SinkData → RunData
+run_data words files_before files_after sink_before sink_after = record {
+  words = words;
+  files_before = files_before;
+  files_after = files_after;
+  sink_before = sink_before;
+  sink_after = sink_after;
+}
 
 -- a read of a file that is asked for failed, and a write
 abbrev pub HasReadFault : FilesData → FilesData → (List ℕ → Type 0) → Type 0

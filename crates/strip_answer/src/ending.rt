@@ -30,8 +30,8 @@ impl From<Memory> for Stop {
 /// Writes the answer's text and gives its status, or that of what kept it from being given: no byte
 /// is written where there is no answer. It takes no memory.
 pub fn finish<S: Sink>(out: &mut S, answer: &Result<Answer, Stop>) -> Status
-    ensures ends { IsEnd answer.now (S.taken out.old) (S.taken out.new) (S.faults out.old) (S.faults out.new) result }
-    ensures later { S.faults out.old ≤ S.faults out.new }
+    ensures ends { IsEnd answer.now (S.state out.old).taken (S.state out.new).taken (S.state out.old).faults (S.state out.new).faults result }
+    ensures later { (S.state out.old).faults ≤ (S.state out.new).faults }
 {
     match answer {
         Ok(answer) => match print(out, answer) {
@@ -45,11 +45,11 @@ pub fn finish<S: Sink>(out: &mut S, answer: &Result<Answer, Stop>) -> Status
 
 /// Writes the answer's text, and behind it the rows of its lines.
 fn print<S: Sink>(out: &mut S, answer: &Answer) -> Result<(), Failed>
-    ensures ok { OnOk result (Took (S.taken out.old) (S.taken out.new) (answer_text answer.now)) }
-    ensures cause { OnErr result (Rose (S.faults out.old) (S.faults out.new)) }
-    ensures front { OnErr result (TookFront (S.taken out.old) (S.taken out.new) (answer_text answer.now)) }
-    ensures later { S.faults out.old ≤ S.faults out.new }
-    ensures unfailed { OnOk result (S.faults out.new ≡ S.faults out.old) }
+    ensures ok { OnOk result (Took (S.state out.old).taken (S.state out.new).taken (answer_text answer.now)) }
+    ensures cause { OnErr result (Rose (S.state out.old).faults (S.state out.new).faults) }
+    ensures front { OnErr result (TookFront (S.state out.old).taken (S.state out.new).taken (answer_text answer.now)) }
+    ensures later { (S.state out.old).faults ≤ (S.state out.new).faults }
+    ensures unfailed { OnOk result ((S.state out.new).faults ≡ (S.state out.old).faults) }
 {
     texts_are_taken_in_parts();
     send(out, &answer.text)?;

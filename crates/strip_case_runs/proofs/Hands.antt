@@ -7,8 +7,7 @@ use Rattle.std.proofs.lemmas.Bool.{cases_Bool}
 use Rattle.std.proofs.lemmas.List.Elements.{All-contains, All-contains_itself, All-filter, All-take, Contains-append_left, Contains-push, Contains-push_cases, filter_passes}
 use Rattle.std.proofs.lemmas.List.{take_more}
 use Rattle.std.proofs.lemmas.Slice.Eq.{bytes_eq-Decides}
-use Rattle.strip_io.specs.Held.{HeldFile, found, bytes_of, came_of, faults_of, is_held}
-use Rattle.strip_answer.specs.Run.{FilesData, files_data}
+use Rattle.strip_io.specs.Held.{HeldFile, found, bytes_of, faults_of, held_data, is_held}
 use Rattle.strip_cases.specs.declared.case.Base.{Base}
 use Rattle.strip_cases.specs.declared.case.Base.TheVariants.{Within}
 use Rattle.strip_cases.specs.declared.case.Held.{Held}
@@ -81,9 +80,6 @@ apart_now name bytes before after apart now = record {
 pub apart_none : AreApart []
 apart_none = record { same = λ name one other there. absurd (omega (arith, there.1.1)) }
 
-abbrev pub shown : List HeldFile → FilesData
-shown files = files_data (is_held files) (bytes_of files) (faults_of files) (came_of files)
-
 -- a name is held where its bytes are told
 held_told : (files : List HeldFile) (name : List ℕ) (there : Option HeldFile) → found files name ≡ there → is_some there ≡ true → (bytes : List ℕ) × (bytes_of files name ≡ Some bytes)
 held_told files name None is held = absurd (let falls : false ≡ true = held in cc)
@@ -94,7 +90,7 @@ told_held files name bytes None is told = absurd (cc)
 told_held files name bytes (Some file) is told = ap is_some is
 
 source_by : (files : List Held) (source : List HeldFile) → ((name bytes : List ℕ) → (bytes_of source name ≡ Some bytes) ↔ IsHeld files name bytes) → ((name : List ℕ) → faults_of source name ≡ 0)
-    → IsSource files (shown source)
+    → IsSource files (held_data source)
 source_by files source told unread = record {
   told = told;
   held = λ name. (
@@ -104,13 +100,13 @@ source_by files source told unread = record {
   unread = unread;
 }
 
-pub source_none : IsSource [] (shown [])
+pub source_none : IsSource [] (held_data [])
 source_none = source_by [] [] (λ name bytes. ((λ told. absurd (cc)), (λ there. absurd (omega (arith, there.1.1))))) (λ name. refl)
 
-pub source_push : (seen : List Held) (held : Held) (before after : List HeldFile) → AreApart (seen ++ held ∷ []) → IsSource seen (shown before)
+pub source_push : (seen : List Held) (held : Held) (before after : List HeldFile) → AreApart (seen ++ held ∷ []) → IsSource seen (held_data before)
     → bytes_of after (string_bytes held.name) ≡ Some held.bytes.items
     → ((other : List ℕ) → other ≢ string_bytes held.name → bytes_of after other ≡ bytes_of before other)
-    → ((other : List ℕ) → faults_of after other ≡ faults_of before other) → IsSource (seen ++ held ∷ []) (shown after)
+    → ((other : List ℕ) → faults_of after other ≡ faults_of before other) → IsSource (seen ++ held ∷ []) (held_data after)
 source_push seen held before after apart is told others counts =
     let here : IsHeld (seen ++ held ∷ []) (string_bytes held.name) held.bytes.items = (held, Contains-push seen held, refl, refl) in
     source_by (seen ++ held ∷ []) after (λ name bytes. elim (cases_Bool (bytes_eq name (string_bytes held.name))) [
@@ -143,12 +139,12 @@ apart_take files n apart = record {
     within name bytes there = (there.0, All-contains (Contains files) (take n files) there.0 (All-take (Contains files) n files (All-contains_itself files)) there.1, there.2, there.3)
 
 pub source_more : (files : List Held) (i : ℕ) (held : Held) (before after : List HeldFile) → AreApart files → i < length files → held ≡ get_or files i held
-    → IsSource (take i files) (shown before) → bytes_of after (string_bytes held.name) ≡ Some held.bytes.items
+    → IsSource (take i files) (held_data before) → bytes_of after (string_bytes held.name) ≡ Some held.bytes.items
     → ((other : List ℕ) → other ≢ string_bytes held.name → bytes_of after other ≡ bytes_of before other)
-    → ((other : List ℕ) → faults_of after other ≡ faults_of before other) → IsSource (take (i + 1) files) (shown after)
+    → ((other : List ℕ) → faults_of after other ≡ faults_of before other) → IsSource (take (i + 1) files) (held_data after)
 source_more files i held before after apart within at is told others counts =
     let more : take (i + 1) files ≡ take i files ++ held ∷ [] = take_more files i held within ∙ ap (λ (file : Held). take i files ++ file ∷ []) (sym at) in
-    subst (λ (list : List Held). IsSource list (shown after)) (sym more)
+    subst (λ (list : List Held). IsSource list (held_data after)) (sym more)
     (source_push (take i files) held before after (subst AreApart more (apart_take files (i + 1) apart)) is told others counts)
 
 pub within_held : (files : List Held) (base : Base) (of : String Global) (row : ℕ) (rows bytes whole : List ℕ) → base ≡ Within of row → IsHeld files (string_bytes of) whole

@@ -1,6 +1,6 @@
 -- The files at hand in a case, and how they change.
 use Rattle.std.specs.Prelude.{◌≡◌, ◌≢◌, ◌↔◌, ℕ, true, List, ◌++◌, Some, string_bytes}
-use Rattle.strip_answer.specs.Run.{FilesData}
+use Rattle.strip_io.specs.Files.{FilesData}
 use Rattle.strip_cases.specs.declared.case.Base.{Base}
 use Rattle.strip_cases.specs.declared.case.Base.TheVariants.{None, Behind, Within}
 use Rattle.strip_cases.specs.declared.case.Given.{Given}

@@ -1,7 +1,6 @@
 // The files at hand in a case.
 ghost use Rattle.std.specs.Prelude.{◌≡◌, ◌++◌, [], length, Ok, None, IfOk, IfSome, OnOk, string_bytes};
-ghost use Rattle.strip_io.specs.Held.{bytes_of, came_of, faults_of, is_held};
-ghost use Rattle.strip_answer.specs.Run.{files_data};
+ghost use Rattle.strip_io.specs.Held.{held_data};
 ghost use Rattle.strip_cases.specs.Met.{IsHeld};
 ghost use Rattle.strip_case_runs.specs.AtHand.{AreApart, HasBytes, IsGiven, IsNowHeld, IsSource};
 
@@ -113,7 +112,7 @@ fn within(
 /// The files as a source in which these reads fail.
 pub(crate) fn source(alloc: Global, files: &[Held], failing: &[u64]) -> Result<MemFiles, Memory>
     requires { AreApart files.now }
-    ensures { IfOk result (λ source. IsSource files.now (files_data (is_held source.files) (bytes_of source.files) (faults_of source.files) (came_of source.files))) }
+    ensures { IfOk result (λ source. IsSource files.now (held_data source.files)) }
 {
     let mut source = MemFiles::new(alloc, failing)?;
     for held in files {

@@ -1,7 +1,7 @@
 // Case files that are judged: each of their cases is run.
 ghost use Rattle.std.specs.Prelude.{◌≡◌, ◌↔◌, ◌+◌, ◌-◌, ◌^◌, ◌≤◌, min, false, List, [], ◌∷◌, ◌++◌, length, Option, Some, IfOk, IfSome, OnOk, string_bytes};
 ghost use Rattle.strip_words.specs.Shown.{texts};
-ghost use Rattle.strip_answer.specs.Run.{files_data, sink_data};
+ghost use Rattle.strip_answer.specs.Run.{run_data};
 ghost use Rattle.strip_cases.specs.declared.case.Cases.{Cases};
 ghost use Rattle.strip_case_runs.specs.Runs.{IsCaseMet};
 ghost use Rattle.strip_case_runs.specs.Judged.{IsCounted, IsJudgement, IsReadFrom, end_status, last_row};
@@ -34,13 +34,8 @@ pub fn judge<R: Threads + Wait + Sync, F: Files, S: Sink>(
     files: &mut F,
     out: &mut S,
 ) -> Result<u8, Memory>
-    ensures judged { IfOk result (IsJudgement (record {
-      words = texts names.now;
-      files_before = files_data (F.holds files.old) (F.bytes files.old) (F.faults files.old) (F.came files.old);
-      files_after = files_data (F.holds files.new) (F.bytes files.new) (F.faults files.new) (F.came files.new);
-      sink_before = sink_data (S.taken out.old) (S.faults out.old);
-      sink_after = sink_data (S.taken out.new) (S.faults out.new);
-    })) }
+    ensures judged { IfOk result (IsJudgement (run_data (texts names.now)
+        (F.state files.old) (F.state files.new) (S.state out.old) (S.state out.new))) }
 {
     let mut tally = Tally {
         cases: 0,
@@ -89,8 +84,8 @@ fn judge_file<R: Threads + Wait + Sync, F: Files>(
     name: &str,
     tally: &mut Tally,
 ) -> Result<String, Memory>
-    ensures told { F.bytes files.new ≡ F.bytes files.old }
-    ensures counted { OnOk result ((file : Option Cases) × IfSome file (IsReadFrom (F.bytes files.old name.now)) × ((files : List (Option Cases))
+    ensures told { (F.state files.new).bytes ≡ (F.state files.old).bytes }
+    ensures counted { OnOk result ((file : Option Cases) × IfSome file (IsReadFrom ((F.state files.old).bytes name.now)) × ((files : List (Option Cases))
         → IsCounted files tally.old.cases tally.old.differing tally.old.is_unread
         → IsCounted (files ++ file ∷ []) tally.new.cases tally.new.differing tally.new.is_unread)) }
 {
@@ -106,8 +101,8 @@ fn judge_file<R: Threads + Wait + Sync, F: Files>(
 
 /// The cases of a file of this name.
 fn cases_of<F: Files>(alloc: Global, files: &mut F, name: &str) -> Result<Cases, CaseFault>
-    ensures told { F.bytes files.new ≡ F.bytes files.old }
-    ensures read { IfOk result (IsReadFrom (F.bytes files.old name.now)) }
+    ensures told { (F.state files.new).bytes ≡ (F.state files.old).bytes }
+    ensures read { IfOk result (IsReadFrom ((F.state files.old).bytes name.now)) }
 {
     match load(alloc, files, name, LONGEST) {
         Ok(text) => read_cases(alloc, &text),

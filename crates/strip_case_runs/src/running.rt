@@ -1,8 +1,9 @@
 // Cases that are run.
 ghost use Rattle.std.specs.Prelude.{◌≡◌, [], Ok, None, Some, IfOk, OnOk};
-ghost use Rattle.strip_io.specs.Held.{bytes_of, came_of, faults_of, is_held};
+ghost use Rattle.strip_io.specs.Held.{held_data};
+ghost use Rattle.strip_io.specs.Memory.{memory_sink_data};
 ghost use Rattle.strip_words.specs.Shown.{texts};
-ghost use Rattle.strip_answer.specs.Run.{files_data, sink_data};
+ghost use Rattle.strip_answer.specs.Run.{run_data};
 ghost use Rattle.strip_case_runs.specs.AtHand.{AreApart, IsGiven};
 ghost use Rattle.strip_case_runs.specs.Runs.{InTurn, IsCaseMet, IsDone, IsKept, IsClaimedBy, IsStepMet};
 
@@ -119,13 +120,8 @@ fn run_program<R: Threads + Wait + Sync>(
     files: &mut MemFiles,
     out: &mut MemSink,
 ) -> u8
-    ensures { IsClaimedBy program (record {
-      words = texts words.now;
-      files_before = files_data (is_held files.old.files) (bytes_of files.old.files) (faults_of files.old.files) (came_of files.old.files);
-      files_after = files_data (is_held files.new.files) (bytes_of files.new.files) (faults_of files.new.files) (came_of files.new.files);
-      sink_before = sink_data (Some out.old.taken) out.old.faults;
-      sink_after = sink_data (Some out.new.taken) out.new.faults;
-    }) result }
+    ensures { IsClaimedBy program (run_data (texts words.now)
+        (held_data files.old.files) (held_data files.new.files) (memory_sink_data out.old) (memory_sink_data out.new)) result }
 {
     match program {
         Program::Stripboard => strip_commands::run(rt, alloc, words, files, out, &OpenGate),

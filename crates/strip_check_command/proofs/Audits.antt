@@ -19,7 +19,8 @@ use Rattle.strip_answer.specs.declared.status.Status.TheVariants.{Done, NoJob, B
 use Rattle.strip_answer.specs.Ending.{answer_text}
 use Rattle.strip_answer.specs.Rows.{error_row}
 use Rattle.strip_answer.specs.Status.{code_of}
-use Rattle.strip_answer.specs.Run.{FilesData, IsOutcome, RunData}
+use Rattle.strip_io.specs.Files.{FilesData}
+use Rattle.strip_answer.specs.Run.{IsOutcome, RunData}
 use Rattle.strip_answer.specs.Claims.{AsksFor, IsDue}
 use Rattle.strip_answer.specs.Headline.{IsHeadline}
 use Rattle.strip_answer.proofs.Endings.{AreShown, IsOfJob}

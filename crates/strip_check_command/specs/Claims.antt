@@ -10,7 +10,7 @@ use Rattle.strip_check.specs.Accepted.{IsAccepted, IsTruePlan}
 use Rattle.strip_answer.specs.declared.status.Status.{Status}
 use Rattle.strip_answer.specs.declared.status.Status.TheVariants.{Done, NotAccepted, BadInstance}
 use Rattle.strip_answer.specs.Claims.{Claims}
-use Rattle.strip_answer.specs.Run.{FilesData}
+use Rattle.strip_io.specs.Files.{FilesData}
 use Rattle.strip_inputs.specs.Both.{IsBothDue, IsEither}
 use Rattle.strip_inputs.specs.Fit.{AreFit, AreUnfit}
 use Rattle.strip_inputs.specs.Said.{film_said, plan_said}

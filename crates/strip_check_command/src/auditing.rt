@@ -3,7 +3,7 @@ ghost use Rattle.std.specs.Prelude.{◌≡◌, Err, IfOk, string_bytes};
 ghost use Rattle.strip_proof.specs.Plan.{plan_data};
 ghost use Rattle.strip_check.specs.declared.verdict.Verdict.TheVariants.{Accepted, Refused};
 ghost use Rattle.strip_answer.specs.Ending.{answer_text};
-ghost use Rattle.strip_answer.specs.Run.{FilesStay, HasReadFault, files_data};
+ghost use Rattle.strip_answer.specs.Run.{FilesStay, HasReadFault};
 ghost use Rattle.strip_inputs.specs.Both.{IsEither};
 ghost use Rattle.strip_words.specs.Shown.{plan_files_data};
 ghost use Rattle.strip_check_command.specs.Claims.{IsAuditDue};
@@ -22,17 +22,11 @@ use strip_words::PlanFiles;
 /// The answer to a film's file and a plan's: that the plan is accepted, or the first reason why not, or why
 /// a file isn't fit.
 pub fn audit<F: Files>(alloc: Global, files: &mut F, names: &PlanFiles) -> Result<Answer, Stop>
-    ensures due { IfOk result (λ answer. IsAuditDue (plan_files_data names.now)
-        (files_data (F.holds files.old) (F.bytes files.old) (F.faults files.old) (F.came files.old))
-        (files_data (F.holds files.new) (F.bytes files.new) (F.faults files.new) (F.came files.new))
+    ensures due { IfOk result (λ answer. IsAuditDue (plan_files_data names.now) (F.state files.old) (F.state files.new)
         answer.status (answer_text answer)) }
-    ensures read { result ≡ Err Stop.Read → HasReadFault
-        (files_data (F.holds files.old) (F.bytes files.old) (F.faults files.old) (F.came files.old))
-        (files_data (F.holds files.new) (F.bytes files.new) (F.faults files.new) (F.came files.new))
+    ensures read { result ≡ Err Stop.Read → HasReadFault (F.state files.old) (F.state files.new)
         (IsEither (string_bytes names.now.film) (string_bytes names.now.plan)) }
-    ensures files { FilesStay
-        (files_data (F.holds files.old) (F.bytes files.old) (F.faults files.old) (F.came files.old))
-        (files_data (F.holds files.new) (F.bytes files.new) (F.faults files.new) (F.came files.new))
+    ensures files { FilesStay (F.state files.old) (F.state files.new)
         (IsEither (string_bytes names.now.film) (string_bytes names.now.plan)) (result ≡ Err Stop.Read) }
 {
     answer_plan::<AuditJob, F>(alloc, files, names)

@@ -4,7 +4,7 @@ ghost use Rattle.strip_words.specs.Shown.{texts};
 ghost use Rattle.strip_answer.specs.Claims.{AsksFor, IsDue};
 ghost use Rattle.strip_answer.specs.Ending.{answer_text};
 ghost use Rattle.strip_answer.specs.Headline.{IsHeadline};
-ghost use Rattle.strip_answer.specs.Run.{FilesStay, HasReadFault, files_data, sink_data};
+ghost use Rattle.strip_answer.specs.Run.{FilesStay, HasReadFault, run_data};
 ghost use Rattle.strip_check_command.specs.Claims.{IsProved, audit_claims};
 
 use crate::auditing::audit;
@@ -16,15 +16,9 @@ use strip_words::{WordsFault, plan_files};
 /// Checks the plan of the second file that the words name against the film of the first, and answers the
 /// exit status. It takes all its memory before it writes.
 pub fn report<F: Files, S: Sink>(alloc: Global, words: &[String], files: &mut F, out: &mut S) -> u8
-    ensures headline { IsHeadline audit_claims (record {
-      words = texts words.now;
-      files_before = files_data (F.holds files.old) (F.bytes files.old) (F.faults files.old) (F.came files.old);
-      files_after = files_data (F.holds files.new) (F.bytes files.new) (F.faults files.new) (F.came files.new);
-      sink_before = sink_data (S.taken out.old) (S.faults out.old);
-      sink_after = sink_data (S.taken out.new) (S.faults out.new);
-    }) result }
-    ensures proved { result ≡ 0 → IsProved (texts words.now)
-        (files_data (F.holds files.old) (F.bytes files.old) (F.faults files.old) (F.came files.old)) }
+    ensures headline { IsHeadline audit_claims (run_data (texts words.now)
+        (F.state files.old) (F.state files.new) (S.state out.old) (S.state out.new)) result }
+    ensures proved { result ≡ 0 → IsProved (texts words.now) (F.state files.old) }
 {
     let answer = answer_words(alloc, words, files);
     finish(out, &answer).code()
@@ -32,17 +26,11 @@ pub fn report<F: Files, S: Sink>(alloc: Global, words: &[String], files: &mut F,
 
 /// The answer to the words: that they name no two files, or what is due for the two.
 fn answer_words<F: Files>(alloc: Global, words: &[String], files: &mut F) -> Result<Answer, Stop>
-    ensures due { IfOk result (λ answer. IsDue audit_claims (texts words.now)
-        (files_data (F.holds files.old) (F.bytes files.old) (F.faults files.old) (F.came files.old))
-        (files_data (F.holds files.new) (F.bytes files.new) (F.faults files.new) (F.came files.new))
+    ensures due { IfOk result (λ answer. IsDue audit_claims (texts words.now) (F.state files.old) (F.state files.new)
         answer.status (answer_text answer)) }
-    ensures read { result ≡ Err Stop.Read → HasReadFault
-        (files_data (F.holds files.old) (F.bytes files.old) (F.faults files.old) (F.came files.old))
-        (files_data (F.holds files.new) (F.bytes files.new) (F.faults files.new) (F.came files.new))
+    ensures read { result ≡ Err Stop.Read → HasReadFault (F.state files.old) (F.state files.new)
         (AsksFor audit_claims (texts words.now)) }
-    ensures files { FilesStay
-        (files_data (F.holds files.old) (F.bytes files.old) (F.faults files.old) (F.came files.old))
-        (files_data (F.holds files.new) (F.bytes files.new) (F.faults files.new) (F.came files.new))
+    ensures files { FilesStay (F.state files.old) (F.state files.new)
         (AsksFor audit_claims (texts words.now)) (result ≡ Err Stop.Read) }
 {
     // The words are those of the command `check` behind its own.

@@ -17,7 +17,7 @@ use Rattle.strip_proof.specs.declared.plan.Status.TheVariants.{Optimal, Bounded 
 use Rattle.strip_proof.specs.Plan.{PlanData}
 use Rattle.strip_answer.specs.declared.status.Status.{Status}
 use Rattle.strip_answer.specs.declared.status.Status.TheVariants.{Done, Bounded}
-use Rattle.strip_answer.specs.Run.{FilesData}
+use Rattle.strip_io.specs.Files.{FilesData}
 use Rattle.strip_answer.proofs.Endings.{AreShown, IsOfJob}
 use Rattle.strip_inputs.specs.Fit.{AreTold, AreUnfit}
 use Rattle.strip_inputs.specs.Said.{film_said}

@@ -19,7 +19,8 @@ use Rattle.strip_solve.specs.Solved.{Closes}
 use Rattle.strip_answer.specs.declared.status.Status.{Status}
 use Rattle.strip_answer.specs.declared.status.Status.TheVariants.{Done, NoJob, Bounded, NotAccepted, BadInstance, BadPlan, ReadFault, WriteFault, OutOfMemory}
 use Rattle.strip_answer.specs.Status.{code_of}
-use Rattle.strip_answer.specs.Run.{FilesData, IsOutcome, Prints, RunData}
+use Rattle.strip_io.specs.Files.{FilesData}
+use Rattle.strip_answer.specs.Run.{IsOutcome, Prints, RunData}
 use Rattle.strip_answer.specs.Claims.{AsksFor, IsDue}
 use Rattle.strip_answer.specs.Headline.{IsHeadline}
 use Rattle.strip_inputs.specs.Said.{film_said}

@@ -7,7 +7,7 @@ use Rattle.strip_proof.specs.Text.{says}
 use Rattle.strip_words.specs.Plans.{PlanFilesData}
 use Rattle.strip_answer.specs.declared.status.Status.{Status}
 use Rattle.strip_answer.specs.declared.status.Status.TheVariants.{Done}
-use Rattle.strip_answer.specs.Run.{FilesData}
+use Rattle.strip_io.specs.Files.{FilesData}
 use Rattle.strip_inputs.specs.Both.{IsBothDue}
 use Rattle.strip_inputs.specs.Fit.{AreFit}
 

@@ -8,7 +8,7 @@ use Rattle.strip_words.specs.Solve.{SolveData}
 use Rattle.strip_answer.specs.declared.status.Status.{Status}
 use Rattle.strip_answer.specs.declared.status.Status.TheVariants.{BadInstance}
 use Rattle.strip_answer.specs.Rows.{error_row}
-use Rattle.strip_answer.specs.Run.{FilesData}
+use Rattle.strip_io.specs.Files.{FilesData}
 use Rattle.strip_inputs.specs.Fit.{IsNoFilm}
 use Rattle.strip_inputs.specs.Input.{HasInput}
 use Rattle.strip_inputs.specs.Said.{IsRefusal, film_said, too_many_told}

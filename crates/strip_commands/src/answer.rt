@@ -3,7 +3,7 @@ ghost use Rattle.std.specs.Prelude.{◌≡◌, Err, IfOk};
 ghost use Rattle.strip_words.specs.Shown.{job_data, texts};
 ghost use Rattle.strip_answer.specs.Claims.{AsksFor, IsDue};
 ghost use Rattle.strip_answer.specs.Ending.{answer_text};
-ghost use Rattle.strip_answer.specs.Run.{FilesStay, HasReadFault, files_data};
+ghost use Rattle.strip_answer.specs.Run.{FilesStay, HasReadFault};
 ghost use Rattle.strip_commands.specs.Due.{IsDueFor, IsFileOf, IsWithin, board_claims};
 ghost use Rattle.strip_commands.specs.Solver.{Solves};
 
@@ -29,17 +29,11 @@ pub(crate) fn answer_words<
     F: Files,
 >(alloc: Global, solver: &V, words: &[String], files: &mut F) -> Result<Answer, Stop>
     requires { Solves (V.pre solver.now) (V.post solver.now) }
-    ensures due { IfOk result (λ answer. IsDue board_claims (texts words.now)
-        (files_data (F.holds files.old) (F.bytes files.old) (F.faults files.old) (F.came files.old))
-        (files_data (F.holds files.new) (F.bytes files.new) (F.faults files.new) (F.came files.new))
+    ensures due { IfOk result (λ answer. IsDue board_claims (texts words.now) (F.state files.old) (F.state files.new)
         answer.status (answer_text answer)) }
-    ensures read { result ≡ Err Stop.Read → HasReadFault
-        (files_data (F.holds files.old) (F.bytes files.old) (F.faults files.old) (F.came files.old))
-        (files_data (F.holds files.new) (F.bytes files.new) (F.faults files.new) (F.came files.new))
+    ensures read { result ≡ Err Stop.Read → HasReadFault (F.state files.old) (F.state files.new)
         (AsksFor board_claims (texts words.now)) }
-    ensures files { FilesStay
-        (files_data (F.holds files.old) (F.bytes files.old) (F.faults files.old) (F.came files.old))
-        (files_data (F.holds files.new) (F.bytes files.new) (F.faults files.new) (F.came files.new))
+    ensures files { FilesStay (F.state files.old) (F.state files.new)
         (AsksFor board_claims (texts words.now)) (result ≡ Err Stop.Read) }
 {
     numbers_lie_within_their_ends();
@@ -59,17 +53,11 @@ fn answer_job<V: Fn(&Instance, SearchOptions, u32) -> Result<Plan, ReduceFault>,
 ) -> Result<Answer, Stop>
     requires solves { Solves (V.pre solver.now) (V.post solver.now) }
     requires within { IsWithin (job_data job.now) }
-    ensures due { IfOk result (λ answer. IsDueFor (job_data job.now)
-        (files_data (F.holds files.old) (F.bytes files.old) (F.faults files.old) (F.came files.old))
-        (files_data (F.holds files.new) (F.bytes files.new) (F.faults files.new) (F.came files.new))
+    ensures due { IfOk result (λ answer. IsDueFor (job_data job.now) (F.state files.old) (F.state files.new)
         answer.status (answer_text answer)) }
-    ensures read { result ≡ Err Stop.Read → HasReadFault
-        (files_data (F.holds files.old) (F.bytes files.old) (F.faults files.old) (F.came files.old))
-        (files_data (F.holds files.new) (F.bytes files.new) (F.faults files.new) (F.came files.new))
+    ensures read { result ≡ Err Stop.Read → HasReadFault (F.state files.old) (F.state files.new)
         (IsFileOf (job_data job.now)) }
-    ensures files { FilesStay
-        (files_data (F.holds files.old) (F.bytes files.old) (F.faults files.old) (F.came files.old))
-        (files_data (F.holds files.new) (F.bytes files.new) (F.faults files.new) (F.came files.new))
+    ensures files { FilesStay (F.state files.old) (F.state files.new)
         (IsFileOf (job_data job.now)) (result ≡ Err Stop.Read) }
 {
     match job {

@@ -3,7 +3,7 @@ ghost use Rattle.std.specs.Prelude.{◌≤◌};
 ghost use Rattle.std.specs.Thread.{IsSync};
 ghost use Rattle.strip_solve.specs.Answer.{IsAnswerFor, MayBe};
 ghost use Rattle.strip_words.specs.Shown.{texts};
-ghost use Rattle.strip_answer.specs.Run.{files_data, sink_data};
+ghost use Rattle.strip_answer.specs.Run.{run_data};
 ghost use Rattle.strip_answer.specs.Headline.{IsHeadline};
 ghost use Rattle.strip_commands.specs.Due.{board_claims};
 ghost use Rattle.strip_commands.specs.Proved.{IsBoardProved};
@@ -26,20 +26,10 @@ use strip_worker::Gate;
 /// Does all that the program does, and answers its exit status. It reads the files that the words
 /// ask for, and takes all its memory before it writes. One worker searches, whatever the words say.
 pub fn report<F: Files, S: Sink>(alloc: Global, words: &[String], files: &mut F, out: &mut S) -> u8
-    ensures headline { IsHeadline board_claims (record {
-      words = texts words.now;
-      files_before = files_data (F.holds files.old) (F.bytes files.old) (F.faults files.old) (F.came files.old);
-      files_after = files_data (F.holds files.new) (F.bytes files.new) (F.faults files.new) (F.came files.new);
-      sink_before = sink_data (S.taken out.old) (S.faults out.old);
-      sink_after = sink_data (S.taken out.new) (S.faults out.new);
-    }) result }
-    ensures proved { IsBoardProved (record {
-      words = texts words.now;
-      files_before = files_data (F.holds files.old) (F.bytes files.old) (F.faults files.old) (F.came files.old);
-      files_after = files_data (F.holds files.new) (F.bytes files.new) (F.faults files.new) (F.came files.new);
-      sink_before = sink_data (S.taken out.old) (S.faults out.old);
-      sink_after = sink_data (S.taken out.new) (S.faults out.new);
-    }) result }
+    ensures headline { IsHeadline board_claims (run_data (texts words.now)
+        (F.state files.old) (F.state files.new) (S.state out.old) (S.state out.new)) result }
+    ensures proved { IsBoardProved (run_data (texts words.now)
+        (F.state files.old) (F.state files.new) (S.state out.old) (S.state out.new)) result }
 {
     report_by(
         alloc,
@@ -63,20 +53,10 @@ pub fn run<R: Threads + Wait + Sync, F: Files, S: Sink, G: Gate>(
     out: &mut S,
     gate: &G,
 ) -> u8
-    ensures headline { IsHeadline board_claims (record {
-      words = texts words.now;
-      files_before = files_data (F.holds files.old) (F.bytes files.old) (F.faults files.old) (F.came files.old);
-      files_after = files_data (F.holds files.new) (F.bytes files.new) (F.faults files.new) (F.came files.new);
-      sink_before = sink_data (S.taken out.old) (S.faults out.old);
-      sink_after = sink_data (S.taken out.new) (S.faults out.new);
-    }) result }
-    ensures proved { IsBoardProved (record {
-      words = texts words.now;
-      files_before = files_data (F.holds files.old) (F.bytes files.old) (F.faults files.old) (F.came files.old);
-      files_after = files_data (F.holds files.new) (F.bytes files.new) (F.faults files.new) (F.came files.new);
-      sink_before = sink_data (S.taken out.old) (S.faults out.old);
-      sink_after = sink_data (S.taken out.new) (S.faults out.new);
-    }) result }
+    ensures headline { IsHeadline board_claims (run_data (texts words.now)
+        (F.state files.old) (F.state files.new) (S.state out.old) (S.state out.new)) result }
+    ensures proved { IsBoardProved (run_data (texts words.now)
+        (F.state files.old) (F.state files.new) (S.state out.old) (S.state out.new)) result }
 {
     report_by(
         alloc,
@@ -99,20 +79,10 @@ fn report_by<V: Fn(&Instance, SearchOptions, u32) -> Result<Plan, ReduceFault>, 
     out: &mut S,
 ) -> u8
     requires { Solves (V.pre solver.now) (V.post solver.now) }
-    ensures headline { IsHeadline board_claims (record {
-      words = texts words.now;
-      files_before = files_data (F.holds files.old) (F.bytes files.old) (F.faults files.old) (F.came files.old);
-      files_after = files_data (F.holds files.new) (F.bytes files.new) (F.faults files.new) (F.came files.new);
-      sink_before = sink_data (S.taken out.old) (S.faults out.old);
-      sink_after = sink_data (S.taken out.new) (S.faults out.new);
-    }) result }
-    ensures proved { IsBoardProved (record {
-      words = texts words.now;
-      files_before = files_data (F.holds files.old) (F.bytes files.old) (F.faults files.old) (F.came files.old);
-      files_after = files_data (F.holds files.new) (F.bytes files.new) (F.faults files.new) (F.came files.new);
-      sink_before = sink_data (S.taken out.old) (S.faults out.old);
-      sink_after = sink_data (S.taken out.new) (S.faults out.new);
-    }) result }
+    ensures headline { IsHeadline board_claims (run_data (texts words.now)
+        (F.state files.old) (F.state files.new) (S.state out.old) (S.state out.new)) result }
+    ensures proved { IsBoardProved (run_data (texts words.now)
+        (F.state files.old) (F.state files.new) (S.state out.old) (S.state out.new)) result }
 {
     // The words name one job at most, and so its files.
     words_name_one_job();

@@ -6,7 +6,7 @@ ghost use Rattle.strip_words.specs.Jobs.{Solve as ToSolve};
 ghost use Rattle.strip_proof.specs.Plan.{plan_data};
 ghost use Rattle.strip_solve.specs.Answer.{MayBe};
 ghost use Rattle.strip_answer.specs.Ending.{answer_text};
-ghost use Rattle.strip_answer.specs.Run.{FilesStay, files_data};
+ghost use Rattle.strip_answer.specs.Run.{FilesStay};
 ghost use Rattle.strip_inputs.specs.Said.{IsSaidFilm};
 ghost use Rattle.strip_commands.specs.Due.{IsWithin};
 ghost use Rattle.strip_commands.specs.Plan.{exit_of, text_of};
@@ -34,15 +34,11 @@ pub(crate) fn solve<V: Fn(&Instance, SearchOptions, u32) -> Result<Plan, ReduceF
 ) -> Result<Answer, Stop>
     requires solves { Solves (V.pre solver.now) (V.post solver.now) }
     requires within { IsWithin (ToSolve (solve_data job.now)) }
-    ensures due { IfOk result (λ answer. IsSolveDue (solve_data job.now)
-        (files_data (F.holds files.old) (F.bytes files.old) (F.faults files.old) (F.came files.old))
-        (files_data (F.holds files.new) (F.bytes files.new) (F.faults files.new) (F.came files.new))
+    ensures due { IfOk result (λ answer. IsSolveDue (solve_data job.now) (F.state files.old) (F.state files.new)
         answer.status (answer_text answer)) }
     ensures read { result ≡ Err Stop.Read
-        → ReadFailed (string_bytes job.now.file) (F.holds files.old) (F.faults files.old) (F.faults files.new) }
-    ensures files { FilesStay
-        (files_data (F.holds files.old) (F.bytes files.old) (F.faults files.old) (F.came files.old))
-        (files_data (F.holds files.new) (F.bytes files.new) (F.faults files.new) (F.came files.new))
+        → ReadFailed (string_bytes job.now.file) (F.state files.old).holds (F.state files.old).faults (F.state files.new).faults }
+    ensures files { FilesStay (F.state files.old) (F.state files.new)
         (λ name. string_bytes job.now.file ≡ name) (result ≡ Err Stop.Read) }
 {
     match film_input(alloc, files, job.file.as_str())? {

@@ -2,7 +2,9 @@
 use Rattle.std.specs.Prelude.{◌≡◌, ◌↔◌, ◌⊎◌, ℕ, Bool, true, List, None, Contains}
 use Rattle.strip_answer.specs.Claims.{Claims}
 use Rattle.strip_answer.specs.Headline.{IsHeadline}
-use Rattle.strip_answer.specs.Run.{FilesData, RunData, SinkData, files_data, sink_data}
+use Rattle.strip_io.specs.Files.{FilesData, files_data}
+use Rattle.strip_io.specs.Sink.{SinkData, sink_data}
+use Rattle.strip_answer.specs.Run.{RunData}
 
 -- the host's files, whose bytes aren't told, and its output, of which it isn't told what it takes
 abbrev pub files_told : (List ℕ → Bool) → (List ℕ → ℕ) → (List ℕ → ℕ) → FilesData

@@ -8,7 +8,7 @@ use Rattle.strip_proof.specs.declared.plan.Plan.{Plan}
 use Rattle.strip_proof.specs.Plan.{PlanData}
 use Rattle.strip_text.specs.Told.{ToldData}
 use Rattle.strip_answer.specs.declared.answer.Answer.{Answer}
-use Rattle.strip_answer.specs.Run.{FilesData}
+use Rattle.strip_io.specs.Files.{FilesData}
 use Rattle.strip_inputs.specs.declared.input.Input.{Input}
 use Rattle.strip_inputs.specs.declared.input.Input.TheVariants.{Said, Refused}
 use Rattle.strip_inputs.specs.Input.{HasInput}

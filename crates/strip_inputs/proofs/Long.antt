@@ -7,7 +7,7 @@ use Rattle.strip_io.specs.Counts.{CameAtLeast}
 use Rattle.strip_model.specs.Data.{InstanceData}
 use Rattle.strip_instance.specs.Text.{says as film_says}
 use Rattle.strip_proof.specs.Text.{says as plan_says}
-use Rattle.strip_answer.specs.Run.{FilesData}
+use Rattle.strip_io.specs.Files.{FilesData}
 use Rattle.strip_inputs.specs.Input.{HasInput}
 use Rattle.strip_inputs.specs.Said.{film_of_says, film_said, plan_of_says, plan_said, too_long_told}
 

@@ -6,7 +6,8 @@ use Rattle.strip_proof.specs.Text.{IsReadablePlan}
 use Rattle.strip_text.specs.Told.{ToldData}
 use Rattle.strip_answer.specs.declared.status.Status.{Status}
 use Rattle.strip_answer.specs.declared.status.Status.TheVariants.{BadInstance, BadPlan}
-use Rattle.strip_answer.specs.Run.{FilesData, FilesStay}
+use Rattle.strip_io.specs.Files.{FilesData}
+use Rattle.strip_answer.specs.Run.{FilesStay}
 use Rattle.strip_inputs.specs.Input.{HasInput}
 use Rattle.strip_inputs.specs.Said.{IsSaidFilm, film_said, plan_said}
 use Rattle.strip_inputs.specs.Both.{Ways, BothSay, FilmSays, PlanSays, IsBothDue, IsEither, ways_due}

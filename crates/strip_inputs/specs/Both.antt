@@ -8,7 +8,7 @@ use Rattle.strip_text.specs.Told.{ToldData}
 use Rattle.strip_answer.specs.declared.status.Status.{Status}
 use Rattle.strip_answer.specs.declared.status.Status.TheVariants.{BadInstance, BadPlan}
 use Rattle.strip_answer.specs.Ending.{answer_text}
-use Rattle.strip_answer.specs.Run.{FilesData}
+use Rattle.strip_io.specs.Files.{FilesData}
 use Rattle.strip_inputs.specs.declared.input.Input.{Input}
 use Rattle.strip_inputs.specs.declared.input.Input.TheVariants.{Said, Refused}
 use Rattle.strip_inputs.specs.Input.{HasInput}

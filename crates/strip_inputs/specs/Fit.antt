@@ -5,7 +5,7 @@ use Rattle.strip_proof.specs.Plan.{PlanData}
 use Rattle.strip_text.specs.Told.{ToldData}
 use Rattle.strip_answer.specs.declared.status.Status.{Status}
 use Rattle.strip_answer.specs.declared.status.Status.TheVariants.{BadInstance, BadPlan}
-use Rattle.strip_answer.specs.Run.{FilesData}
+use Rattle.strip_io.specs.Files.{FilesData}
 use Rattle.strip_inputs.specs.Said.{film_said, plan_said}
 
 -- the files tell this instance, and this plan of it

@@ -1,7 +1,7 @@
 -- A file that was read.
 use Rattle.std.specs.Prelude.{◌≡◌, ℕ, ◌+◌, ◌<◌, ◌≤◌, List, length, Some}
 use Rattle.strip_io.specs.Counts.{CameAtLeast, CameOnly}
-use Rattle.strip_answer.specs.Run.{FilesData}
+use Rattle.strip_io.specs.Files.{FilesData}
 
 -- the file has a text of which this holds: the one that the files tell, where they tell it, and as many bytes came between the two
 -- moments as it has, or more than the limit

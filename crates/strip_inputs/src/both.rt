@@ -5,7 +5,7 @@ ghost use Rattle.strip_proof.specs.Plan.{PlanData, plan_data};
 ghost use Rattle.strip_proof.specs.Text.{HasReadableScenes, IsReadablePlan};
 ghost use Rattle.strip_answer.specs.declared.status.Status.{Status};
 ghost use Rattle.strip_answer.specs.Ending.{answer_text};
-ghost use Rattle.strip_answer.specs.Run.{FilesStay, HasReadFault, files_data};
+ghost use Rattle.strip_answer.specs.Run.{FilesStay, HasReadFault};
 ghost use Rattle.strip_inputs.specs.Both.{AreSaid, BothSay, IsBothDue, IsEither, ways_of_input};
 
 use crate::film::film_input;
@@ -38,16 +38,11 @@ pub fn answer_plan<J: PlanJob, F: Files>(
     names: &PlanFiles,
 ) -> Result<Answer, Stop>
     ensures due { IfOk result (λ answer. IsBothDue J.Due (string_bytes names.now.film) (string_bytes names.now.plan)
-        (files_data (F.holds files.old) (F.bytes files.old) (F.faults files.old) (F.came files.old))
-        (files_data (F.holds files.new) (F.bytes files.new) (F.faults files.new) (F.came files.new))
+        (F.state files.old) (F.state files.new)
         answer.status (answer_text answer)) }
-    ensures read { result ≡ Err Stop.Read → HasReadFault
-        (files_data (F.holds files.old) (F.bytes files.old) (F.faults files.old) (F.came files.old))
-        (files_data (F.holds files.new) (F.bytes files.new) (F.faults files.new) (F.came files.new))
+    ensures read { result ≡ Err Stop.Read → HasReadFault (F.state files.old) (F.state files.new)
         (IsEither (string_bytes names.now.film) (string_bytes names.now.plan)) }
-    ensures files { FilesStay
-        (files_data (F.holds files.old) (F.bytes files.old) (F.faults files.old) (F.came files.old))
-        (files_data (F.holds files.new) (F.bytes files.new) (F.faults files.new) (F.came files.new))
+    ensures files { FilesStay (F.state files.old) (F.state files.new)
         (IsEither (string_bytes names.now.film) (string_bytes names.now.plan)) (result ≡ Err Stop.Read) }
 {
     match both_inputs(alloc, files, names)? {
@@ -64,16 +59,11 @@ pub fn both_inputs<F: Files>(
     names: &PlanFiles,
 ) -> Result<Input<(Instance, Plan)>, Stop>
     ensures given { IfOk result (λ input. BothSay (ways_of_input input) (string_bytes names.now.film) (string_bytes names.now.plan)
-        (files_data (F.holds files.old) (F.bytes files.old) (F.faults files.old) (F.came files.old))
-        (files_data (F.holds files.new) (F.bytes files.new) (F.faults files.new) (F.came files.new))) }
+        (F.state files.old) (F.state files.new)) }
     ensures said { IfOk result AreSaid }
-    ensures read { result ≡ Err Stop.Read → HasReadFault
-        (files_data (F.holds files.old) (F.bytes files.old) (F.faults files.old) (F.came files.old))
-        (files_data (F.holds files.new) (F.bytes files.new) (F.faults files.new) (F.came files.new))
+    ensures read { result ≡ Err Stop.Read → HasReadFault (F.state files.old) (F.state files.new)
         (IsEither (string_bytes names.now.film) (string_bytes names.now.plan)) }
-    ensures files { FilesStay
-        (files_data (F.holds files.old) (F.bytes files.old) (F.faults files.old) (F.came files.old))
-        (files_data (F.holds files.new) (F.bytes files.new) (F.faults files.new) (F.came files.new))
+    ensures files { FilesStay (F.state files.old) (F.state files.new)
         (IsEither (string_bytes names.now.film) (string_bytes names.now.plan)) (result ≡ Err Stop.Read) }
 {
     both_said(alloc, files, names.film.as_str(), names.plan.as_str())
@@ -85,17 +75,11 @@ fn both_said<F: Files>(
     film: &str,
     plan: &str,
 ) -> Result<Input<(Instance, Plan)>, Stop>
-    ensures given { IfOk result (λ input. BothSay (ways_of_input input) film.now plan.now
-        (files_data (F.holds files.old) (F.bytes files.old) (F.faults files.old) (F.came files.old))
-        (files_data (F.holds files.new) (F.bytes files.new) (F.faults files.new) (F.came files.new))) }
+    ensures given { IfOk result (λ input. BothSay (ways_of_input input) film.now plan.now (F.state files.old) (F.state files.new)) }
     ensures said { IfOk result AreSaid }
-    ensures read { result ≡ Err Stop.Read → HasReadFault
-        (files_data (F.holds files.old) (F.bytes files.old) (F.faults files.old) (F.came files.old))
-        (files_data (F.holds files.new) (F.bytes files.new) (F.faults files.new) (F.came files.new))
+    ensures read { result ≡ Err Stop.Read → HasReadFault (F.state files.old) (F.state files.new)
         (IsEither film.now plan.now) }
-    ensures files { FilesStay
-        (files_data (F.holds files.old) (F.bytes files.old) (F.faults files.old) (F.came files.old))
-        (files_data (F.holds files.new) (F.bytes files.new) (F.faults files.new) (F.came files.new))
+    ensures files { FilesStay (F.state files.old) (F.state files.new)
         (IsEither film.now plan.now) (result ≡ Err Stop.Read) }
 {
     let inst = match film_input(alloc, files, film)? {

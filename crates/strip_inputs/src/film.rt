@@ -6,7 +6,7 @@ ghost use Rattle.strip_instance.specs.Fault.{fault_data};
 ghost use Rattle.strip_instance.specs.Told.{told_of};
 ghost use Rattle.strip_answer.specs.declared.status.Status.TheVariants.{BadInstance};
 ghost use Rattle.strip_answer.specs.Ending.{answer_text};
-ghost use Rattle.strip_answer.specs.Run.{FilesStay, files_data};
+ghost use Rattle.strip_answer.specs.Run.{FilesStay};
 ghost use Rattle.strip_inputs.specs.Said.{IsFilmGiven, IsRefusal, film_said};
 ghost use Rattle.strip_inputs.specs.Input.{HasInput};
 
@@ -27,15 +27,11 @@ pub fn film_input<F: Files>(
     files: &mut F,
     name: &str,
 ) -> Result<Input<Instance>, Stop>
-    ensures given { IfOk result (λ input. HasInput name.now 1_048_576
-        (files_data (F.holds files.old) (F.bytes files.old) (F.faults files.old) (F.came files.old))
-        (files_data (F.holds files.new) (F.bytes files.new) (F.faults files.new) (F.came files.new))
+    ensures given { IfOk result (λ input. HasInput name.now 1_048_576 (F.state files.old) (F.state files.new)
         (λ text. IsFilmGiven (film_said text) input)) }
     ensures read { result ≡ Err Stop.Read
-        → ReadFailed name.now (F.holds files.old) (F.faults files.old) (F.faults files.new) }
-    ensures files { FilesStay
-        (files_data (F.holds files.old) (F.bytes files.old) (F.faults files.old) (F.came files.old))
-        (files_data (F.holds files.new) (F.bytes files.new) (F.faults files.new) (F.came files.new))
+        → ReadFailed name.now (F.state files.old).holds (F.state files.old).faults (F.state files.new).faults }
+    ensures files { FilesStay (F.state files.old) (F.state files.new)
         (λ file. name.now ≡ file) (result ≡ Err Stop.Read) }
 {
     match load(alloc, files, name, MAX_FILM) {

@@ -5,7 +5,7 @@ ghost use Rattle.strip_proof.specs.declared.fault.PlanFault.TheVariants.{Memory 
 ghost use Rattle.strip_proof.specs.Told.{told_of};
 ghost use Rattle.strip_answer.specs.declared.status.Status.TheVariants.{BadPlan};
 ghost use Rattle.strip_answer.specs.Ending.{answer_text};
-ghost use Rattle.strip_answer.specs.Run.{FilesStay, files_data};
+ghost use Rattle.strip_answer.specs.Run.{FilesStay};
 ghost use Rattle.strip_inputs.specs.Said.{IsPlanGiven, IsRefusal, plan_said};
 ghost use Rattle.strip_inputs.specs.Input.{HasInput};
 
@@ -26,15 +26,11 @@ pub fn plan_input<F: Files>(
     inst: &Instance,
     name: &str,
 ) -> Result<Input<Plan>, Stop>
-    ensures given { IfOk result (λ input. HasInput name.now 1_073_741_824
-        (files_data (F.holds files.old) (F.bytes files.old) (F.faults files.old) (F.came files.old))
-        (files_data (F.holds files.new) (F.bytes files.new) (F.faults files.new) (F.came files.new))
+    ensures given { IfOk result (λ input. HasInput name.now 1_073_741_824 (F.state files.old) (F.state files.new)
         (λ text. IsPlanGiven inst.now (plan_said inst.now text) input)) }
     ensures read { result ≡ Err Stop.Read
-        → ReadFailed name.now (F.holds files.old) (F.faults files.old) (F.faults files.new) }
-    ensures files { FilesStay
-        (files_data (F.holds files.old) (F.bytes files.old) (F.faults files.old) (F.came files.old))
-        (files_data (F.holds files.new) (F.bytes files.new) (F.faults files.new) (F.came files.new))
+        → ReadFailed name.now (F.state files.old).holds (F.state files.old).faults (F.state files.new).faults }
+    ensures files { FilesStay (F.state files.old) (F.state files.new)
         (λ file. name.now ≡ file) (result ≡ Err Stop.Read) }
 {
     match load(alloc, files, name, MAX_PLAN) {

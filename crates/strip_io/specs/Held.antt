@@ -2,6 +2,7 @@
 use Rattle.std.specs.Prelude.{ℕ, ◌+◌, ◌-◌, ◌^◌, min, Bool, nat_lt, if◌then◌else◌, List, [], ◌∷◌, Option, Some, None}
 use Rattle.std.specs.Option.{is_some, option_map, unwrap_or}
 use Rattle.std.specs.Str.{bytes_eq}
+use Rattle.strip_io.specs.Files.{FilesData, files_data}
 
 -- a held name, its bytes, how often reads of it have failed, and how many bytes they have given
 pub record HeldFile : Type 0 where
@@ -34,6 +35,10 @@ faults_of files name = unwrap_or (option_map (λ file. file.faults) (found files
 -- how many bytes reads of the name have given, which is 0 for a name that isn't held
 abbrev pub came_of : List HeldFile → List ℕ → ℕ
 came_of files name = unwrap_or (option_map (λ file. file.came) (found files name)) 0
+
+-- these files at a moment, whose bytes are told
+abbrev pub held_data : List HeldFile → FilesData
+held_data files = files_data (is_held files) (bytes_of files) (faults_of files) (came_of files)
 
 -- one more, but at the end of the type the same
 abbrev pub next_count : ℕ → ℕ

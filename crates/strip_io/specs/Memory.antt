@@ -1,6 +1,7 @@
 -- Files and a sink in memory, which fail at chosen calls.
-use Rattle.std.specs.Prelude.{ℕ, List}
+use Rattle.std.specs.Prelude.{ℕ, List, Some}
 use Rattle.strip_io.specs.Held.{HeldFile}
+use Rattle.strip_io.specs.Sink.{SinkData, sink_data}
 
 -- what files in memory hold, the most that a read gives, the numbers of the reads that fail, and how many reads there have been
 pub record MemoryFiles : Type 0 where
@@ -17,3 +18,7 @@ pub record MemorySink : Type 0 where
   pub failing : List ℕ
   pub calls : ℕ
   pub faults : ℕ
+
+-- this sink at a moment, which tells what it has taken
+abbrev pub memory_sink_data : MemorySink → SinkData
+memory_sink_data sink = sink_data (Some sink.taken) sink.faults

@@ -4,6 +4,7 @@ ghost use Rattle.std.specs.Io.KnownBytes.{Appends, Keeps};
 ghost use Rattle.strip_io.specs.Counts.{CameOnly, CountsOnly, ReadFailed, Rose};
 ghost use Rattle.strip_io.specs.Files.{files_data};
 ghost use Rattle.strip_io.specs.Held.{came_of, count_came, count_fault, faults_of, is_held, next_count};
+ghost use Rattle.strip_io.specs.Sink.{sink_data};
 ghost use Rattle.strip_io.specs.Streams.{GaveFrom};
 
 use crate::table::Table;
@@ -146,9 +147,7 @@ impl<W: Write> HostSink<W> {
 }
 
 impl<W: Write> Sink for HostSink<W> {
-    ghost taken = { λ _. None };
-
-    ghost faults = { λ s. s.faults };
+    ghost state = { λ s. sink_data None s.faults };
 
     fn write(&mut self, piece: &[u8]) -> Result<usize, Failed>
         requires { 0 < length piece.now }

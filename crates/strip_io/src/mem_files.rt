@@ -1,8 +1,8 @@
 // Files in memory, which fail at chosen reads.
 ghost use Rattle.std.specs.Prelude.{◌≡◌, ◌≢◌, ◌⊎◌, ◌↔◌, ℕ, ◌+◌, ◌-◌, ◌^◌, ◌<◌, ◌≤◌, min, false, List, [], length, Some, IfOk, OnOk, OnErr, IsErr, Contains};
 ghost use Rattle.strip_io.specs.Counts.{CameOnly, CountsOnly, ReadFailed};
-ghost use Rattle.strip_io.specs.Files.{CopiesFrom, files_data};
-ghost use Rattle.strip_io.specs.Held.{bytes_of, came_of, count_came, count_fault, faults_of, is_held, next_count, put};
+ghost use Rattle.strip_io.specs.Files.{CopiesFrom};
+ghost use Rattle.strip_io.specs.Held.{bytes_of, came_of, count_came, count_fault, faults_of, held_data, is_held, next_count, put};
 
 use crate::table::{Table, copy_from};
 use crate::tally::next_count;
@@ -70,7 +70,7 @@ impl MemFiles {
 }
 
 impl Files for MemFiles {
-    ghost state = { λ m. files_data (is_held m.files) (bytes_of m.files) (faults_of m.files) (came_of m.files) };
+    ghost state = { λ m. held_data m.files };
 
     ghost reads = { λ m. m.calls };
 

@@ -2,6 +2,7 @@
 ghost use Rattle.std.specs.Prelude.{◌≡◌, ◌⊎◌, ◌↔◌, ◌+◌, ◌-◌, ◌<◌, ◌≤◌, min, [], ◌++◌, length, take, Some, IfOk, OnOk, OnErr, IsErr, Contains};
 ghost use Rattle.strip_io.specs.Counts.{Rose};
 ghost use Rattle.strip_io.specs.Held.{next_count};
+ghost use Rattle.strip_io.specs.Memory.{memory_sink_data};
 ghost use Rattle.strip_io.specs.Sink.{Took};
 
 use crate::tally::next_count;
@@ -59,9 +60,7 @@ impl MemSink {
 }
 
 impl Sink for MemSink {
-    ghost taken = { λ m. Some m.taken };
-
-    ghost faults = { λ m. m.faults };
+    ghost state = { λ m. memory_sink_data m };
 
     fn write(&mut self, piece: &[u8]) -> Result<usize, Failed>
         requires { 0 < length piece.now }

@@ -4,6 +4,7 @@ ghost use Rattle.std.specs.Option.{unwrap_or};
 ghost use Rattle.strip_io.specs.Counts.{CameOnly};
 ghost use Rattle.strip_io.specs.Files.{CopiesFrom, files_data};
 ghost use Rattle.strip_io.specs.Held.{bytes_of, bytes_or_empty, came_of, count_came, put};
+ghost use Rattle.strip_io.specs.Sink.{sink_data};
 
 use crate::table::{Table, copy_from};
 use crate::{Failed, Files, Memory, Sink};
@@ -105,9 +106,7 @@ impl Default for NoFaultSink {
 }
 
 impl Sink for NoFaultSink {
-    ghost taken = { λ _. None };
-
-    ghost faults = { λ _. 0 };
+    ghost state = { λ _. sink_data None 0 };
 
     fn write(&mut self, piece: &[u8]) -> Result<usize, Failed>
         requires { 0 < length piece.now }

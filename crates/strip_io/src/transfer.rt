@@ -102,11 +102,11 @@ pub fn load<F: Files>(
 
 /// Writes the whole text, in as many pieces as the sink takes. It takes no memory.
 pub fn send<S: Sink>(out: &mut S, text: &[u8]) -> Result<(), Failed>
-    ensures ok { OnOk result (Took (S.taken out.old) (S.taken out.new) text.now) }
-    ensures cause { OnErr result (Rose (S.faults out.old) (S.faults out.new)) }
-    ensures front { OnErr result (TookFront (S.taken out.old) (S.taken out.new) text.now) }
-    ensures later { S.faults out.old ≤ S.faults out.new }
-    ensures unfailed { OnOk result (S.faults out.new ≡ S.faults out.old) }
+    ensures ok { OnOk result (Took (S.state out.old).taken (S.state out.new).taken text.now) }
+    ensures cause { OnErr result (Rose (S.state out.old).faults (S.state out.new).faults) }
+    ensures front { OnErr result (TookFront (S.state out.old).taken (S.state out.new).taken text.now) }
+    ensures later { (S.state out.old).faults ≤ (S.state out.new).faults }
+    ensures unfailed { OnOk result ((S.state out.new).faults ≡ (S.state out.old).faults) }
 {
     let mut rest = text;
     while !rest.is_empty() {

@@ -75,11 +75,11 @@ impl Chunk {
     /// Adds a row, once what is there was sent where there is no room for it.
     fn add<S: Sink>(&mut self, out: &mut S, row: &[u8]) -> Result<(), Failed>
         requires { length row.now ≤ MAX_ROW }
-        ensures ok { OnOk result ((sent : List ℕ) × (sent ++ self.new ≡ self.old ++ row.now) × Took (S.taken out.old) (S.taken out.new) sent) }
-        ensures cause { OnErr result (Rose (S.faults out.old) (S.faults out.new)) }
-        ensures front { OnErr result (TookFront (S.taken out.old) (S.taken out.new) self.old) }
-        ensures later { S.faults out.old ≤ S.faults out.new }
-        ensures unfailed { OnOk result (S.faults out.new ≡ S.faults out.old) }
+        ensures ok { OnOk result ((sent : List ℕ) × (sent ++ self.new ≡ self.old ++ row.now) × Took (S.state out.old).taken (S.state out.new).taken sent) }
+        ensures cause { OnErr result (Rose (S.state out.old).faults (S.state out.new).faults) }
+        ensures front { OnErr result (TookFront (S.state out.old).taken (S.state out.new).taken self.old) }
+        ensures later { (S.state out.old).faults ≤ (S.state out.new).faults }
+        ensures unfailed { OnOk result ((S.state out.new).faults ≡ (S.state out.old).faults) }
     {
         if !self.has_room(row.len()) {
             send(out, self.bytes())?;
@@ -93,11 +93,11 @@ impl Chunk {
 /// Writes the rows of the lines, each while it is formatted, some hundred at a time. It takes no
 /// memory.
 pub fn send_lines<S: Sink>(out: &mut S, lines: &[Line]) -> Result<(), Failed>
-    ensures ok { OnOk result (Took (S.taken out.old) (S.taken out.new) (lines_text lines.now)) }
-    ensures cause { OnErr result (Rose (S.faults out.old) (S.faults out.new)) }
-    ensures front { OnErr result (TookFront (S.taken out.old) (S.taken out.new) (lines_text lines.now)) }
-    ensures later { S.faults out.old ≤ S.faults out.new }
-    ensures unfailed { OnOk result (S.faults out.new ≡ S.faults out.old) }
+    ensures ok { OnOk result (Took (S.state out.old).taken (S.state out.new).taken (lines_text lines.now)) }
+    ensures cause { OnErr result (Rose (S.state out.old).faults (S.state out.new).faults) }
+    ensures front { OnErr result (TookFront (S.state out.old).taken (S.state out.new).taken (lines_text lines.now)) }
+    ensures later { (S.state out.old).faults ≤ (S.state out.new).faults }
+    ensures unfailed { OnOk result ((S.state out.new).faults ≡ (S.state out.old).faults) }
 {
     texts_are_taken_in_parts();
     let mut chunk = Chunk::new();

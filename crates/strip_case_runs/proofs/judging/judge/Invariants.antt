@@ -7,8 +7,8 @@ use Rattle.strip_case_runs.proofs.judging.judge.Given as goal
 
 abbrev pub invariant-loop-name : goal.invariant-loop-name
 invariant-loop-name g l = record {
-  files : (files : List (Option Cases)) × AreRead (g.F.Files.bytes l.fn.files) (texts (take l.name-index l.names)) files × IsCounted files l.tally.cases l.tally.differing l.tally.is_unread;
-  told : g.F.Files.bytes l.files ≡ g.F.Files.bytes l.fn.files;
-  took : (rows : List ℕ) × Took (g.S.Sink.taken l.fn.out) (g.S.Sink.taken l.out) rows;
-  unfailed : g.S.Sink.faults l.out ≡ g.S.Sink.faults l.fn.out;
+  files : (files : List (Option Cases)) × AreRead (g.F.Files.state l.fn.files).bytes (texts (take l.name-index l.names)) files × IsCounted files l.tally.cases l.tally.differing l.tally.is_unread;
+  told : (g.F.Files.state l.files).bytes ≡ (g.F.Files.state l.fn.files).bytes;
+  took : (rows : List ℕ) × Took (g.S.Sink.state l.fn.out).taken (g.S.Sink.state l.out).taken rows;
+  unfailed : (g.S.Sink.state l.out).faults ≡ (g.S.Sink.state l.fn.out).faults;
 }

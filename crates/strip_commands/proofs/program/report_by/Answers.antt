@@ -1,5 +1,5 @@
 use Rattle.strip_words.specs.Shown.{texts}
-use Rattle.strip_answer.specs.Run.{RunData, files_data, sink_data}
+use Rattle.strip_answer.specs.Run.{RunData}
 use Rattle.strip_answer.proofs.Endings.{headline}
 use Rattle.strip_commands.specs.Due.{board_claims}
 use Rattle.strip_commands.proofs.Boards.{board_shown}
@@ -10,10 +10,10 @@ pub returns : goal.returns
 returns g c =
     let run : RunData = record {
       words = texts c.args.words.now;
-      files_before = files_data (g.F.Files.holds c.args.files.now) (g.F.Files.bytes c.args.files.now) (g.F.Files.faults c.args.files.now) (g.F.Files.came c.args.files.now);
-      files_after = files_data (g.F.Files.holds c.answer_words-answer.new.files) (g.F.Files.bytes c.answer_words-answer.new.files) (g.F.Files.faults c.answer_words-answer.new.files) (g.F.Files.came c.answer_words-answer.new.files);
-      sink_before = sink_data (g.S.Sink.taken c.args.out.now) (g.S.Sink.faults c.args.out.now);
-      sink_after = sink_data (g.S.Sink.taken c.finish.new.out) (g.S.Sink.faults c.finish.new.out);
+      files_before = g.F.Files.state c.args.files.now;
+      files_after = g.F.Files.state c.answer_words-answer.new.files;
+      sink_before = g.S.Sink.state c.args.out.now;
+      sink_after = g.S.Sink.state c.finish.new.out;
     } in
     let once = c.words_name_one_job.ensures in
     let holds = headline board_claims (board_shown once) run c.answer_words-answer.result c.finish.result c.finish.ensures.ends _ c.code.ensures

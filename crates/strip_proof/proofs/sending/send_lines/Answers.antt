@@ -11,7 +11,7 @@ returns-in_err-add-clause-front g c =
     let rest = lines_text (drop c.loop-line.line-index c.args.lines.now) in
     let whole : (parts.0 ++ c.loop-line.chunk) ++ rest ≡ lines_text c.args.lines.now
     = ap (λ (l : List ℕ). l ++ rest) parts.1 ∙ rows_split c.args.lines.now c.loop-line.line-index in
-    on_err _ (subst (λ (l : List ℕ). TookFront (g.S.Sink.taken c.args.out.now) (g.S.Sink.taken c.add.new.out) l) whole
+    on_err _ (subst (λ (l : List ℕ). TookFront (g.S.Sink.state c.args.out.now).taken (g.S.Sink.state c.add.new.out).taken l) whole
     (c.texts_are_taken_in_parts.ensures.early _ _ (parts.0 ++ c.loop-line.chunk) rest
     (c.texts_are_taken_in_parts.ensures.late _ _ _ parts.0 c.loop-line.chunk parts.2 c.in_err-add.ensures.front)))
 
@@ -35,7 +35,7 @@ returns-clause-front g c =
     let here : parts.0 ++ c.loop-line.chunk ≡ lines_text c.args.lines.now
     = parts.1 ∙ ap lines_text (take_all c.loop-line.line-index c.args.lines.now c.loop-line-test.false) in
     on_err_then c.send.result
-    (λ front. subst (λ (l : List ℕ). TookFront (g.S.Sink.taken c.args.out.now) (g.S.Sink.taken c.send.new.out) l) here
+    (λ front. subst (λ (l : List ℕ). TookFront (g.S.Sink.state c.args.out.now).taken (g.S.Sink.state c.send.new.out).taken l) here
     (c.texts_are_taken_in_parts.ensures.late _ _ _ parts.0 c.loop-line.chunk parts.2
-    (subst (λ (l : List ℕ). TookFront (g.S.Sink.taken c.loop-line.out) (g.S.Sink.taken c.send.new.out) l) c.bytes-2.ensures front)))
+    (subst (λ (l : List ℕ). TookFront (g.S.Sink.state c.loop-line.out).taken (g.S.Sink.state c.send.new.out).taken l) c.bytes-2.ensures front)))
     c.send.ensures.front

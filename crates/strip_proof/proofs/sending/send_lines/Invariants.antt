@@ -5,6 +5,6 @@ use Rattle.strip_proof.proofs.sending.send_lines.Given as goal
 
 abbrev pub invariant-loop-line : goal.invariant-loop-line
 invariant-loop-line g l = record {
-  unfailed : g.S.Sink.faults l.out ≡ g.S.Sink.faults l.fn.out;
-  parts : (sent : List ℕ) × (sent ++ l.chunk ≡ lines_text (take l.line-index l.lines)) × Took (g.S.Sink.taken l.fn.out) (g.S.Sink.taken l.out) sent;
+  unfailed : (g.S.Sink.state l.out).faults ≡ (g.S.Sink.state l.fn.out).faults;
+  parts : (sent : List ℕ) × (sent ++ l.chunk ≡ lines_text (take l.line-index l.lines)) × Took (g.S.Sink.state l.fn.out).taken (g.S.Sink.state l.out).taken sent;
 }
