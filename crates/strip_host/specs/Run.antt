@@ -1,14 +1,15 @@
 -- A run of given words over the host.
-use Rattle.std.specs.Prelude.{◌≡◌, ◌↔◌, ◌⊎◌, ℕ, Bool, true, List, None, Contains}
+use Rattle.std.specs.Prelude.{◌≡◌, ◌↔◌, ◌⊎◌, ℕ, true, List, None, Contains}
+use Rattle.strip_io.specs.Files.{FilesData, files_data}
+use Rattle.strip_io.specs.Held.{HeldFile, came_of, faults_of, is_held}
 use Rattle.strip_answer.specs.Claims.{Claims}
 use Rattle.strip_answer.specs.Headline.{IsHeadline}
-use Rattle.strip_io.specs.Files.{FilesData, files_data}
 use Rattle.strip_io.specs.Sink.{SinkData, sink_data}
 use Rattle.strip_answer.specs.Run.{RunData}
 
 -- the host's files, whose bytes aren't told, and its output, of which it isn't told what it takes
-abbrev pub files_told : (List ℕ → Bool) → (List ℕ → ℕ) → (List ℕ → ℕ) → FilesData
-files_told holds faults came = files_data holds (λ name. None) faults came
+abbrev pub files_told : List HeldFile → FilesData
+files_told files = files_data (is_held files) (λ name. None) (faults_of files) (came_of files)
 
 abbrev pub sink_told : ℕ → SinkData
 sink_told faults = sink_data None faults

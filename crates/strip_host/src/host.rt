@@ -1,9 +1,9 @@
 // What a program takes from a runtime.
-ghost use Rattle.std.specs.Prelude.{IfOk};
-ghost use Rattle.strip_io.specs.Held.{came_of, faults_of, is_held};
+ghost use Rattle.std.specs.Prelude.{◌≡◌, [], IfOk};
 ghost use Rattle.strip_words.specs.Shown.{texts};
 ghost use Rattle.strip_host.specs.Run.{IsFresh, files_told, sink_told};
 
+use crate::HostDisk;
 use crate::words::command_words;
 use std::io::Printer;
 use std::rt::{self, Env};
@@ -16,18 +16,18 @@ pub struct Host<'r, R: rt::Files + Print> {
     /// The words behind the program's name. Words that aren't UTF-8 are none.
     pub words: Vec<String>,
     /// The files that may be read: those that the words name.
-    pub files: HostFiles<'r, R>,
+    pub files: HostFiles<HostDisk<'r, R>>,
     pub out: HostSink<Printer<'r, R>>,
 }
 
 impl<'r, R: Env + rt::Files + Print + AllocGlobal> Host<'r, R> {
-    /// What this runtime has: nothing was read of its files, and nothing written to its output.
+    /// What this runtime has: no file was opened yet, and nothing written to its output.
     pub fn of(rt: &'r R) -> Result<Host<'r, R>, Memory>
-        ensures { IfOk result (λ host. IsFresh (texts host.words.items)
-            (files_told (is_held host.files) (faults_of host.files) (came_of host.files)) (sink_told host.out.faults)) }
+        ensures fresh { IfOk result (λ host. IsFresh (texts host.words.items) (files_told host.files.held) (sink_told host.out.faults)) }
+        ensures unopened { IfOk result (λ host. host.files.disk ≡ []) }
     {
         let words = command_words(rt)?;
-        let files = HostFiles::new(rt.alloc(), rt, &words)?;
+        let files = HostFiles::new(rt.alloc(), HostDisk::new(rt), &words)?;
         let out = HostSink::new(rt);
         Ok(Host { words, files, out })
     }

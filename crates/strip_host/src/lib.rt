@@ -2,9 +2,11 @@
 //! code.
 #![tactic(auto)]
 
+mod disk;
 mod host;
 mod status;
 mod words;
 
+pub use disk::HostDisk;
 pub use host::Host;
 pub use status::exit_code;

@@ -3,11 +3,11 @@ use Rattle.std.proofs.Common.{◌≡◌, ℕ, zero, suc, ◌+◌, ◌<◌, Bool,
 use Rattle.std.specs.List.{position, position_from}
 use Rattle.std.specs.Str.{bytes_eq}
 use Rattle.std.proofs.Math.ListN.{set}
-use Rattle.std.specs.Option.{is_some}
+use Rattle.std.proofs.lemmas.Slice.Eq.{bytes_eq-Decides}
 use Rattle.std.proofs.lemmas.List.Quantifiers.{position-Some}
 use Rattle.std.proofs.lemmas.List.{map-set, map-append}
 use Rattle.std.proofs.lemmas.Iterator.Adapters.{position_from-zero}
-use Rattle.strip_io.specs.Held.{HeldFile, found, is_held, put, change}
+use Rattle.strip_io.specs.Held.{HeldFile, found, put, change}
 use Rattle.strip_io.specs.Shown.{held_file}
 use Rattle.strip_io.specs.declared.table.Entry.{Entry}
 
@@ -85,11 +85,10 @@ is_first name seen xs i d same at =
 pub is_nowhere : (name : List ℕ) (seen xs : List Entry) → seen ≡ xs → None ≡ position (is_named name) seen → NoneNamed name xs
 is_nowhere name seen xs same at = none_named name xs (ap (position (is_named name)) (sym same) ∙ sym at)
 
--- a name's presence, by its place
-pub held_by_place : (name : List ℕ) (seen xs : List Entry) (at : Option ℕ) → seen ≡ xs → at ≡ position (is_named name) seen → is_some at ≡ is_held (map held_file xs) name
-held_by_place name seen xs None same at = rw (found_none name xs (is_nowhere name seen xs same at)) refl
-held_by_place name seen [] (Some i) same at = absurd (cc (same, at))
-held_by_place name seen (x ∷ xs) (Some i) same at = rw (found_first name (x ∷ xs) i x (is_first name seen (x ∷ xs) i x same at)) refl
+-- the name of the first entry of a name
+pub first_named : (name : List ℕ) (xs : List Entry) (i : ℕ) (entry : Entry) → IsFirst name xs i entry → entry ≡ get_or xs i entry → string_bytes entry.name ≡ name
+first_named name xs i entry first at =
+    ap (λ (e : Entry). string_bytes e.name) at ∙ (bytes_eq-Decides (string_bytes (get_or xs i entry).name) name).0 first.here
 
 -- what a write to the first entry of a name leaves
 pub altered : (how : HeldFile → HeldFile) (name : List ℕ) (xs : List Entry) (i : ℕ) (entry after : Entry) (files : List HeldFile) → IsFirst name xs i entry → entry ≡ get_or xs i entry → held_file after ≡ how (held_file entry) → map held_file xs ≡ files

@@ -1,4 +1,5 @@
 pub mod Counts
+pub mod Disk
 pub mod Files
 pub mod Held
 pub mod Load

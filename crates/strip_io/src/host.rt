@@ -1,5 +1,5 @@
-// Files and output of the host. What they hold and take isn't told.
-ghost use Rattle.std.specs.Prelude.{◌≡◌, ◌↔◌, ℕ, ◌^◌, ◌<◌, ◌≤◌, false, List, length, map, take, string_bytes, None, IfOk, OnOk, OnErr, IsErr, IsTrue, Contains};
+// Files of a disk, and output of the host. What they hold and take isn't told.
+ghost use Rattle.std.specs.Prelude.{◌≡◌, ◌↔◌, ℕ, ◌^◌, ◌<◌, ◌≤◌, true, false, [], ◌∷◌, ◌++◌, List, length, map, take, string_bytes, None, IfOk, OnOk, OnErr, IsErr, IsTrue, Contains};
 ghost use Rattle.std.specs.Io.KnownBytes.{Appends, Keeps};
 ghost use Rattle.strip_io.specs.Counts.{CameOnly, CountsOnly, ReadFailed, Rose};
 ghost use Rattle.strip_io.specs.Files.{files_data};
@@ -9,42 +9,42 @@ ghost use Rattle.strip_io.specs.Streams.{GaveFrom};
 
 use crate::table::Table;
 use crate::tally::next_count;
-use crate::{Failed, Files, Memory, Sink};
+use crate::{Disk, Failed, Files, Memory, Sink};
 use std::alloc::Global;
+use std::io;
 use std::io::{Printer, Read, Seek, SeekFrom, Write};
 use std::marker::Model;
-use std::{fs, io, rt};
 
-/// The host's files of certain names, which are their paths. No other file is touched. Any error of
-/// the host is a fault of the name.
+/// A disk's files of certain names, which are their paths. No other file is touched. Any error of the
+/// disk is a fault of the name.
 #[derive(Drop)]
-pub struct HostFiles<'r, R: rt::Files> {
-    host: &'r R,
-    // The bytes stay in the host's files: the entries have none.
+pub struct HostFiles<D> {
+    // The bytes stay on the disk: the entries have none.
     words: Table,
+    disk: D,
 }
 
-impl<'r, R: rt::Files> Model for HostFiles<'r, R> {
-    ghost use Rattle.std.specs.Prelude.{List};
-    ghost use Rattle.strip_io.specs.Held.{HeldFile};
+impl<D> Model for HostFiles<D> {
+    ghost use Rattle.strip_io.specs.Disk.{HostState};
 
-    ghost Value = { List HeldFile };
+    ghost Value = { HostState D };
 
-    ghost view = { λ f. f.words };
+    ghost view = { λ f. record { held = f.words; disk = f.disk } };
 }
 
-impl<'r, R: rt::Files> HostFiles<'r, R> {
-    /// The files with these names. A word that stands twice is one name.
-    pub fn new(alloc: Global, host: &'r R, words: &[String]) -> Result<HostFiles<'r, R>, Memory>
-        ensures words { IfOk result (λ f. (name : List ℕ) → IsTrue (is_held f name) ↔ Contains (map string_bytes words.now) name) }
-        ensures unfailed { IfOk result (λ f. (name : List ℕ) → faults_of f name ≡ 0) }
-        ensures none_came { IfOk result (λ f. (name : List ℕ) → came_of f name ≡ 0) }
+impl<D: Disk + Drop> HostFiles<D> {
+    /// The files of the disk with these names. A word that stands twice is one name. None is opened.
+    pub fn new(alloc: Global, disk: D, words: &[String]) -> Result<HostFiles<D>, Memory>
+        ensures words { IfOk result (λ f. (name : List ℕ) → IsTrue (is_held f.held name) ↔ Contains (map string_bytes words.now) name) }
+        ensures unfailed { IfOk result (λ f. (name : List ℕ) → faults_of f.held name ≡ 0) }
+        ensures none_came { IfOk result (λ f. (name : List ℕ) → came_of f.held name ≡ 0) }
+        ensures disk { IfOk result (λ f. f.disk ≡ disk) }
     {
         let mut table = Table::new(alloc);
         for word in words {
             table.put(word.as_str(), &[])?;
         }
-        Ok(HostFiles { host, words: table })
+        Ok(HostFiles { words: table, disk })
     }
 }
 
@@ -59,44 +59,38 @@ pub fn read_at<F: Read + Seek>(file: &mut F, at: u64, into: &mut [u8]) -> io::Re
     file.read(into)
 }
 
-// Opens the file for one read.
-fn read_file<R: rt::Files>(host: &R, name: &str, at: u64, into: &mut [u8]) -> io::Result<usize>
-    requires room { 0 < length into.old }
-    ensures within { IfOk result (λ n. n ≤ length into.new) }
-    ensures gave { IfOk result (λ n. (file : R.File)
-        × GaveFrom R.File.stream_bytes R.File.stream_position R.File.remaining file at n into.new) }
-{
-    let mut file = fs::open(host, name)?;
-    read_at(&mut file, at, into)
-}
-
-impl<'r, R: rt::Files> Files for HostFiles<'r, R> {
-    ghost state = { λ f. files_data (is_held f) (λ _. None) (faults_of f) (came_of f) };
+impl<D: Disk> Files for HostFiles<D> {
+    ghost state = { λ f. files_data (is_held f.held) (λ _. None) (faults_of f.held) (came_of f.held) };
 
     fn read(&mut self, name: &str, at: u64, into: &mut [u8]) -> Result<usize, Failed>
         requires room { 0 < length into.old }
         requires place { at ≤ 2 ^ 31 }
 
         ensures within { IfOk result (λ n. n ≤ length into.new) }
-        ensures cause { OnErr result (ReadFailed name.now (is_held self.old) (faults_of self.old) (faults_of self.new)) }
-        ensures held { is_held self.new ≡ is_held self.old }
-        ensures counts { CountsOnly name.now (faults_of self.old) (faults_of self.new) }
-        ensures unfailed { OnOk result (faults_of self.new ≡ faults_of self.old) }
-        ensures came { IfOk result (λ n. CameOnly name.now n (came_of self.old) (came_of self.new)) }
-        ensures none_came { OnErr result (came_of self.new ≡ came_of self.old) }
+        ensures cause { OnErr result (ReadFailed name.now (is_held self.old.held) (faults_of self.old.held) (faults_of self.new.held)) }
+        ensures held { is_held self.new.held ≡ is_held self.old.held }
+        ensures counts { CountsOnly name.now (faults_of self.old.held) (faults_of self.new.held) }
+        ensures unfailed { OnOk result (faults_of self.new.held ≡ faults_of self.old.held) }
+        ensures came { IfOk result (λ n. CameOnly name.now n (came_of self.old.held) (came_of self.new.held)) }
+        ensures none_came { OnErr result (came_of self.new.held ≡ came_of self.old.held) }
 
-        // What it answers is what a file of the host gave from this place on.
-        ensures gave { IfOk result (λ n. (file : R.File)
-            × GaveFrom R.File.stream_bytes R.File.stream_position R.File.remaining file at n into.new) }
+        // What it answers is what the disk gave for this name from this place on.
+        ensures gave { IfOk result (λ n. D.gave name.now at n into.new) }
 
-        ensures unheld { is_held self.old name.now ≡ false → IsErr result }
-        ensures ok { IfOk result (λ n. self.new ≡ count_came self.old name.now n) }
-        ensures err { OnErr result (self.new ≡ count_fault self.old name.now) }
+        // It opens the file of this name and no other, for one read, whether that fails or not; and none
+        // where the name isn't held.
+        ensures opened { is_held self.old.held name.now ≡ true
+            → D.opened self.new.disk ≡ D.opened self.old.disk ++ (record { name = name.now; at = at }) ∷ [] }
+        ensures unopened { is_held self.old.held name.now ≡ false → self.new.disk ≡ self.old.disk }
+
+        ensures unheld { is_held self.old.held name.now ≡ false → IsErr result }
+        ensures ok { IfOk result (λ n. self.new.held ≡ count_came self.old.held name.now n) }
+        ensures err { OnErr result (self.new.held ≡ count_fault self.old.held name.now) }
     {
-        if !self.words.holds(name) {
+        let Some(own) = self.words.own_name(name) else {
             return Err(Failed);
-        }
-        let Ok(count) = read_file(self.host, name, at, into) else {
+        };
+        let Ok(count) = self.disk.read(own, at, into) else {
             self.words.count_fault(name);
             return Err(Failed);
         };

@@ -1,6 +1,7 @@
 //! Files by name and a sink for text: what is read, what is written, and how often either failed.
 #![tactic(auto)]
 
+mod disk;
 mod files;
 mod host;
 pub mod laws;
@@ -12,6 +13,7 @@ mod table;
 mod tally;
 mod transfer;
 
+pub use disk::Disk;
 pub use files::{Failed, Files, Memory};
 pub use host::{HostFiles, HostSink, read_at};
 pub use mem_files::MemFiles;

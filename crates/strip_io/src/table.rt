@@ -1,7 +1,7 @@
 // The names that a source holds, with what it knows of each.
-ghost use Rattle.std.specs.Prelude.{◌≡◌, ◌-◌, min, List, [], length, take, drop, map, string_bytes, OnOk, OnErr};
+ghost use Rattle.std.specs.Prelude.{◌≡◌, ◌-◌, min, List, [], length, take, drop, map, string_bytes, IfSome, OnOk, OnErr};
 ghost use Rattle.std.specs.List.{position};
-ghost use Rattle.std.specs.Option.{option_copied};
+ghost use Rattle.std.specs.Option.{is_some, option_copied};
 ghost use Rattle.std.specs.Str.{bytes_eq};
 ghost use Rattle.strip_io.specs.Held.{bytes_of, count_came, count_fault, is_held, put};
 
@@ -53,10 +53,13 @@ impl Table {
         }
     }
 
-    pub(crate) fn holds(&self, name: &str) -> bool
-        ensures { result ≡ is_held self.now name.now }
+    // The name as the table has it.
+    pub(crate) fn own_name(&self, name: &str) -> Option<&String>
+        ensures held { is_some result ≡ is_held self.now name.now }
+        ensures same { IfSome result (λ own. string_bytes own.now ≡ name.now) }
     {
-        place(&self.entries, name).is_some()
+        let place = place(&self.entries, name)?;
+        Some(&self.entries[place].name)
     }
 
     pub(crate) fn bytes(&self, name: &str) -> Option<&[u8]>

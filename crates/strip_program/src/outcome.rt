@@ -3,7 +3,6 @@ ghost use Rattle.std.specs.Prelude.{IfOk};
 ghost use Rattle.std.specs.Process.{exit_status};
 ghost use Rattle.strip_answer.specs.Headline.{IsHeadline};
 ghost use Rattle.strip_host.specs.Run.{IsFresh, IsRun, IsRunBy, files_told, sink_told};
-ghost use Rattle.strip_io.specs.Held.{came_of, faults_of, is_held};
 ghost use Rattle.strip_words.specs.Shown.{texts};
 ghost use Rattle.strip_commands.specs.Due.{board_claims};
 
@@ -49,8 +48,7 @@ fn run_through<R: rt::Files + Print + AllocGlobal + Threads + Wait + Sync, G: Ga
     host: Host<R>,
     gate: &G,
 ) -> Result<u8, Memory>
-    requires { IsFresh (texts host.words.items)
-        (files_told (is_held host.files) (faults_of host.files) (came_of host.files)) (sink_told host.out.faults) }
+    requires { IsFresh (texts host.words.items) (files_told host.files.held) (sink_told host.out.faults) }
     ensures { IfOk result (IsRunBy (IsHeadline board_claims)) }
 {
     let Host {

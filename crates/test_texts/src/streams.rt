@@ -1,8 +1,11 @@
 // Streams that are cut short, fail and stop in the middle.
+ghost use Rattle.strip_host.specs.Disk.{openings};
+
+use http_server::Log;
 use std::io;
 use std::io::{ErrorKind, Read, Seek, SeekFrom, Write};
 use std::test::Fail;
-use strip_io::{Failed, HostSink, read_at, send};
+use strip_io::{Disk, Failed, HostFiles, HostSink, LoadFault, load, read_at, send};
 
 const TEXT: &[u8; 8] = b"abcdefgh";
 
@@ -53,6 +56,24 @@ impl Seek for Reader {
             }
             _ => Err(io::Error::from(ErrorKind::Unsupported)),
         }
+    }
+}
+
+// A disk on which each name is that of this file.
+#[derive(Drop)]
+struct OneFile {
+    file: Reader,
+    noted: Log<String, u64>,
+}
+
+impl Disk for OneFile {
+    ghost opened = { λ disk. openings disk.noted.items };
+
+    ghost gave = { λ _ _ _ _. Unit {0} };
+
+    fn read(&mut self, name: &String, at: u64, into: &mut [u8]) -> io::Result<usize> {
+        self.noted = self.noted.and(name, &at);
+        read_at(&mut self.file, at, into)
     }
 }
 
@@ -138,6 +159,21 @@ fn a_failed_read_is_no_end(rt: HostRuntime) -> Result<(), Fail> {
     assert!(&rt; read(&mut file, 3, &mut into) == Some(3));
     file.stuck = true;
     assert!(&rt; read(&mut file, 0, &mut into).is_none() && file.calls == 3);
+    Ok(())
+}
+
+#[test]
+fn a_fault_of_a_disk_is_no_end_of_a_file(rt: HostRuntime) -> Result<(), Fail> {
+    let alloc = rt.alloc();
+    let words = vec![in alloc; String::from_str(alloc, "held")?]?;
+    let disk = OneFile {
+        file: Reader::new(3, 2),
+        noted: Log::new(),
+    };
+    let mut files = HostFiles::new(alloc, disk, &words)?;
+    assert!(&rt; load(alloc, &mut files, "held", 8).err() == Some(LoadFault::Read));
+    assert!(&rt; load(alloc, &mut files, "held", 8)?.as_slice() == TEXT);
+    assert!(&rt; load(alloc, &mut files, "other", 8).err() == Some(LoadFault::Read));
     Ok(())
 }
 

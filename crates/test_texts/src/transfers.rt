@@ -4,6 +4,7 @@ ghost use Rattle.std.specs.Prelude.{◌≤◌, ◌^◌};
 use std::alloc::Global;
 use std::fs;
 use std::test::Fail;
+use strip_host::HostDisk;
 use strip_io::{
     Failed, Files, HostFiles, HostSink, LoadFault, MemFiles, MemSink, NoFaultFiles, NoFaultSink,
     load, send,
@@ -59,6 +60,17 @@ fn a_read_fails_in_mid_text(rt: HostRuntime) -> Result<(), Fail> {
 }
 
 #[test]
+fn a_read_may_give_few_bytes(rt: HostRuntime) -> Result<(), Fail> {
+    let alloc = rt.alloc();
+    let mut files = MemFiles::short(alloc, 7, &[3])?;
+    files.add("short", ALPHABET)?;
+    assert!(&rt; fails(alloc, &mut files, "short", 30, LoadFault::Read));
+    assert!(&rt; loads(alloc, &mut files, "short", 30, ALPHABET)?);
+    assert!(&rt; fails(alloc, &mut files, "short", 29, LoadFault::TooLong));
+    Ok(())
+}
+
+#[test]
 fn files_without_faults_hold_each_name(rt: HostRuntime) -> Result<(), Fail> {
     let alloc = rt.alloc();
     let mut files = NoFaultFiles::new(alloc);
@@ -100,7 +112,7 @@ fn the_host_reads_its_words_alone(rt: HostRuntime) -> Result<(), Fail> {
     let path = String::from_str(alloc, "held.txt")?;
     fs::write(&rt, path.as_str(), "abc")?;
     let words = vec![in alloc; path, String::from_str(alloc, "no_such_file")?]?;
-    let mut files = HostFiles::new(alloc, &rt, &words)?;
+    let mut files = HostFiles::new(alloc, HostDisk::new(&rt), &words)?;
     assert!(&rt; loads(alloc, &mut files, words[0].as_str(), 3, b"abc")?);
     assert!(&rt; fails(alloc, &mut files, "no_such_file", 3, LoadFault::Read));
     assert!(&rt; fails(alloc, &mut files, "another_file", 3, LoadFault::Read));
