@@ -6,8 +6,9 @@ use Rattle.strip_answer.specs.declared.status.Status.{Status}
 use Rattle.strip_answer.specs.declared.status.Status.TheVariants.{NoJob}
 use Rattle.strip_answer.specs.Rows.{error_row}
 
--- the jobs of a program: which words name one, which files it asks for, which text is due for it with which status, by the files before
--- and after; whether it can be done with what its files tell, and how it may end then; and whether it can't, as this status says
+-- the jobs of a program: which words name one, which files it asks for, which text is due for it with which status,
+-- by the files before and after; whether it can be done with what its files tell, and how it may end then; and
+-- whether it can't, as this status says
 pub record Claims (Job : Type 0) : Type 1 where
   pub Names : List (List ℕ) → Job → Type 0
   pub Asks : Job → List ℕ → Type 0

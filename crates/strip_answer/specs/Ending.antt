@@ -13,10 +13,13 @@ use Rattle.strip_answer.specs.declared.status.Status.TheVariants.{ReadFault, Wri
 abbrev pub answer_text : Answer → List ℕ
 answer_text answer = answer.text.items ++ lines_text answer.lines.items
 
--- with an answer: its status and all of its text, or the status of a write that failed and less than its text; without one: no text
+-- with an answer: its status and all of its text, or the status of a write that failed and less than its text;
+-- without one: no text
 abbrev pub IsEnd : Result Answer Stop → Option (List ℕ) → Option (List ℕ) → ℕ → ℕ → Status → Type 0
 IsEnd (Ok answer) before after faults_before faults_after status =
     ((status ≡ answer.status) × Took before after (answer_text answer) × (faults_after ≡ faults_before))
     ⊎ ((status ≡ WriteFault) × TookFront before after (answer_text answer) × Rose faults_before faults_after)
-IsEnd (Err Read) before after faults_before faults_after status = (status ≡ ReadFault) × (after ≡ before) × (faults_after ≡ faults_before)
-IsEnd (Err Memory) before after faults_before faults_after status = (status ≡ OutOfMemory) × (after ≡ before) × (faults_after ≡ faults_before)
+IsEnd (Err Read) before after faults_before faults_after status = (status ≡ ReadFault) × (after ≡ before)
+    × (faults_after ≡ faults_before)
+IsEnd (Err Memory) before after faults_before faults_after status = (status ≡ OutOfMemory) × (after ≡ before)
+    × (faults_after ≡ faults_before)

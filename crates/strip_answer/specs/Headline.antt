@@ -16,15 +16,18 @@ pub record IsHeadline {Job : Type 0} (claims : Claims Job) (run : RunData) (code
   -- the exit status, and what was printed and why
   pub status : Status
   pub exit_status : code ≡ code_of status
-  pub outcome : IsOutcome run (AsksFor claims run.words) (IsDue claims run.words run.files_before run.files_after) status
+  pub outcome : IsOutcome run (AsksFor claims run.words)
+      (IsDue claims run.words run.files_before run.files_after) status
   pub no_job : status ≡ NoJob → NameNone claims run.words
-  -- which status comes: where the words name no job, where the job can't be done with its files, and where it can and nothing fails
+  -- which status comes: where the words name no job, where the job can't be done with its files, and where it can
+  -- and nothing fails
   pub no_job_where : NameNone claims run.words → (status ≡ NoJob) ⊎ (status ≡ WriteFault) ⊎ (status ≡ OutOfMemory)
   pub refused_where : (job : Job) (why : Status) → claims.Names run.words job → claims.Unfit job run.files_before why
       → (status ≡ why) ⊎ (status ≡ ReadFault) ⊎ (status ≡ WriteFault) ⊎ (status ≡ OutOfMemory)
   pub complete : (job : Job) → claims.Names run.words job → claims.Fit job run.files_before
       → IsRead claims run job → ¬ HasWriteFault run.sink_before run.sink_after
       → claims.FitStatus job status ⊎ (status ≡ OutOfMemory)
-  -- what stays, and which counts can rise: those of the job's files where the status is ReadFault, the sink's where it is WriteFault
+  -- what stays, and which counts can rise: those of the job's files where the status is ReadFault, the sink's where
+  -- it is WriteFault
   pub files : FilesStay run.files_before run.files_after (AsksFor claims run.words) (status ≡ ReadFault)
   pub sink : SinkStays run.sink_before run.sink_after (status ≡ WriteFault)

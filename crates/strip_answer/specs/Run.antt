@@ -43,7 +43,8 @@ PrintsNothing run = run.sink_after.taken ≡ run.sink_before.taken
 -- what a status says, where these are the files that are asked for, and Due says which text is due with which status
 abbrev pub IsOutcome : RunData → (List ℕ → Type 0) → (Status → List ℕ → Type 0) → Status → Type 0
 IsOutcome run Asked Due ReadFault = HasReadFault run.files_before run.files_after Asked × PrintsNothing run
-IsOutcome run Asked Due WriteFault = HasWriteFault run.sink_before run.sink_after × PrintsFront run (λ printed. (status : Status) × Due status printed)
+IsOutcome run Asked Due WriteFault = HasWriteFault run.sink_before run.sink_after
+    × PrintsFront run (λ printed. (status : Status) × Due status printed)
 IsOutcome run Asked Due OutOfMemory = PrintsNothing run
 IsOutcome run Asked Due status = Prints run (Due status)
 

@@ -30,7 +30,8 @@ impl From<Memory> for Stop {
 /// Writes the answer's text and gives its status, or that of what kept it from being given: no byte
 /// is written where there is no answer. It takes no memory.
 pub fn finish<S: Sink>(out: &mut S, answer: &Result<Answer, Stop>) -> Status
-    ensures ends { IsEnd answer.now (S.state out.old).taken (S.state out.new).taken (S.state out.old).faults (S.state out.new).faults result }
+    ensures ends { IsEnd answer.now (S.state out.old).taken (S.state out.new).taken (S.state out.old).faults
+        (S.state out.new).faults result }
     ensures later { (S.state out.old).faults ≤ (S.state out.new).faults }
 {
     match answer {

@@ -9,8 +9,8 @@ abbrev pub HasEach : ℕ → List ℕ → Type 0
 HasEach set [] = set ≡ 0
 HasEach set (scene ∷ later) = (has set scene ≡ true) × HasEach (without set scene) later
 
--- who waits on the days of a scene, where some have worked already and these scenes are still to come: who doesn't work in it and
--- has a scene to come, of the group, and of those newcomers who have come
+-- who waits on the days of a scene, where some have worked already and these scenes are still to come: who doesn't
+-- work in it and has a scene to come, of the group, and of those newcomers who have come
 abbrev pub waiting_at : GroupData → ℕ → ℕ → ℕ → ℕ → List ℕ → ℕ
 waiting_at film group newcomers came scene later =
     minus (meet (union group (meet newcomers came)) (cast_of film later)) (slice_index film.casts scene)

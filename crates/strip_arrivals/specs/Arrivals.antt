@@ -1,5 +1,5 @@
--- What a group of actors on location and a few newcomers, who are still to come, are paid for waiting at least: the cheapest way
--- in which the newcomers come and go and those of the group leave.
+-- What a group of actors on location and a few newcomers, who are still to come, are paid for waiting at least: the
+-- cheapest way in which the newcomers come and go and those of the group leave.
 use Rattle.std.specs.Prelude.{◌≡◌, ℕ, zero, suc, ◌+◌, ◌*◌, ◌≤◌, ◌==◌, Bool, not, ◌&&◌, List, [], ◌∷◌, ◌++◌, Contains, filter, map, take, drop, length, sum_by, slice_index}
 use Rattle.std.specs.List.{list_all}
 use Rattle.strip_mask.specs.Set.{has, with, without, union, meet, minus, members, numbers_below, size, sum_over}
@@ -28,8 +28,8 @@ mates film set actors = cast_of film (filter (λ scene. not (is_without film act
 
 -- ---- who is where
 
--- those of the group who have left, the newcomers who are still to come, those who are here, in the order of their coming, and
--- those who are gone
+-- those of the group who have left, the newcomers who are still to come, those who are here, in the order of their
+-- coming, and those who are gone
 pub record StateData : Type 0 where
   pub left : ℕ
   pub coming : ℕ
@@ -67,7 +67,8 @@ after state (goes actor) = record {
 
 -- what can happen next
 abbrev pub events : ℕ → StateData → List Event
-events group state = map comes (members state.coming) ++ map leaves (members (minus group state.left)) ++ map goes state.here
+events group state = map comes (members state.coming) ++ map leaves (members (minus group state.left))
+    ++ map goes state.here
 
 -- ---- what a scene costs
 
@@ -75,9 +76,9 @@ events group state = map comes (members state.coming) ++ map leaves (members (mi
 abbrev pub is_open : GroupData → StateData → ℕ → Bool
 is_open film state scene = is_without film (union state.left state.gone) scene
 
--- what is paid for waiting on a day of the scene where so many of those who are here had come by then, in the order of their
--- coming: these, but for those who work in the scene, and those of the group who have left since, but work with one who came
--- later
+-- what is paid for waiting on a day of the scene where so many of those who are here had come by then, in the order
+-- of their coming: these, but for those who work in the scene, and those of the group who have left since, but work
+-- with one who came later
 abbrev pub paid_where : GroupData → ℕ → StateData → ℕ → ℕ → ℕ
 paid_where film set state scene number =
     sum_over film.holds (minus (actors_of (take number state.here)) (slice_index film.casts scene))
@@ -87,16 +88,18 @@ paid_where film set state scene number =
 abbrev pub can_have_come : GroupData → StateData → ℕ → ℕ → Bool
 can_have_come film state scene number = is_without film (actors_of (drop number state.here)) scene
 
--- what is paid for waiting on a day of an open scene at least: those of the group who are still here wait, but for those who work
--- in it, and of the others as few as can be
+-- what is paid for waiting on a day of an open scene at least: those of the group who are still here wait, but for
+-- those who work in it, and of the others as few as can be
 abbrev pub price : GroupData → ℕ → ℕ → StateData → ℕ → ℕ
 price film set group state scene =
     sum_over film.holds (minus (minus group state.left) (slice_index film.casts scene))
-    + least_over (paid_where film set state scene) (filter (can_have_come film state scene) (numbers_below (suc (length state.here))))
+    + least_over (paid_where film set state scene)
+    (filter (can_have_come film state scene) (numbers_below (suc (length state.here))))
 
 -- the open scenes of the set in which the actor works
 abbrev pub open_scenes : GroupData → ℕ → StateData → ℕ → List ℕ
-open_scenes film set state actor = filter (λ scene. is_open film state scene && has (slice_index film.casts scene) actor) (members set)
+open_scenes film set state actor = filter (λ scene. is_open film state scene
+    && has (slice_index film.casts scene) actor) (members set)
 
 -- the open scenes that are paid for when this happens
 abbrev pub closed_by : GroupData → ℕ → StateData → Event → List ℕ
@@ -121,12 +124,14 @@ allowed film set group state = filter (is_allowed film set state) (events group 
 -- all of the group leave and all newcomers come and go by these events, each of them allowed
 abbrev pub IsRun : GroupData → ℕ → ℕ → StateData → List Event → Type 0
 IsRun film set group state [] = IsOver group state
-IsRun film set group state (event ∷ later) = Contains (allowed film set group state) event × IsRun film set group (after state event) later
+IsRun film set group state (event ∷ later) = Contains (allowed film set group state) event
+    × IsRun film set group (after state event) later
 
 -- what is paid along a run
 abbrev pub total : GroupData → ℕ → ℕ → StateData → List Event → ℕ
 total film set group state [] = 0
-total film set group state (event ∷ later) = charge film set group state event + total film set group (after state event) later
+total film set group state (event ∷ later) = charge film set group state event
+    + total film set group (after state event) later
 
 -- the least total: some run has it, and none has less
 pub record IsLeastTotal (film : GroupData) (set group : ℕ) (state : StateData) (least_paid : ℕ) : Type 0 where
@@ -141,8 +146,10 @@ events_left group state = size (minus group state.left) + 2 * size state.coming 
 abbrev pub least_total : GroupData → ℕ → ℕ → ℕ → StateData → ℕ
 least_total film set group zero state = 0
 least_total film set group (suc n) state =
-    least_over (λ paid. paid) (map (λ event. charge film set group state event + least_total film set group n (after state event)) (allowed film set group state))
+    least_over (λ paid. paid) (map (λ event. charge film set group state event
+    + least_total film set group n (after state event)) (allowed film set group state))
 
 -- the value of a group and its newcomers
 abbrev pub arrivals_value : GroupData → ℕ → ℕ → ℕ → ℕ
-arrivals_value film set group newcomers = least_total film set group (events_left group (at_first newcomers)) (at_first newcomers)
+arrivals_value film set group newcomers = least_total film set group (events_left group (at_first newcomers))
+    (at_first newcomers)

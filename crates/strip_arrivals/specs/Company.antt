@@ -1,4 +1,5 @@
--- A group and its newcomers on a set of scenes, with numbers for each set of the places of those of the group who are still here.
+-- A group and its newcomers on a set of scenes, with numbers for each set of the places of those of the group who
+-- are still here.
 use Rattle.std.specs.Prelude.{◌≡◌, ◌≢◌, ℕ, ◌+◌, ◌-◌, ◌*◌, ◌^◌, ◌<◌, ◌≤◌, ◌==◌, ◌⊎◌, ◌&&◌, ◌||◌, Bool, not, true, false, List, [], ◌∷◌, All, Contains, filter, length, min, slice_index}
 use Rattle.strip_mask.specs.Set.{IsSet, LiesBelow, has, meet, members, minus, size, sum_over, with, without}
 use Rattle.strip_group.specs.Group.{GroupData}
@@ -13,9 +14,11 @@ use Rattle.strip_arrivals.specs.Gross.{IsBest, IsGross, gross_charge, gross_pric
 -- for each actor the scenes in which he works
 pub record ArePlays (casts plays : List ℕ) (actors : ℕ) : Type 0 where
   pub count : length plays ≡ actors
-  pub each : (actor scene : ℕ) → actor < actors → has (slice_index plays actor) scene ≡ has (slice_index casts scene) actor
+  pub each : (actor scene : ℕ) → actor < actors → has (slice_index plays actor) scene
+      ≡ has (slice_index casts scene) actor
 
--- a film within the limits, each scene of which has days, for each actor the scenes in which he works, and the days of 64 scenes
+-- a film within the limits, each scene of which has days, for each actor the scenes in which he works, and the days
+-- of 64 scenes
 pub record IsTable (casts plays long_days days holds : List ℕ) : Type 0 where
   pub limits : IsLimited (record { casts = casts; days = days; holds = holds })
   pub some_days : All (λ count. 0 < count) days
@@ -38,7 +41,8 @@ pub record IsCompany (film : GroupData) (set group newcomers : ℕ) : Type 0 whe
 
 -- the most that all of them are paid on the days of the set
 abbrev pub most_paid : GroupData → ℕ → ℕ → ℕ → ℕ
-most_paid film set group newcomers = sum_over film.days set * (sum_over film.holds group + sum_over film.holds newcomers)
+most_paid film set group newcomers = sum_over film.days set * (sum_over film.holds group
+    + sum_over film.holds newcomers)
 
 -- each newcomer is to come, is here or is gone, and only one of it
 pub record IsStage (newcomers coming : ℕ) (here : List ℕ) (gone : ℕ) : Type 0 where
@@ -75,7 +79,8 @@ just film newcomers these set = scenes_where (λ scene. meet (slice_index film.c
 
 -- those in which someone works who is to come, and nobody who is gone
 abbrev pub awaiting : GroupData → ℕ → ℕ → ℕ → ℕ
-awaiting film coming gone set = scenes_where (λ scene. not (is_without film coming scene) && is_without film gone scene) set
+awaiting film coming gone set = scenes_where (λ scene. not (is_without film coming scene)
+    && is_without film gone scene) set
 
 -- ---- numbers by the places of those who are still here
 
@@ -86,23 +91,27 @@ AreCounted film group count numbers scenes sums =
 
 -- what those who are still here get together for a day of waiting
 abbrev pub AreRates : GroupData → ℕ → ℕ → (ℕ → ℕ) → Type 0
-AreRates film group count rates = (places : ℕ) → places < 2 ^ count → rates places ≡ sum_over film.holds (pick group places)
+AreRates film group count rates = (places : ℕ) → places < 2 ^ count
+    → rates places ≡ sum_over film.holds (pick group places)
 
 -- and what those get who have left and share a scene of the set with one of these actors
 abbrev pub AreMates : GroupData → ℕ → ℕ → ℕ → List ℕ → (ℕ → ℕ) → Type 0
 AreMates film set group count actors rates =
-    (places : ℕ) → places < 2 ^ count → rates places ≡ sum_over film.holds (meet (minus group (pick group places)) (mates film set (actors_of actors)))
+    (places : ℕ) → places < 2 ^ count → rates places
+    ≡ sum_over film.holds (meet (minus group (pick group places)) (mates film set (actors_of actors)))
 
 -- the price of a day of the scenes in which of the newcomers just these work
 abbrev pub ArePrices : GroupData → ℕ → ℕ → ℕ → ℕ → List ℕ → ℕ → ℕ → (ℕ → ℕ) → Type 0
 ArePrices film set group count coming here gone these prices =
-    (places : ℕ) → places < 2 ^ count → prices places ≡ gross_price film set group (staying group coming here gone places) these
+    (places : ℕ) → places < 2 ^ count → prices places
+    ≡ gross_price film set group (staying group coming here gone places) these
 
 -- ---- rows
 
 -- the least totals of a stage, with what was added, none more than so much
 pub record IsRow (film : GroupData) (set group count coming : ℕ) (here : List ℕ) (gone most : ℕ) (row : ℕ → ℕ) : Type 0 where
-  pub least : (places : ℕ) → places < 2 ^ size group → IsGross film set group (staying group coming here gone places) (row places)
+  pub least : (places : ℕ) → places < 2 ^ size group
+      → IsGross film set group (staying group coming here gone places) (row places)
   pub low : (places : ℕ) → places < 2 ^ count → row places ≤ most
 
 -- a newcomer comes or goes
@@ -112,7 +121,8 @@ OfNewcomers event = (actor : ℕ) × ((event ≡ comes actor) ⊎ (event ≡ goe
 -- the least by what happens next to newcomers
 abbrev pub IsBegun : GroupData → ℕ → ℕ → ℕ → ℕ → List ℕ → ℕ → (ℕ → ℕ) → Type 0
 IsBegun film set group never coming here gone first =
-    (places : ℕ) → places < 2 ^ size group → IsBest film set group never (staying group coming here gone places) OfNewcomers (first places)
+    (places : ℕ) → places < 2 ^ size group → IsBest film set group never
+    (staying group coming here gone places) OfNewcomers (first places)
 
 -- whether one of the group may leave, and what it costs
 pub record IsLeaving (film : GroupData) (set group : ℕ) (state : StateData) (actor : ℕ) (fine : Type 0) (cost : ℕ) : Type 0 where
@@ -122,52 +132,61 @@ pub record IsLeaving (film : GroupData) (set group : ℕ) (state : StateData) (a
 
 -- the leaving of each of the group who is still here
 abbrev pub AreLeaving : GroupData → ℕ → ℕ → ℕ → List ℕ → ℕ → (ℕ → ℕ → ℕ) → (ℕ → ℕ) → Type 0
-AreLeaving film set group coming here gone cost blocked = (places place : ℕ) → places < 2 ^ size group → has places place ≡ true
-    → IsLeaving film set group (staying group coming here gone places) (actor_at group place) (blocked (without places place) ≡ blocked places)
+AreLeaving film set group coming here gone cost blocked = (places place : ℕ) → places < 2 ^ size group
+    → has places place ≡ true
+    → IsLeaving film set group (staying group coming here gone places) (actor_at group place)
+    (blocked (without places place) ≡ blocked places)
     (cost places (without places place))
 
 -- ---- a group by places
 
--- a group on a set of scenes: for each scene the places of those of it who work there, and by place what each gets for a day of
--- waiting; the same together for each set of so many places
+-- a group on a set of scenes: for each scene the places of those of it who work there, and by place what each gets
+-- for a day of waiting; the same together for each set of so many places
 pub record IsCrew {S : Type 0} (value : S → ℕ → ℕ) (count : ℕ) (film : GroupData) (crew : Crew S) : Type 0 where
   pub casts_long : length crew.casts ≡ 64
   pub casts : (scene place : ℕ) → has crew.set.0 scene ≡ true → place < size crew.group.0
       → has (slice_index crew.casts scene) place ≡ has (slice_index film.casts scene) (actor_at crew.group.0 place)
   pub lies : (scene : ℕ) → LiesBelow (size crew.group.0) (slice_index crew.casts scene)
   pub holds_long : length crew.holds ≡ 10
-  pub holds : (place : ℕ) → place < size crew.group.0 → slice_index crew.holds place ≡ slice_index film.holds (actor_at crew.group.0 place)
+  pub holds : (place : ℕ) → place < size crew.group.0
+      → slice_index crew.holds place ≡ slice_index film.holds (actor_at crew.group.0 place)
   pub no_holds : (place : ℕ) → size crew.group.0 ≤ place → slice_index crew.holds place ≡ 0
   pub rates : AreRates film crew.group.0 count (value crew.rates)
   pub fits : size crew.group.0 ≤ count
 
--- a group and its newcomers, with room for what they are paid: the days of the scenes without newcomers, and a number that is more
--- than anything that is paid
+-- a group and its newcomers, with room for what they are paid: the days of the scenes without newcomers, and a
+-- number that is more than anything that is paid
 pub record IsParty {S : Type 0} (value : S → ℕ → ℕ) (count most : ℕ) (film : GroupData) (party : Party S) : Type 0 where
   pub few : count ≤ 10
   pub crew : IsCrew value count film party.crew
   pub company : IsCompany film party.crew.set.0 party.crew.group.0 party.newcomers.0
-  pub days : AreCounted film party.crew.group.0 count film.days (just film party.newcomers.0 0 party.crew.set.0) (value party.days)
+  pub days : AreCounted film party.crew.group.0 count film.days (just film party.newcomers.0 0 party.crew.set.0)
+      (value party.days)
   pub enough : most_paid film party.crew.set.0 party.crew.group.0 party.newcomers.0 < party.never
   pub low : sum_over film.holds party.crew.group.0 + sum_over film.holds party.newcomers.0 < party.never
   pub room : 4 * party.never ≤ most
   pub wide : 2 ^ 32 - 1 ≤ most
 
--- one of the newcomers: the days of the scenes in which of them he alone works, and what a day of a scene costs in which none works
--- while he is here
+-- one of the newcomers: the days of the scenes in which of them he alone works, and what a day of a scene costs in
+-- which none works while he is here
 pub record IsNewcomer {S : Type 0} (value : S → ℕ → ℕ) (count : ℕ) (film : GroupData) (party : Party S) (one : Newcomer S) : Type 0 where
   pub comes : has party.newcomers.0 one.actor ≡ true
   pub hold : one.hold ≡ slice_index film.holds one.actor
-  pub days : AreCounted film party.crew.group.0 count film.days (just film party.newcomers.0 (with 0 one.actor) party.crew.set.0) (value one.days)
+  pub days : AreCounted film party.crew.group.0 count film.days
+      (just film party.newcomers.0 (with 0 one.actor) party.crew.set.0) (value one.days)
   pub mates : ℕ → ℕ
   pub are_mates : AreMates film party.crew.set.0 party.crew.group.0 count (one.actor ∷ []) mates
-  pub waits : (places : ℕ) → places < 2 ^ count → value one.waits places ≡ value party.crew.rates places + min (mates places) one.hold
-  pub waits_low : (places : ℕ) → places < 2 ^ count → value one.waits places ≤ sum_over film.holds party.crew.group.0 + one.hold
+  pub waits : (places : ℕ) → places < 2 ^ count → value one.waits places ≡ value party.crew.rates places
+      + min (mates places) one.hold
+  pub waits_low : (places : ℕ) → places < 2 ^ count
+      → value one.waits places ≤ sum_over film.holds party.crew.group.0 + one.hold
 
--- two newcomers: the same of the scenes in which both work, and what those of the group get who are here or share a scene with one
--- of them
+-- two newcomers: the same of the scenes in which both work, and what those of the group get who are here or share a
+-- scene with one of them
 pub record AreBoth {S : Type 0} (value : S → ℕ → ℕ) (count : ℕ) (film : GroupData) (party : Party S) (one other : ℕ) (both : Both S) : Type 0 where
-  pub days : AreCounted film party.crew.group.0 count film.days (just film party.newcomers.0 (with (with 0 one) other) party.crew.set.0) (value both.days)
+  pub days : AreCounted film party.crew.group.0 count film.days
+      (just film party.newcomers.0 (with (with 0 one) other) party.crew.set.0) (value both.days)
   pub mates : ℕ → ℕ
   pub are_mates : AreMates film party.crew.set.0 party.crew.group.0 count (one ∷ other ∷ []) mates
-  pub together : (places : ℕ) → places < 2 ^ count → value both.together places ≡ value party.crew.rates places + mates places
+  pub together : (places : ℕ) → places < 2 ^ count
+      → value both.together places ≡ value party.crew.rates places + mates places

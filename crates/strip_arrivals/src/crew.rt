@@ -55,7 +55,8 @@ impl ArrivalsTable {
         requires few { size group.0 ≤ 10 }
         requires known { LiesBelow (length self.now.holds) group.0 }
         ensures long { length result ≡ 10 }
-        ensures holds { (place : ℕ) → place < size group.0 → slice_index result place ≡ slice_index self.now.holds (actor_at group.0 place) }
+        ensures holds { (place : ℕ) → place < size group.0
+            → slice_index result place ≡ slice_index self.now.holds (actor_at group.0 place) }
         ensures none { (place : ℕ) → size group.0 ≤ place → slice_index result place ≡ 0 }
     {
         let mut holds = [0; PLACES];
@@ -115,7 +116,8 @@ impl ArrivalsTable {
         requires group { IsSet crew.now.group.0 }
         requires room { sum_over self.now.holds crew.now.group.0 ≤ S.most }
         requires within { (scene : ℕ) → has scenes.0 scene ≡ true → has crew.now.set.0 scene ≡ true }
-        ensures { (actors : List ℕ) → ((scene : ℕ) → has scenes.0 scene ≡ (has crew.now.set.0 scene && not (is_without self.now (actors_of actors) scene)))
+        ensures { (actors : List ℕ) → ((scene : ℕ)
+            → has scenes.0 scene ≡ (has crew.now.set.0 scene && not (is_without self.now (actors_of actors) scene)))
             → AreMates self.now crew.now.set.0 crew.now.group.0 S.places actors (S.value result) }
     {
         let numbers = holds_at(&crew.holds, works_in(&crew.casts, scenes));
@@ -130,8 +132,10 @@ fn add_place(casts: &mut [u16; 64], scenes: Mask, place: u32)
     requires place { place < 10 }
     requires small { (scene : ℕ) → slice_index casts.old scene < 1024 }
     ensures small { (scene : ℕ) → slice_index casts.new scene < 1024 }
-    ensures with { (scene : ℕ) → has scenes.0 scene ≡ true → slice_index casts.new scene ≡ with (slice_index casts.old scene) place }
-    ensures same { (scene : ℕ) → has scenes.0 scene ≡ false → slice_index casts.new scene ≡ slice_index casts.old scene }
+    ensures with { (scene : ℕ) → has scenes.0 scene ≡ true
+        → slice_index casts.new scene ≡ with (slice_index casts.old scene) place }
+    ensures same { (scene : ℕ) → has scenes.0 scene ≡ false
+        → slice_index casts.new scene ≡ slice_index casts.old scene }
 {
     for scene in scenes.iter() {
         let cast = Mask(casts[scene as usize] as u64);
@@ -141,8 +145,10 @@ fn add_place(casts: &mut [u16; 64], scenes: Mask, place: u32)
 
 /// The places of those who work in one of the scenes. One turn for each scene.
 fn works_in(casts: &[u16; 64], scenes: Mask) -> Mask
-    ensures some { (place : ℕ) → has result.0 place ≡ true → (scene : ℕ) × (has scenes.0 scene ≡ true) × (has (slice_index casts.now scene) place ≡ true) }
-    ensures all { (scene place : ℕ) → has scenes.0 scene ≡ true → has (slice_index casts.now scene) place ≡ true → has result.0 place ≡ true }
+    ensures some { (place : ℕ) → has result.0 place ≡ true
+        → (scene : ℕ) × (has scenes.0 scene ≡ true) × (has (slice_index casts.now scene) place ≡ true) }
+    ensures all { (scene place : ℕ) → has scenes.0 scene ≡ true → has (slice_index casts.now scene) place ≡ true
+        → has result.0 place ≡ true }
 {
     let mut places = Mask(0);
     for scene in scenes.iter() {
@@ -154,7 +160,8 @@ fn works_in(casts: &[u16; 64], scenes: Mask) -> Mask
 /// What those at these places get, and 0 at each other place. One turn for each.
 fn holds_at(holds: &[u64; PLACES], places: Mask) -> [u64; PLACES]
     requires { LiesBelow 10 places.0 }
-    ensures { (place : ℕ) → slice_index result place ≡ cond {A = ℕ} (has places.0 place) (slice_index holds.now place) 0 }
+    ensures { (place : ℕ) → slice_index result place
+        ≡ cond {A = ℕ} (has places.0 place) (slice_index holds.now place) 0 }
 {
     let mut numbers = [0; PLACES];
     for place in places.iter() {

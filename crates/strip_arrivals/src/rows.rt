@@ -14,7 +14,8 @@ impl ArrivalsTable {
     /// newcomers.
     pub(crate) fn first_row<S: BySet>(&self, party: &Party<S>) -> S
         requires party { IsParty S.value S.places S.most self.now party.now }
-        ensures { IsRow self.now party.now.crew.set.0 party.now.crew.group.0 S.places party.now.newcomers.0 [] 0 (3 * party.now.never) (S.value result) }
+        ensures { IsRow self.now party.now.crew.set.0 party.now.crew.group.0 S.places party.now.newcomers.0 [] 0
+            (3 * party.now.never) (S.value result) }
     {
         match party.newcomers.first() {
             None => self.over(party),
@@ -29,7 +30,8 @@ impl ArrivalsTable {
     fn row_of_one<S: BySet>(&self, party: &Party<S>, actor: u32) -> S
         requires party { IsParty S.value S.places S.most self.now party.now }
         requires only { party.now.newcomers.0 ≡ with 0 actor }
-        ensures { IsRow self.now party.now.crew.set.0 party.now.crew.group.0 S.places party.now.newcomers.0 [] 0 (3 * party.now.never) (S.value result) }
+        ensures { IsRow self.now party.now.crew.set.0 party.now.crew.group.0 S.places party.now.newcomers.0 [] 0
+            (3 * party.now.never) (S.value result) }
     {
         let one = self.newcomer(party, actor);
         let mut row = self.alone(party, &one, Mask(0), &self.over(party));
@@ -41,7 +43,8 @@ impl ArrivalsTable {
     fn row_of_two<S: BySet>(&self, party: &Party<S>, one: u32, other: u32) -> S
         requires party { IsParty S.value S.places S.most self.now party.now }
         requires pair { ArePair party.now.newcomers.0 one other }
-        ensures { IsRow self.now party.now.crew.set.0 party.now.crew.group.0 S.places party.now.newcomers.0 [] 0 (3 * party.now.never) (S.value result) }
+        ensures { IsRow self.now party.now.crew.set.0 party.now.crew.group.0 S.places party.now.newcomers.0 [] 0
+            (3 * party.now.never) (S.value result) }
     {
         let both = self.both(party, one, other);
         let (one, other) = (self.newcomer(party, one), self.newcomer(party, other));
@@ -75,9 +78,12 @@ impl ArrivalsTable {
         requires both { AreBoth S.value S.places self.now party.now one.now.actor other.now.actor both.now }
         requires one { IsNewcomer S.value S.places self.now party.now one.now }
         requires other { IsNewcomer S.value S.places self.now party.now other.now }
-        requires one_stays { IsRow self.now party.now.crew.set.0 party.now.crew.group.0 S.places 0 (one.now.actor ∷ []) (with 0 other.now.actor) (2 * party.now.never) (S.value one_stays.now) }
-        requires other_stays { IsRow self.now party.now.crew.set.0 party.now.crew.group.0 S.places 0 (other.now.actor ∷ []) (with 0 one.now.actor) (2 * party.now.never) (S.value other_stays.now) }
-        ensures { IsRow self.now party.now.crew.set.0 party.now.crew.group.0 S.places (with 0 other.now.actor) (one.now.actor ∷ []) 0 (3 * party.now.never) (S.value result) }
+        requires one_stays { IsRow self.now party.now.crew.set.0 party.now.crew.group.0 S.places 0 (one.now.actor ∷ [])
+            (with 0 other.now.actor) (2 * party.now.never) (S.value one_stays.now) }
+        requires other_stays { IsRow self.now party.now.crew.set.0 party.now.crew.group.0 S.places 0
+            (other.now.actor ∷ []) (with 0 one.now.actor) (2 * party.now.never) (S.value other_stays.now) }
+        ensures { IsRow self.now party.now.crew.set.0 party.now.crew.group.0 S.places (with 0 other.now.actor)
+            (one.now.actor ∷ []) 0 (3 * party.now.never) (S.value result) }
     {
         let mut gone = S::all(0);
         gone.copy_from(other_stays);
@@ -109,7 +115,8 @@ impl ArrivalsTable {
         requires one { IsNewcomer S.value S.places self.now party.now one.now }
         requires stage { IsStage party.now.newcomers.0 0 (one.now.actor ∷ []) gone.0 }
         requires over { IsRow self.now party.now.crew.set.0 party.now.crew.group.0 S.places 0 [] party.now.newcomers.0 party.now.never (S.value over.now) }
-        ensures { IsRow self.now party.now.crew.set.0 party.now.crew.group.0 S.places 0 (one.now.actor ∷ []) gone.0 (2 * party.now.never) (S.value result) }
+        ensures { IsRow self.now party.now.crew.set.0 party.now.crew.group.0 S.places 0 (one.now.actor ∷ []) gone.0
+            (2 * party.now.never) (S.value result) }
     {
         let rates = &party.crew.rates;
         let mut row = S::all(0);
@@ -124,10 +131,12 @@ impl ArrivalsTable {
     fn leave<S: BySet>(&self, party: &Party<S>, coming: Mask, gone: Mask, awaited: &S, row: &mut S)
         requires party { IsParty S.value S.places S.most self.now party.now }
         requires stage { IsStage party.now.newcomers.0 coming.0 [] gone.0 }
-        requires awaited { AreCounted self.now party.now.crew.group.0 S.places self.now.days (awaiting self.now coming.0 gone.0 party.now.crew.set.0) (S.value awaited.now) }
+        requires awaited { AreCounted self.now party.now.crew.group.0 S.places self.now.days
+            (awaiting self.now coming.0 gone.0 party.now.crew.set.0) (S.value awaited.now) }
         requires begun { IsBegun self.now party.now.crew.set.0 party.now.crew.group.0 party.now.never coming.0 [] gone.0 (S.value row.old) }
         requires low { (places : ℕ) → places < 2 ^ S.places → S.value row.old places ≤ 3 * party.now.never }
-        ensures { IsRow self.now party.now.crew.set.0 party.now.crew.group.0 S.places coming.0 [] gone.0 (3 * party.now.never) (S.value row.new) }
+        ensures { IsRow self.now party.now.crew.set.0 party.now.crew.group.0 S.places coming.0 [] gone.0
+            (3 * party.now.never) (S.value row.new) }
     {
         let rates = Classes::same(&party.crew.rates);
         row.pass::<One, Guarded>(rates, Classes::same(&party.days), awaited);
@@ -149,9 +158,12 @@ impl ArrivalsTable {
         requires both { AreBoth S.value S.places self.now party.now one.now.actor other.now.actor both.now }
         requires one { IsNewcomer S.value S.places self.now party.now one.now }
         requires other { IsNewcomer S.value S.places self.now party.now other.now }
-        requires one_stays { IsRow self.now party.now.crew.set.0 party.now.crew.group.0 S.places 0 (one.now.actor ∷ []) (with 0 other.now.actor) (2 * party.now.never) (S.value one_stays.now) }
-        requires other_stays { IsRow self.now party.now.crew.set.0 party.now.crew.group.0 S.places 0 (other.now.actor ∷ []) (with 0 one.now.actor) (2 * party.now.never) (S.value other_stays.now) }
-        ensures { IsRow self.now party.now.crew.set.0 party.now.crew.group.0 S.places 0 (one.now.actor ∷ other.now.actor ∷ []) 0 (3 * party.now.never) (S.value result) }
+        requires one_stays { IsRow self.now party.now.crew.set.0 party.now.crew.group.0 S.places 0 (one.now.actor ∷ [])
+            (with 0 other.now.actor) (2 * party.now.never) (S.value one_stays.now) }
+        requires other_stays { IsRow self.now party.now.crew.set.0 party.now.crew.group.0 S.places 0
+            (other.now.actor ∷ []) (with 0 one.now.actor) (2 * party.now.never) (S.value other_stays.now) }
+        ensures { IsRow self.now party.now.crew.set.0 party.now.crew.group.0 S.places 0
+            (one.now.actor ∷ other.now.actor ∷ []) 0 (3 * party.now.never) (S.value result) }
     {
         let rates = &party.crew.rates;
         let mut with_other = S::all(0);
@@ -188,9 +200,12 @@ impl ArrivalsTable {
         requires both { AreBoth S.value S.places self.now party.now one.now.actor other.now.actor both.now }
         requires one { IsNewcomer S.value S.places self.now party.now one.now }
         requires other { IsNewcomer S.value S.places self.now party.now other.now }
-        requires here { IsRow self.now party.now.crew.set.0 party.now.crew.group.0 S.places 0 (one.now.actor ∷ other.now.actor ∷ []) 0 (3 * party.now.never) (S.value here) }
-        requires gone { IsRow self.now party.now.crew.set.0 party.now.crew.group.0 S.places (with 0 other.now.actor) [] (with 0 one.now.actor) (3 * party.now.never) (S.value gone.now) }
-        ensures { IsRow self.now party.now.crew.set.0 party.now.crew.group.0 S.places (with 0 other.now.actor) (one.now.actor ∷ []) 0 (3 * party.now.never) (S.value result) }
+        requires here { IsRow self.now party.now.crew.set.0 party.now.crew.group.0 S.places 0
+            (one.now.actor ∷ other.now.actor ∷ []) 0 (3 * party.now.never) (S.value here) }
+        requires gone { IsRow self.now party.now.crew.set.0 party.now.crew.group.0 S.places
+            (with 0 other.now.actor) [] (with 0 one.now.actor) (3 * party.now.never) (S.value gone.now) }
+        ensures { IsRow self.now party.now.crew.set.0 party.now.crew.group.0 S.places (with 0 other.now.actor)
+            (one.now.actor ∷ []) 0 (3 * party.now.never) (S.value result) }
     {
         let rates = &party.crew.rates;
         let mut awaited = S::all(0);

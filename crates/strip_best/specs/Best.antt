@@ -5,13 +5,15 @@ use Rattle.strip_film.specs.declared.shared.Line.{Line}
 use Rattle.strip_lines.specs.Lines.{line_at}
 use Rattle.strip_best.specs.declared.best.BestLine.{BestLine}
 
--- the best line of its set: the line at its place has its set and its bound, no line of the list with this set has a greater bound,
--- and none before it as great a one
+-- the best line of its set: the line at its place has its set and its bound, no line of the list with this set has
+-- a greater bound, and none before it as great a one
 pub record IsBestLine (lines : List Line) (best : BestLine) : Type 0 where
   pub within : best.line < length lines
   pub is : line_at lines best.line ≡ record { set = best.set; bound = best.bound }
-  pub greatest : (place : ℕ) → place < length lines → (line_at lines place).set ≡ best.set → (line_at lines place).bound ≤ best.bound
-  pub first : (place : ℕ) → place < best.line → (line_at lines place).set ≡ best.set → (line_at lines place).bound < best.bound
+  pub greatest : (place : ℕ) → place < length lines → (line_at lines place).set ≡ best.set
+      → (line_at lines place).bound ≤ best.bound
+  pub first : (place : ℕ) → place < best.line → (line_at lines place).set ≡ best.set
+      → (line_at lines place).bound < best.bound
 
 -- the sets of some best lines
 abbrev pub sets_of : List BestLine → List ℕ

@@ -9,7 +9,8 @@ ghost use Rattle.strip_best.specs.Best.{IsBestLine, best_bound};
 /// What lines make known of a set is the greater of its static bound and the greatest bound of the
 /// lines with this set.
 pub fn what_is_known_is_by_the_best()
-    ensures { (rules : Rules) (lines : List Line) (set : ℕ) → known rules lines set ≡ max (rules.bound set) (best_bound lines set) }
+    ensures { (rules : Rules) (lines : List Line) (set : ℕ)
+        → known rules lines set ≡ max (rules.bound set) (best_bound lines set) }
 {}
 
 /// The best line of a set has the greatest bound of the lines with this set.

@@ -35,8 +35,8 @@ table_of book = book.table.shared.table_id
 abbrev pub search_of : Book → SearchData
 search_of book = book.table.shared.key
 
--- the pass steps on these words and goes by their search, has weight and writes nothing; the lines that it knows are justified and no
--- more than there may be, and its entries are records of their parts
+-- the pass steps on these words and goes by their search, has weight and writes nothing; the lines that it knows
+-- are justified and no more than there may be, and its entries are records of their parts
 pub record IsPassOf (book : Book) (pass : BookPass) : Type 0 where
   pub table : pass.seat.table_id ≡ table_of book
   pub search : (known pass).search ≡ search_of book
@@ -92,8 +92,8 @@ pub record Begins (before : ViewData) (part : ℕ) (after : ViewData) : Type 0 w
   pub here : record_at part after.entries ≡ Some no_path_yet
   pub others : (other : ℕ) → other ≢ part → record_at other after.entries ≡ record_at other before.entries
 
--- the path is the next one of a part: the pass began the part, and it is an open path of it that comes after the last one and is a
--- candidate of the start, with something remaining
+-- the path is the next one of a part: the pass began the part, and it is an open path of it that comes after the
+-- last one and is a candidate of the start, with something remaining
 pub record IsNext (search : SearchData) (entries : List EntryData) (part : ℕ) (path : PathData) : Type 0 where
   pub entry : RecordData
   pub stands : record_at part entries ≡ Some entry
@@ -167,7 +167,8 @@ pub record Hears (before : ViewData) (others : List LineData) (after : ViewData)
   pub entries : after.entries ≡ before.entries
   pub heard : GrowTo others after.lines
 
--- all lines: they are justified, no more than there may be, those that are known stand among them, and they are all of the pass's entries
+-- all lines: they are justified, no more than there may be, those that are known stand among them, and they are all
+-- of the pass's entries
 pub record AreAll (view : ViewData) (lines : List LineData) : Type 0 where
   pub justified : AreJustified (search_rules view.search) lines
   pub few : length lines ≤ view.search.cap

@@ -70,8 +70,8 @@ pub record IsWriting (words : List ℕ) (lines : List Line) (view : ViewData) : 
   pub set : (line_at lines view.at).set ≡ view.about.path.rest
   pub bound : bound_due view (slice_index words (bound_word view.at)) ≡ (line_at lines view.at).bound
 
--- a view: what it knows and heard of grew to the lines, and where it found no room, there is none. One with weight goes by the search,
--- and its entries are records; one without has no entries and writes nothing
+-- a view: what it knows and heard of grew to the lines, and where it found no room, there is none. One with weight
+-- goes by the search, and its entries are records; one without has no entries and writes nothing
 pub record Fits (search : SearchData) (words : List ℕ) (lines : List Line) (view : ViewData) : Type 0 where
   pub knows : GrowTo view.lines lines
   pub heard : GrowTo view.heard lines
@@ -83,16 +83,19 @@ pub record Fits (search : SearchData) (words : List ℕ) (lines : List Line) (vi
 
 -- a line stands in its words
 abbrev pub Stands : List ℕ → Line → ℕ → Type 0
-Stands words line number = (slice_index words (set_word number) ≡ line.set) × (slice_index words (bound_word number) ≡ line.bound)
+Stands words line number = (slice_index words (set_word number) ≡ line.set)
+    × (slice_index words (bound_word number) ≡ line.bound)
 
 -- some view writes the line of this number
 abbrev pub IsWritten : List ViewData → ℕ → Type 0
-IsWritten views number = (id : ℕ) × (view : ViewData) × (get_elem? views id ≡ some view) × (view.writing ≡ true) × (view.at ≡ number)
+IsWritten views number = (id : ℕ) × (view : ViewData) × (get_elem? views id ≡ some view) × (view.writing ≡ true)
+    × (view.at ≡ number)
 
--- The lines are justified, and as many as were drawn, up to the most that there may be. Each stands in its words, or some view writes
--- it; the bound words of the others are 0. The numbers of all entries of all views add up to the lines, and the lines of each set are
--- at most the candidates with this set remaining up to the last paths of all entries. The count exceeds the most lines by no more than
--- the weight of those who found no room, so that it never comes near the limit of a word
+-- The lines are justified, and as many as were drawn, up to the most that there may be. Each stands in its words,
+-- or some view writes it; the bound words of the others are 0. The numbers of all entries of all views add up to
+-- the lines, and the lines of each set are at most the candidates with this set remaining up to the last paths of
+-- all entries. The count exceeds the most lines by no more than the weight of those who found no room, so that it
+-- never comes near the limit of a word
 pub record IsBook (search : SearchData) (state : State Path ViewData) : Type 0 where
   pub lines : List Line
   pub count : ℕ
@@ -102,8 +105,10 @@ pub record IsBook (search : SearchData) (state : State Path ViewData) : Type 0 w
   pub long : length lines ≡ min count search.cap
   pub justified : AreJustified (search_rules search) lines
   pub fits : (id : ℕ) (view : ViewData) → get_elem? state.views id ≡ some view → Fits search state.words lines view
-  pub places : (number : ℕ) → number < length lines → Stands state.words (line_at lines number) number ⊎ IsWritten state.views number
-  pub fresh : (number : ℕ) → length lines ≤ number → number < search.cap → slice_index state.words (bound_word number) ≡ 0
+  pub places : (number : ℕ) → number < length lines → Stands state.words (line_at lines number) number
+      ⊎ IsWritten state.views number
+  pub fresh : (number : ℕ) → length lines ≤ number → number < search.cap
+      → slice_index state.words (bound_word number) ≡ 0
   pub whole : total weight_of state.views ≡ full_weight
   pub numbers : total numbers_of state.views ≡ length lines
   pub sets : (set : ℕ) → lines_of set lines ≤ total (candidates_of search set) state.views

@@ -11,7 +11,8 @@ use Rattle.strip_book.specs.View.{ViewData, enlisted, new_entry}
 use Rattle.strip_book.specs.Rule.{IsEntry, candidates_of, draft_line, full_weight, lines_of, numbers_of}
 use Rattle.strip_book.specs.Words.{bound_word}
 
--- what a pass learns at a step: all lines, which what it knew and heard of grew to; they are justified, and no more than there may be
+-- what a pass learns at a step: all lines, which what it knew and heard of grew to; they are justified, and no more
+-- than there may be
 pub record HasLearnt (before : ViewData) (lines : List Line) : Type 0 where
   pub knew : GrowTo before.lines lines
   pub heard : GrowTo before.heard lines

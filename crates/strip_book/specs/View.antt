@@ -16,9 +16,10 @@ pub record DraftData : Type 0 where
   pub part : ℕ
   pub path : PathData
 
--- A pass: its weight; whether it found that there are as many lines as there may be; the search; the parts that it began, in their
--- order; the lines that it knows, by their numbers, with bounds that they have at least; those that it heard of from another pass;
--- what it announced; and whether it writes the line of a number, and has written its bound
+-- A pass: its weight; whether it found that there are as many lines as there may be; the search; the parts that it
+-- began, in their order; the lines that it knows, by their numbers, with bounds that they have at least; those that
+-- it heard of from another pass; what it announced; and whether it writes the line of a number, and has written its
+-- bound
 pub record ViewData : Type 0 where
   pub weight : ℕ
   pub spent : Bool

@@ -1,4 +1,5 @@
--- Where the words of a book stand. What several workers write lies 128 bytes from what is only read, and each desk 128 bytes from others.
+-- Where the words of a book stand. What several workers write lies 128 bytes from what is only read, and each desk
+-- 128 bytes from others.
 use Rattle.std.specs.Prelude.{ℕ, ◌+◌, ◌*◌}
 
 -- the word that is only read

@@ -10,19 +10,23 @@ ghost use Rattle.strip_book.specs.View.{AreApart, EntryData, last_in, number_in,
 
 /// What a pass has of a part is a record of it.
 pub fn entries_are_records()
-    ensures { (search : SearchData) (entries : List EntryData) (part : ℕ) (kept : RecordData) → All (IsEntry search) entries
+    ensures { (search : SearchData) (entries : List EntryData) (part : ℕ) (kept : RecordData)
+        → All (IsEntry search) entries
         → record_at part entries ≡ Some kept → IsRecord search part kept }
 {}
 
 /// A pass has no record of a part that isn't among the parts of its entries.
 pub fn other_parts_have_no_record()
-    ensures { (entries : List EntryData) (part : ℕ) → count_by (λ other. other == part) (parts_of entries) ≡ 0 → record_at part entries ≡ None }
+    ensures { (entries : List EntryData) (part : ℕ) → count_by (λ other. other == part) (parts_of entries) ≡ 0
+        → record_at part entries ≡ None }
 {}
 
 /// Lines that are all of some entries are counted by parts, where no part stands twice among the entries.
 pub fn lines_of_entries_are_counted()
-    ensures { (search : SearchData) (entries : List EntryData) (lines : List Line) → IsFilm search.film → All (IsEntry search) entries
+    ensures { (search : SearchData) (entries : List EntryData) (lines : List Line) → IsFilm search.film
+        → All (IsEntry search) entries
         → AreApart entries → total number_of entries ≡ length lines
         → ((set : ℕ) → lines_of set lines ≤ total (candidates_at search set) entries)
-        → AreCounted (search_rules search) search.start (depth_of search) search.tasks lines (last_in entries) (number_in entries) }
+        → AreCounted (search_rules search) search.start (depth_of search) search.tasks lines (last_in entries)
+        (number_in entries) }
 {}

@@ -17,10 +17,12 @@ abbrev pub days_with_without : FilmData → ℕ → ℕ → ℕ → ℕ
 days_with_without film set a b =
     sum_by (slice_index film.days) (filter (λ scene. works film a scene && not (works film b scene)) (members set))
 
--- what two actors who are on location are paid for waiting at least: one of them leaves last, and waits on the days of the other
+-- what two actors who are on location are paid for waiting at least: one of them leaves last, and waits on the days
+-- of the other
 abbrev pub pair_extra : FilmData → ℕ → ℕ → ℕ → ℕ
 pair_extra film set a b =
-    min (slice_index film.holds a * days_with_without film set b a) (slice_index film.holds b * days_with_without film set a b)
+    min (slice_index film.holds a * days_with_without film set b a)
+    (slice_index film.holds b * days_with_without film set a b)
 
 -- the extras of a list of actors taken two by two; a last single one adds nothing
 abbrev pub pairs_extra : FilmData → ℕ → List ℕ → ℕ
@@ -61,16 +63,19 @@ located_by_hold film set = by_falling (slice_index film.holds) (members (on_loca
 
 -- a newcomer isn't on location and has two or more scenes in the set
 abbrev pub is_newcomer : FilmData → ℕ → ℕ → Bool
-is_newcomer film set actor = not (has (on_location film set) actor) && nat_lt 1 (length (filter (works film actor) (members set)))
+is_newcomer film set actor = not (has (on_location film set) actor)
+    && nat_lt 1 (length (filter (works film actor) (members set)))
 
 -- what an actor would be paid for waiting on all days of the set's scenes without him
 abbrev pub hold_without : FilmData → ℕ → ℕ → ℕ
 hold_without film set actor =
-    slice_index film.holds actor * sum_by (slice_index film.days) (filter (λ scene. not (works film actor scene)) (members set))
+    slice_index film.holds actor * sum_by (slice_index film.days) (filter
+    (λ scene. not (works film actor scene)) (members set))
 
 -- the newcomers, by how much that is, equals by number
 abbrev pub newcomers_by_hold : FilmData → ℕ → List ℕ
-newcomers_by_hold film set = by_falling (hold_without film set) (filter (is_newcomer film set) (numbers_below (length film.rates)))
+newcomers_by_hold film set = by_falling (hold_without film set)
+    (filter (is_newcomer film set) (numbers_below (length film.rates)))
 
 -- the group of the party at a place, where each has so many
 abbrev pub group_at : FilmData → ℕ → ℕ → ℕ → ℕ
@@ -82,12 +87,14 @@ newcomers_at film set count place = set_of (take count (drop (place * 2) (newcom
 
 -- what the party is paid for waiting at least, with so many of its newcomers
 abbrev pub party_value : FilmData → ℕ → ℕ → ℕ → ℕ → ℕ
-party_value film set many count place = arrivals_value (group_data film) set (group_at film set many place) (newcomers_at film set count place)
+party_value film set many count place = arrivals_value (group_data film) set (group_at film set many place)
+    (newcomers_at film set count place)
 
 -- the greatest of its values with fewer newcomers than that; 0 where there is none
 abbrev pub greatest_below : FilmData → ℕ → ℕ → ℕ → ℕ → ℕ
 greatest_below film set many zero place = 0
-greatest_below film set many (suc count) place = max (greatest_below film set many count place) (party_value film set many count place)
+greatest_below film set many (suc count) place = max (greatest_below film set many count place)
+    (party_value film set many count place)
 
 -- how many parties there are, the last with what remains
 abbrev pub number_of_parties : FilmData → ℕ → ℕ → ℕ

@@ -24,4 +24,5 @@ pub record AreParties (film : FilmData) (set count : ℕ) (parties : Parties) : 
 -- either as much as is needed is known, or the greatest value of each party with fewer newcomers than it was asked with
 abbrev pub AreAsked : FilmData → ℕ → ℕ → Parties → Type 0
 AreAsked film set many parties = (parties.need ≤ parties.extra)
-    ⊎ ((place : ℕ) → place < parties.number → slice_index parties.values place ≡ greatest_below film set many parties.asked place)
+    ⊎ ((place : ℕ) → place < parties.number → slice_index parties.values place
+    ≡ greatest_below film set many parties.asked place)

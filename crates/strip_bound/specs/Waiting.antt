@@ -7,11 +7,13 @@ use Rattle.strip_pay.specs.Film.{FilmData}
 use Rattle.strip_film.specs.Shoot.{cast_of, on_location}
 use Rattle.strip_film.specs.Finish.{AreFirsts, rest_after}
 
--- the days of each scene at the hold rates of those of the group who still have a scene to come and don't work in this one
+-- the days of each scene at the hold rates of those of the group who still have a scene to come and don't work in
+-- this one
 abbrev pub wait_pay : FilmData → ℕ → ℕ → List ℕ → ℕ
 wait_pay film group set [] = 0
 wait_pay film group set (scene ∷ scenes) =
-    slice_index film.days scene * sum_over film.holds (minus (meet group (cast_of film set)) (slice_index film.casts scene))
+    slice_index film.days scene * sum_over film.holds
+    (minus (meet group (cast_of film set)) (slice_index film.casts scene))
     + wait_pay film group (without set scene) scenes
 
 -- the list has each scene of the set once, ready when it was shot or not

@@ -23,13 +23,15 @@ pub fn the_extra_is_the_least_waiting()
         → group_extra (group_data film) set group ≤ wait_pay film group set scenes }
     ensures attained { (film : FilmData) (set group : ℕ) → IsFilm film → LiesIn film set → IsSet group
         → ((actor : ℕ) → has group actor ≡ true → has (cast_of film set) actor ≡ true)
-        → (scenes : List ℕ) × HasEach set scenes × (wait_pay film group set scenes ≤ group_extra (group_data film) set group) }
+        → (scenes : List ℕ) × HasEach set scenes × (wait_pay film group set scenes
+        ≤ group_extra (group_data film) set group) }
 {}
 
 /// Groups of actors on location that share no actor, of any sizes and however chosen: the plain bound
 /// and their extras are at most the tail of every list of the set, whether it keeps the pairs or not.
 pub fn groups_bound_every_tail()
-    ensures { (film : FilmData) (set : ℕ) (groups scenes : List ℕ) → IsFilm film → LiesIn film set → AreGroups film set groups
+    ensures { (film : FilmData) (set : ℕ) (groups scenes : List ℕ) → IsFilm film → LiesIn film set
+        → AreGroups film set groups
         → HasEach set scenes → plain_bound film set + groups_extra film set groups ≤ steps_cost film set scenes }
 {}
 
@@ -38,7 +40,8 @@ pub fn groups_bound_every_tail()
 pub fn lists_fall_by_value()
     ensures fall { (value : ℕ → ℕ) (actors : List ℕ) → IsStrictlyIncreasing actors
         → AllPairs (λ a b. (value b < value a) ⊎ ((value b ≡ value a) × (a < b))) (by_falling value actors) }
-    ensures members { (value : ℕ → ℕ) (actors : List ℕ) (actor : ℕ) → Contains (by_falling value actors) actor ↔ Contains actors actor }
+    ensures members { (value : ℕ → ℕ) (actors : List ℕ) (actor : ℕ) → Contains (by_falling value actors) actor
+        ↔ Contains actors actor }
 {}
 
 /// The bound of arrivals is at most the tail of every list of the set, whether it keeps the pairs or
@@ -52,6 +55,8 @@ pub fn parties_bound_every_tail()
 pub fn the_bounds_are_true()
     ensures plain { (film : FilmData) (set : ℕ) → bound Plain film set ≤ bound Pairs film set }
     ensures arrivals { (film : FilmData) (set : ℕ) → bound Plain film set ≤ bound Arrivals film set }
-    ensures pairs { (film : FilmData) (set : ℕ) → IsFilm film → LiesIn film set → bound Pairs film set ≤ bound Groups film set }
-    ensures finish { (kind : Kind) (film : FilmData) (set : ℕ) → IsFilm film → LiesIn film set → IsAtMostFinish film set (bound kind film set) }
+    ensures pairs { (film : FilmData) (set : ℕ) → IsFilm film → LiesIn film set
+        → bound Pairs film set ≤ bound Groups film set }
+    ensures finish { (kind : Kind) (film : FilmData) (set : ℕ) → IsFilm film → LiesIn film set
+        → IsAtMostFinish film set (bound kind film set) }
 {}

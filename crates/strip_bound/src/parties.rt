@@ -260,7 +260,8 @@ fn days_without(film: &Film, tables: &BoundTables, q: Mask, actor: usize) -> u64
     requires tables { AreTables film.now tables.now }
     requires lies { LiesIn film.now q.0 }
     requires known { actor < length film.now.rates }
-    ensures days { result ≡ sum_by (slice_index film.now.days) (filter (λ scene. not (works film.now actor scene)) (members q.0)) }
+    ensures days { result ≡ sum_by (slice_index film.now.days) (filter
+        (λ scene. not (works film.now actor scene)) (members q.0)) }
     ensures small { result ≤ 19_800 }
 {
     film.keeps_limits();

@@ -66,8 +66,8 @@ order_checks film plan =
 abbrev pub by_lines : Rules → List Line → Rules
 by_lines rules lines = record rules { bound = known rules lines }
 
--- the greatest bound that the lines justify for a set: its static bound or, if that is greater, the least over the open firsts of a
--- set that isn't empty of a step and what the lines make known of the rest
+-- the greatest bound that the lines justify for a set: its static bound or, if that is greater, the least over the
+-- open firsts of a set that isn't empty of a step and what the lines make known of the rest
 abbrev pub justified : Rules → List Line → ℕ → ℕ
 justified rules lines set =
     max (rules.bound set) (least_step (by_lines rules lines) set (rules.bound set) (members (rules.firsts set)))
@@ -105,7 +105,8 @@ bound_checks rules apart plan = below (length plan.lines) (line_check rules plan
 -- each set lies in the film of the classes, and then the bounds
 abbrev pub proof_checks : State → PlanData → Checks
 proof_checks state plan =
-    below (length plan.lines) (set_check state.film plan.lines) ++ bound_checks (rules_of plan.kind state.film) state.apart plan
+    below (length plan.lines) (set_check state.film plan.lines)
+    ++ bound_checks (rules_of plan.kind state.film) state.apart plan
 
 -- ---- the plan
 

@@ -48,7 +48,8 @@ pub fn the_tests_decide()
     ensures pair { (first second : ℕ) (order : List ℕ)
         → IsTrue (stands_before first second order) ↔ StandsBefore first second order }
     ensures set { (film : FilmData) (set : ℕ) → IsTrue (is_part set (all_scenes film)) ↔ LiesIn film set }
-    ensures line { (kind : Kind) (film : FilmData) (lines : List Line) (line : Line) → IsFilm film → LiesIn film line.set
+    ensures line { (kind : Kind) (film : FilmData) (lines : List Line) (line : Line) → IsFilm film
+        → LiesIn film line.set
         → (line.bound ≤ justified (rules_of kind film) lines line.set) ↔ IsJustified (rules_of kind film) lines line }
     ensures status { (status : Status) (bound cost : ℕ)
         → IsTrue (is_right status bound cost) ↔ ((status ≡ Optimal) ↔ (bound ≡ cost)) }

@@ -23,11 +23,13 @@ abbrev pub verdict_text : Verdict → List ℕ
 verdict_text Accepted = csv_row (codes "check" ∷ codes "accepted" ∷ [])
 verdict_text (Refused reason) = told_row (codes "refused") (told_of reason)
 
--- the plan's verdict is told, or that the instance has too many classes; and where the status is that of an accepted plan, what the plan
--- says is true: no order of the instance that keeps its pairs pays less than its bound, and its order pays its cost
+-- the plan's verdict is told, or that the instance has too many classes; and where the status is that of an
+-- accepted plan, what the plan says is true: no order of the instance that keeps its pairs pays less than its
+-- bound, and its order pays its cost
 pub record IsAudited (inst : InstanceData) (plan : PlanData) (status : Status) (printed : List ℕ) : Type 0 where
   pub verdict : class_count (film_of inst) ≤ 64
-      → (status ≡ status_of (verdict_of (film_of inst) plan)) × (printed ≡ verdict_text (verdict_of (film_of inst) plan))
+      → (status ≡ status_of (verdict_of (film_of inst) plan))
+      × (printed ≡ verdict_text (verdict_of (film_of inst) plan))
   pub too_many : 64 < class_count (film_of inst)
       → (status ≡ BadInstance) × (printed ≡ error_row (too_many_told (class_count (film_of inst))))
   pub accepted : status ≡ Done → IsAccepted (film_of inst) plan × IsTruePlan (film_of inst) plan

@@ -52,8 +52,8 @@ audit_claims = record {
   Unfit = IsAuditUnfit;
 }
 
--- what the status 0 proves: the words name two files, the first says an instance and the second a plan of it, which are those that the
--- files tell, where they tell them, and what the plan says is true
+-- what the status 0 proves: the words name two files, the first says an instance and the second a plan of it, which
+-- are those that the files tell, where they tell them, and what the plan says is true
 pub record IsProved (words : List Word) (told : FilesData) : Type 0 where
   pub files : PlanFilesData
   pub named : NameFiles words files

@@ -6,8 +6,8 @@ use Rattle.strip_film.specs.Rules.{Rules}
 use Rattle.strip_lines.specs.Lines.{AreJustified, GrowTo, known}
 use Rattle.strip_count.specs.Apart.{AreApart, IsLeft}
 
--- the lines, the cheapest complete path, what the path paid that the climb began with, how many lines there may be, and whether one more
--- was wanted
+-- the lines, the cheapest complete path, what the path paid that the climb began with, how many lines there may be,
+-- and whether one more was wanted
 pub record AscentData : Type 0 where
   pub lines : List Line
   pub best : PathData
@@ -15,8 +15,8 @@ pub record AscentData : Type 0 where
   pub cap : ℕ
   pub spent : Bool
 
--- the lines are justified; no two have the same set, which a candidate of the goal leaves; there are no more than there may be, and as
--- many where one more was wanted; and the best path is complete and pays no more than the goal
+-- the lines are justified; no two have the same set, which a candidate of the goal leaves; there are no more than
+-- there may be, and as many where one more was wanted; and the best path is complete and pays no more than the goal
 pub record IsAscent (rules : Rules) (ascent : AscentData) : Type 0 where
   pub justified : AreJustified rules ascent.lines
   pub apart : AreApart ascent.lines
@@ -38,8 +38,8 @@ pub record Climbs (before after : AscentData) : Type 0 where
 abbrev pub Reaches : AscentData → PathData → ℕ → ℕ → Type 0
 Reaches ascent path limit bound = (cost : ℕ) → cost ≤ limit → cost ≤ ascent.best.paid → cost ≤ path.paid + bound
 
--- the bound is at most what the lines make known of what remains after the path; and unless the climb is spent, it reaches the limit or
--- the best path
+-- the bound is at most what the lines make known of what remains after the path; and unless the climb is spent, it
+-- reaches the limit or the best path
 pub record IsReached (rules : Rules) (ascent : AscentData) (path : PathData) (limit bound : ℕ) : Type 0 where
   pub known : bound ≤ known rules ascent.lines path.rest
   pub reaches : ascent.spent ≡ false → Reaches ascent path limit bound

@@ -30,10 +30,10 @@ pub record ClimbedData : Type 0 where
   pub bound : ℕ
   pub best : PathData
 
--- the best path is complete and no dearer than the start; the lines are justified, no two of one set, each of a set that a candidate
--- of the start leaves, at most as many as there may be, and so at most as many as candidates of the start, in all and of each set; the
--- bound is what they make known of all scenes, which no order pays less than; and it is what the best path pays, or there are as many
--- lines as there may be
+-- the best path is complete and no dearer than the start; the lines are justified, no two of one set, each of a set
+-- that a candidate of the start leaves, at most as many as there may be, and so at most as many as candidates of
+-- the start, in all and of each set; the bound is what they make known of all scenes, which no order pays less
+-- than; and it is what the best path pays, or there are as many lines as there may be
 pub record IsClimbed (kind : Kind) (film : FilmData) (start : PathData) (cap : ℕ) (climbed : ClimbedData) : Type 0 where
   pub best : IsComplete film climbed.best
   pub no_dearer : climbed.best.paid ≤ start.paid
@@ -42,7 +42,8 @@ pub record IsClimbed (kind : Kind) (film : FilmData) (start : PathData) (cap : �
   pub left : All (λ line. IsLeft (rules_of kind film) start.paid line.set) climbed.lines
   pub most : length climbed.lines ≤ cap
   pub candidates : length climbed.lines ≤ candidate_count (rules_of kind film) start.paid
-  pub sets : (set : ℕ) → count_by (λ line. line.set == set) climbed.lines ≤ leaving_count (rules_of kind film) start.paid set
+  pub sets : (set : ℕ) → count_by (λ line. line.set == set) climbed.lines
+      ≤ leaving_count (rules_of kind film) start.paid set
   pub bound : climbed.bound ≡ known (rules_of kind film) climbed.lines (all_scenes film)
   pub true_bound : IsLeast film climbed.bound
   pub ends : (climbed.bound ≡ climbed.best.paid) ⊎ (length climbed.lines ≡ cap)

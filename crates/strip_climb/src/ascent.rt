@@ -79,7 +79,8 @@ impl Ascent {
     /// Adds a line of the set with this bound, where there may be one more; else the climb is spent.
     pub(crate) fn add(&mut self, q: Mask, bound: u64) -> Result<Begun, Memory>
         requires { position (λ line. line.set == q.0) (ascent_data self.old).lines ≡ None }
-        ensures { IfOk result (λ begun. Adds (ascent_data self.old) (record { set = q.0; bound = bound }) begun (ascent_data self.new)) }
+        ensures { IfOk result (λ begun. Adds (ascent_data self.old) (record { set = q.0; bound = bound }) begun
+            (ascent_data self.new)) }
     {
         let place = self.sheet.len();
         if place >= self.cap as usize {
@@ -93,7 +94,8 @@ impl Ascent {
     /// Raises the line at a place to the bound, where its own is less, and answers what it then has.
     pub(crate) fn raise(&mut self, place: usize, bound: u64) -> u64
         requires { place < length (ascent_data self.old).lines }
-        ensures lines { ascent_data self.new ≡ record (ascent_data self.old) { lines = with_raised (ascent_data self.old).lines place bound } }
+        ensures lines { ascent_data self.new ≡ record
+            (ascent_data self.old) { lines = with_raised (ascent_data self.old).lines place bound } }
         ensures bound { result ≡ max (line_at (ascent_data self.old).lines place).bound bound }
     {
         self.sheet.raise(place, bound)

@@ -43,7 +43,8 @@ pub fn climb<F: Fn(u64, u64) -> u64>(
     requires memo { IsMemo kept.now.kind kept.now.film.now memo.old }
     requires start { IsComplete kept.now.film.now (path_data start.now) }
     ensures memo { IsMemo kept.now.kind kept.now.film.now memo.new }
-    ensures climbed { IfOk result (λ climbed. IsClimbed kept.now.kind kept.now.film.now (path_data start.now) cap (climbed_data climbed)) }
+    ensures climbed { IfOk result (λ climbed. IsClimbed kept.now.kind kept.now.film.now (path_data start.now) cap
+        (climbed_data climbed)) }
 {
     kept_orders_are_ready_lists();
     steps_add_up_to_the_pay();
@@ -83,7 +84,8 @@ fn rise<F: Fn(u64, u64) -> u64>(
     requires limit { limit ≤ (ascent_data ascent.old).goal }
     ensures memo { IsMemo kept.now.kind kept.now.film.now memo.new }
     ensures start { OnOk result (IsAtStart kept.now.film.now (running_data running.new)) }
-    ensures risen { OnOk result (HasRisen (rules_of kept.now.kind kept.now.film.now) (ascent_data ascent.old) limit (ascent_data ascent.new)) }
+    ensures risen { OnOk result (HasRisen (rules_of kept.now.kind kept.now.film.now) (ascent_data ascent.old) limit
+        (ascent_data ascent.new)) }
 {
     let least = limit.min(ascent.best.paid());
     if !ascent.spent && known_of_all(kept, ascent) < least {
@@ -96,7 +98,8 @@ fn rise<F: Fn(u64, u64) -> u64>(
 fn known_of_all<F: Fn(u64, u64) -> u64>(kept: &StoredBound<F>, ascent: &Ascent) -> u64
     requires keeps { Keeps (F.pre kept.now.f) (F.post kept.now.f) kept.now.kind kept.now.film.now }
     requires ascent { IsAscent (rules_of kept.now.kind kept.now.film.now) (ascent_data ascent.now) }
-    ensures { result ≡ known (rules_of kept.now.kind kept.now.film.now) (ascent_data ascent.now).lines (all_scenes kept.now.film.now) }
+    ensures { result ≡ known (rules_of kept.now.kind kept.now.film.now) (ascent_data ascent.now).lines
+        (all_scenes kept.now.film.now) }
 {
     let film = kept.film();
     film.keeps_limits();

@@ -22,8 +22,9 @@ abbrev pub exit_of : PlanStatus → Status
 exit_of Optimal = Done
 exit_of CutShort = Bounded
 
--- the text is that of a plan of the instance, which is what the job asks for, and the status tells whether it is optimal; the instance
--- keeps the limits; and where a proof is asked for, the text says this plan, which a checker accepts
+-- the text is that of a plan of the instance, which is what the job asks for, and the status tells whether it is
+-- optimal; the instance keeps the limits; and where a proof is asked for, the text says this plan, which a checker
+-- accepts
 pub record IsPlan (job : SolveData) (inst : InstanceData) (status : Status) (printed : List ℕ) : Type 0 where
   pub is_instance : IsInstance inst
   pub plan : PlanData

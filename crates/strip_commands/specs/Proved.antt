@@ -10,8 +10,9 @@ use Rattle.strip_answer.specs.Run.{RunData}
 use Rattle.strip_inputs.specs.Said.{film_said}
 use Rattle.strip_commands.specs.Plan.{text_of}
 
--- the text of the job's file says an instance, and what was printed is the text of a plan of it: no order that keeps the pairs pays less
--- than the plan's bound, the order that it prints keeps them, and at the status 0 that order is a cheapest one, which pays the bound
+-- the text of the job's file says an instance, and what was printed is the text of a plan of it: no order that
+-- keeps the pairs pays less than the plan's bound, the order that it prints keeps them, and at the status 0 that
+-- order is a cheapest one, which pays the bound
 pub record IsSolvedFilm (job : SolveData) (text printed : List ℕ) (code : ℕ) : Type 0 where
   pub inst : InstanceData
   pub says : film_said text ≡ Ok inst
@@ -21,8 +22,8 @@ pub record IsSolvedFilm (job : SolveData) (text printed : List ℕ) (code : ℕ)
   pub kept : IsKeptOrder (film_of inst) plan.order
   pub best : code ≡ 0 → IsBestOrder (film_of inst) plan.order plan.bound
 
--- where the words name a job to solve a film, its file tells a text and the sink what it takes, and the status is 0 or 3, the sink took
--- such a text behind what it had taken before
+-- where the words name a job to solve a film, its file tells a text and the sink what it takes, and the status is 0
+-- or 3, the sink took such a text behind what it had taken before
 abbrev pub IsBoardProved : RunData → ℕ → Type 0
 IsBoardProved run code =
     (job : SolveData) (text taken : List ℕ) → NameSolve run.words job → run.files_before.bytes job.file ≡ Some text

@@ -41,7 +41,8 @@ pub record IsNoOrder (inst : InstanceData) (order : List ℕ) (status : Status) 
   pub text : printed ≡ told_row (codes "refused") (told_of NotAnOrder)
 
 abbrev pub IsReported : Report → InstanceData → List ℕ → Status → List ℕ → Type 0
-IsReported report inst order status printed = IsPrinted report inst order status printed ⊎ IsNoOrder inst order status printed
+IsReported report inst order status printed = IsPrinted report inst order status printed
+    ⊎ IsNoOrder inst order status printed
 
 -- what is due for the two files: of the plan the order alone is looked at
 abbrev pub IsReportDue : Report → PlanFilesData → FilesData → FilesData → Status → List ℕ → Type 0

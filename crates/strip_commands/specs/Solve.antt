@@ -27,7 +27,8 @@ IsAnswerTo job status printed (Err told) = IsRefusal BadInstance told status pri
 
 -- what is due for the job
 abbrev pub IsSolveDue : SolveData → FilesData → FilesData → Status → List ℕ → Type 0
-IsSolveDue job before after status printed = HasInput job.file 1_048_576 before after (λ text. IsAnswerTo job status printed (film_said text))
+IsSolveDue job before after status printed = HasInput job.file 1_048_576 before after
+    (λ text. IsAnswerTo job status printed (film_said text))
 
 -- the files tell an instance with this many classes
 pub record HasClasses (IsCount : ℕ → Type 0) (job : SolveData) (files : FilesData) : Type 0 where
@@ -42,4 +43,5 @@ abbrev pub IsSolveFit : SolveData → FilesData → Type 0
 IsSolveFit job files = HasClasses (λ count. count ≤ 64) job files
 
 abbrev pub IsSolveUnfit : SolveData → FilesData → Status → Type 0
-IsSolveUnfit job files why = (IsNoFilm job.file files ⊎ HasClasses (λ count. 64 < count) job files) × (why ≡ BadInstance)
+IsSolveUnfit job files why = (IsNoFilm job.file files ⊎ HasClasses (λ count. 64 < count) job files)
+    × (why ≡ BadInstance)

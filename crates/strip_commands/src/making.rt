@@ -102,7 +102,8 @@ fn try_plan(
     requires classes { classes ≡ class_count (film_of inst.now) }
     requires few { classes ≤ 64 }
     ensures status { IfOk result (λ answer. answer.status ≡ exit_of plan.now.status) }
-    ensures text { IfOk result (λ answer. answer_text answer ≡ trial_row (gen_data job.now.film) (class_count (film_of inst.now)) (plan_data plan.now)) }
+    ensures text { IfOk result (λ answer. answer_text answer
+        ≡ trial_row (gen_data job.now.film) (class_count (film_of inst.now)) (plan_data plan.now)) }
 {
     match check(alloc, inst, plan) {
         Ok(Verdict::Accepted) => tried(alloc, &job.film, classes, plan),
@@ -116,7 +117,8 @@ fn try_plan(
 fn tried(alloc: Global, film: &GenJob, classes: usize, plan: &Plan) -> Result<Answer, Memory>
     requires { classes ≤ 64 }
     ensures status { IfOk result (λ answer. answer.status ≡ exit_of plan.now.status) }
-    ensures text { IfOk result (λ answer. answer_text answer ≡ trial_row (gen_data film.now) classes (plan_data plan.now)) }
+    ensures text { IfOk result (λ answer. answer_text answer
+        ≡ trial_row (gen_data film.now) classes (plan_data plan.now)) }
 {
     Ok(Answer {
         status: status_of(plan.status),

@@ -37,7 +37,8 @@ pub(crate) fn solve<V: Fn(&Instance, SearchOptions, u32) -> Result<Plan, ReduceF
     ensures due { IfOk result (λ answer. IsSolveDue (solve_data job.now) (F.state files.old) (F.state files.new)
         answer.status (answer_text answer)) }
     ensures read { result ≡ Err Stop.Read
-        → ReadFailed (string_bytes job.now.file) (F.state files.old).holds (F.state files.old).faults (F.state files.new).faults }
+        → ReadFailed (string_bytes job.now.file) (F.state files.old).holds (F.state files.old).faults
+        (F.state files.new).faults }
     ensures files { FilesStay (F.state files.old) (F.state files.new)
         (λ name. string_bytes job.now.file ≡ name) (result ≡ Err Stop.Read) }
 {
@@ -84,7 +85,8 @@ pub(crate) fn options_of(
     requires tries { IfSome tries (λ number. number ≤ 100000000) }
     requires steps { IfSome steps (λ number. (1 ≤ number) × (number ≤ 1000)) }
     ensures may_be { MayBe result }
-    ensures said { result ≡ record { kind = kind; nodes = nodes; entries = table; tries = tries; steps = steps; steal = steal } }
+    ensures said { result
+        ≡ record { kind = kind; nodes = nodes; entries = table; tries = tries; steps = steps; steal = steal } }
 {
     SearchOptions {
         kind,

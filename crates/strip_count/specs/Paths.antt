@@ -14,7 +14,8 @@ use Rattle.strip_film.specs.Ranks.{IsEarlier}
 abbrev pub IsUnfinished : FilmData → PathData → Type 0
 IsUnfinished film path = IsPath film path × (path.rest ≢ 0)
 
--- the lists of scenes that can be shot while a set of n scenes remains, each ready in its turn, and leave something of it
+-- the lists of scenes that can be shot while a set of n scenes remains, each ready in its turn, and leave something
+-- of it
 abbrev pub lists_from : FilmData → ℕ → ℕ → List (List ℕ)
 lists_from film zero set = []
 lists_from film (suc n) set =
@@ -67,8 +68,8 @@ leaving_count rules cost set = number_of rules.film (leaving set (is_candidate r
 abbrev pub is_sooner : (ℕ → ℕ) → ℕ → ℕ → Bool
 is_sooner ranks scene other = nat_lt (ranks scene) (ranks other) || (ranks scene == ranks other && nat_lt scene other)
 
--- the first list comes before the second, both shot from a set: it ends where the other goes on, or where the two part its scene goes
--- first among what then remains
+-- the first list comes before the second, both shot from a set: it ends where the other goes on, or where the two
+-- part its scene goes first among what then remains
 abbrev pub is_earlier : Rules → ℕ → List ℕ → List ℕ → Bool
 is_earlier rules set xs [] = false
 is_earlier rules set [] (y ∷ ys) = true

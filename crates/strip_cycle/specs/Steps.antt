@@ -10,7 +10,8 @@ StepsTo pairs to (suc steps) scene = (next : ℕ) × Precedes pairs scene next �
 
 -- where fewer than 200 steps are told for a scene, pairs lead on by as many
 abbrev pub AreSound : List Pair → ℕ → List ℕ → Type 0
-AreSound pairs to steps = (scene : ℕ) → scene < 200 → slice_index steps scene < 200 → StepsTo pairs to (slice_index steps scene) scene
+AreSound pairs to steps = (scene : ℕ) → scene < 200 → slice_index steps scene < 200
+    → StepsTo pairs to (slice_index steps scene) scene
 
 -- for each scene the least number of steps is told; 200 where that is as many or more, or there is none
 pub record AreSteps (pairs : List Pair) (to : ℕ) (steps : List ℕ) : Type 0 where

@@ -73,7 +73,8 @@ fn next_scene(pairs: &[Pair], steps: &[u16; MAX_SCENES], scene: u16) -> Option<u
     requires known { All (IsKnownPair 200) pairs.now }
     requires scene { scene < 200 }
     requires small { All (λ count. count ≤ 200) steps.now }
-    ensures { MatchOption result ((other : ℕ) → ¬ Nears pairs.now steps.now scene other) (IsLeastNearer pairs.now steps.now scene) }
+    ensures { MatchOption result ((other : ℕ) → ¬ Nears pairs.now steps.now scene other)
+        (IsLeastNearer pairs.now steps.now scene) }
 {
     let mut next = None;
     for pair in pairs {
@@ -89,7 +90,8 @@ fn nears(pair: &Pair, steps: &[u16; MAX_SCENES], scene: u16) -> bool
     requires pair { IsKnownPair 200 pair.now }
     requires scene { scene < 200 }
     requires small { All (λ count. count ≤ 200) steps.now }
-    ensures { IsTrue result ↔ ((pair.now.first ≡ scene) × (slice_index steps.now pair.now.then + 1 ≡ slice_index steps.now scene)) }
+    ensures { IsTrue result ↔ ((pair.now.first ≡ scene)
+        × (slice_index steps.now pair.now.then + 1 ≡ slice_index steps.now scene)) }
 {
     pair.first == scene && steps[pair.then as usize] + 1 == steps[scene as usize]
 }
@@ -97,7 +99,8 @@ fn nears(pair: &Pair, steps: &[u16; MAX_SCENES], scene: u16) -> bool
 /// The lesser of a scene and the one so far.
 fn lesser(scene: u16, other: Option<u16>) -> u16
     ensures least { result ≤ scene }
-    ensures among { MatchOption other (result ≡ scene) (λ least. (result ≤ least) × ((result ≡ scene) ⊎ (result ≡ least))) }
+    ensures among { MatchOption other (result ≡ scene) (λ least. (result ≤ least)
+        × ((result ≡ scene) ⊎ (result ≡ least))) }
 {
     match other {
         Some(least) => scene.min(least),

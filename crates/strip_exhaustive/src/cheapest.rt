@@ -62,7 +62,8 @@ fn complete(alloc: Global, path: &Path) -> Result<Cheapest, Memory>
 
 /// The cheaper of the two, the first where they cost the same.
 fn cheaper(best: Option<Cheapest>, found: Cheapest) -> Cheapest
-    ensures { MatchOption best (result ≡ found) (λ b. MatchBool (nat_lt found.pay b.pay) (result ≡ found) (result ≡ b)) }
+    ensures { MatchOption best (result ≡ found) (λ b. MatchBool (nat_lt found.pay b.pay) (result ≡ found) (result
+        ≡ b)) }
 {
     match best {
         Some(best) if best.pay <= found.pay => best,

@@ -9,7 +9,8 @@ pub record PathData : Type 0 where
   pub rest : ℕ
   pub paid : ℕ
 
--- a path of the film: each scene was ready when it was shot, what remains is what is left, and what was paid is the sum of the steps
+-- a path of the film: each scene was ready when it was shot, what remains is what is left, and what was paid is the
+-- sum of the steps
 pub record IsPath (film : FilmData) (path : PathData) : Type 0 where
   pub remained : Remained film (all_scenes film) path.scenes
   pub left : path.rest ≡ rest_after (all_scenes film) path.scenes

@@ -7,8 +7,8 @@ use Rattle.strip_film.specs.Shoot.{ready, step_cost}
 use Rattle.strip_film.specs.Finish.{AreFirsts, IsAtMostFinish, BeginsLeast}
 use Rattle.strip_film.specs.Path.{PathData, IsPath}
 
--- the film, the static bound of each set, which scenes of a set may be shot first, and what a path promises that has paid so much and
--- leaves a set: the lesser goes first
+-- the film, the static bound of each set, which scenes of a set may be shot first, and what a path promises that
+-- has paid so much and leaves a set: the lesser goes first
 pub record Rules : Type 0 where
   pub film : FilmData
   pub bound : ℕ → ℕ
@@ -36,4 +36,5 @@ BeginLeast rules =
 -- the firsts of each set of the film are ready scenes of it
 abbrev pub FirstsAreReady : Rules → Type 0
 FirstsAreReady rules =
-    (set scene : ℕ) → LiesIn rules.film set → has (rules.firsts set) scene ≡ true → has (ready rules.film set) scene ≡ true
+    (set scene : ℕ) → LiesIn rules.film set → has (rules.firsts set) scene ≡ true
+    → has (ready rules.film set) scene ≡ true

@@ -22,7 +22,10 @@ scenes_with film set actor = count_by (works film actor) (members set)
 -- the path is one of the film, and the numbers are those that the film gives for it
 pub record IsRunning (film : FilmData) (state : RunningData) : Type 0 where
   pub path : IsPath film state.path
-  pub done : (actor : ℕ) → actor < length film.rates → slice_index state.done actor ≡ scenes_with film (minus (all_scenes film) state.path.rest) actor
-  pub left : (actor : ℕ) → actor < length film.rates → slice_index state.left actor ≡ scenes_with film state.path.rest actor
+  pub done : (actor : ℕ) → actor < length film.rates
+      → slice_index state.done actor ≡ scenes_with film (minus (all_scenes film) state.path.rest) actor
+  pub left : (actor : ℕ) → actor < length film.rates
+      → slice_index state.left actor ≡ scenes_with film state.path.rest actor
   pub on : state.on ≡ on_location film state.path.rest
-  pub before : (place : ℕ) → place < length state.path.scenes → slice_index state.before place ≡ steps_cost film (all_scenes film) (take place state.path.scenes)
+  pub before : (place : ℕ) → place < length state.path.scenes
+      → slice_index state.before place ≡ steps_cost film (all_scenes film) (take place state.path.scenes)

@@ -37,7 +37,11 @@ impl Cursor {
 
     /// Makes `path` the last path.
     pub fn moved(&mut self, path: &Path)
-        ensures { cursor_data self.new ≡ record { task = (cursor_data self.old).task; last = Some (path_data path.now) } }
+        ensures { cursor_data self.new ≡ record {
+          task = (cursor_data self.old).task;
+          last = Some
+              (path_data path.now);
+        } }
     {
         self.last = Some(*path);
     }

@@ -56,7 +56,8 @@ impl Film {
         pairs: Vec<Pair>,
     ) -> Option<Film>
         ensures limits { IsSome result ↔ IsFilm (film_data casts.items days.items rates.items holds.items pairs.items) }
-        ensures same { IfSome result (λ film. film ≡ film_data casts.items days.items rates.items holds.items pairs.items) }
+        ensures same { IfSome result (λ film. film
+            ≡ film_data casts.items days.items rates.items holds.items pairs.items) }
     {
         if !are_within_limits(&casts, &days, &rates, &holds, &pairs) {
             return None;

@@ -91,7 +91,8 @@ pub fn fewer_on_location_cost_no_more()
 pub fn costs_stay_small()
     ensures step { (film : FilmData) (set scene : ℕ) → IsFilm film → IsSet set → has set scene ≡ true
         → step_cost film set scene < 2 ^ 63 }
-    ensures steps { (film : FilmData) (set : ℕ) (scenes : List ℕ) → IsFilm film → IsSet set → AreFirsts (λ q. q) set scenes
+    ensures steps { (film : FilmData) (set : ℕ) (scenes : List ℕ) → IsFilm film → IsSet set
+        → AreFirsts (λ q. q) set scenes
         → steps_cost film set scenes < 2 ^ 63 }
     ensures paid { (film : FilmData) (path : PathData) → IsFilm film → IsPath film path → path.paid < 2 ^ 63 }
 {}

@@ -139,7 +139,8 @@ impl Running {
         requires running { IsRunning film.now (running_data self.old) }
         requires some { 0 < length (running_data self.old).path.scenes }
         ensures running { IsRunning film.now (running_data self.new) }
-        ensures path { (last : ℕ) × ((running_data self.old).path.scenes ≡ (running_data self.new).path.scenes ++ last ∷ []) }
+        ensures path { (last : ℕ) × ((running_data self.old).path.scenes ≡ (running_data self.new).path.scenes
+            ++ last ∷ []) }
     {
         film.keeps_limits();
         let paid = self.before[self.path.scenes().len() - 1];
@@ -152,7 +153,8 @@ impl Running {
 
 /// For each actor of the film how many of its scenes he works in.
 fn scenes_of_each(film: &Film) -> [u8; MAX_COUNT]
-    ensures { (actor : ℕ) → actor < length film.now.rates → slice_index result actor ≡ scenes_with film.now (all_scenes film.now) actor }
+    ensures { (actor : ℕ) → actor < length film.now.rates
+        → slice_index result actor ≡ scenes_with film.now (all_scenes film.now) actor }
 {
     film.keeps_limits();
     let mut counts = [0; MAX_COUNT];

@@ -28,7 +28,8 @@ unfoldable pub cast_of : Lcg → ℕ → ℕ
 cast_of generator zero = 0
 cast_of generator (suc n) = if works_in generator n then with (cast_of generator n) n else cast_of generator n
 
--- the scene at this place, where the generator's next word is the first scene's: a word for its days, and one for each actor
+-- the scene at this place, where the generator's next word is the first scene's: a word for its days, and one for
+-- each actor
 abbrev pub scene_at : Lcg → ℕ → ℕ → SceneData
 scene_at generator actors place =
     let own = behind generator (place * (1 + actors)) in

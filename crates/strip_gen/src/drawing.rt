@@ -35,7 +35,8 @@ pub fn generate(alloc: Global, number: u64, scenes: u32, actors: u32) -> Result<
 fn draw_actors(alloc: Global, words: &mut Pcg32, actors: u32) -> Result<Vec<Actor>, AllocError>
     requires { actors ≤ 64 }
     ensures behind { IfOk result (λ drawn. words.new ≡ behind words.old actors) }
-    ensures drawn { IfOk result (λ drawn. map actor_data drawn.items ≡ map (actor_at words.old) (range_with_len 0 actors)) }
+    ensures drawn { IfOk result (λ drawn. map actor_data drawn.items
+        ≡ map (actor_at words.old) (range_with_len 0 actors)) }
 {
     let mut drawn = Vec::new(alloc);
     for actor in 0..actors {
@@ -59,7 +60,8 @@ fn draw_scenes(
 ) -> Result<Vec<Scene>, AllocError>
     requires scenes { scenes ≤ 200 }
     requires actors { actors ≤ 64 }
-    ensures { IfOk result (λ drawn. map scene_data drawn.items ≡ map (scene_at words.old actors) (range_with_len 0 scenes)) }
+    ensures { IfOk result (λ drawn. map scene_data drawn.items
+        ≡ map (scene_at words.old actors) (range_with_len 0 scenes)) }
 {
     let mut drawn = Vec::new(alloc);
     for scene in 0..scenes {

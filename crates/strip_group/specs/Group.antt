@@ -18,8 +18,8 @@ is_waited film group actor scene =
 abbrev pub waited_days : GroupData → ℕ → ℕ → ℕ → ℕ
 waited_days film set group actor = sum_by (slice_index film.days) (filter (is_waited film group actor) (members set))
 
--- what the actors of a list are paid for waiting when they leave in its order, after those of `gone`: each waits on the days of
--- those who left before him
+-- what the actors of a list are paid for waiting when they leave in its order, after those of `gone`: each waits on
+-- the days of those who left before him
 abbrev pub leaving_pay : GroupData → ℕ → ℕ → List ℕ → ℕ
 leaving_pay film set gone [] = 0
 leaving_pay film set gone (actor ∷ later) =

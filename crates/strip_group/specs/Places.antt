@@ -14,7 +14,8 @@ pub record IsLimited (film : GroupData) : Type 0 where
 -- for each actor the scenes without him
 pub record AreStays (casts stays : List ℕ) (actors : ℕ) : Type 0 where
   pub count : length stays ≡ actors
-  pub each : (actor scene : ℕ) → actor < actors → scene < length casts → has (slice_index stays actor) scene ≡ not (has (slice_index casts scene) actor)
+  pub each : (actor scene : ℕ) → actor < actors → scene < length casts
+      → has (slice_index stays actor) scene ≡ not (has (slice_index casts scene) actor)
 
 -- a film within the limits, and for each actor the scenes without him
 pub record IsTable (casts stays days holds : List ℕ) : Type 0 where
@@ -27,7 +28,8 @@ actor_at group place = slice_index (members group) place
 -- the actors at those of the first places that a set has
 abbrev pub picked : ℕ → ℕ → ℕ → ℕ
 picked group set zero = 0
-picked group set (suc place) = cond {A = ℕ} (has set place) (with (picked group set place) (actor_at group place)) (picked group set place)
+picked group set (suc place) = cond {A = ℕ} (has set place) (with (picked group set place) (actor_at group place))
+    (picked group set place)
 
 abbrev pub pick : ℕ → ℕ → ℕ
 pick group set = picked group set (size group)

@@ -34,14 +34,16 @@ pub(crate) trait BySet: Sized + Drop {
         requires few { places ≤ 6 }
         requires scenes { scenes.0 < 4096 }
         requires fits { (set : ℕ) → set < 2 ^ places → value self.now set + 65535 ≤ most }
-        ensures { (set : ℕ) → set < 2 ^ places → value result set ≡ value self.now set + slice_index table.now (left_by stays.now places set scenes.0) };
+        ensures { (set : ℕ) → set < 2 ^ places → value result set ≡ value self.now set
+            + slice_index table.now (left_by stays.now places set scenes.0) };
 
     /// What each set saves, where it may also do so after the others, with one more place whose rate
     /// is then saved on the days of the set.
     fn or_after(&self, others: &Self, days: &Self, rate: u64) -> Self
         requires rate { rate ≤ most }
         requires fits { (set : ℕ) → set < 2 ^ places → value others.now set + rate * value days.now set ≤ most }
-        ensures { (set : ℕ) → set < 2 ^ places → value result set ≡ max (value self.now set) (value others.now set + rate * value days.now set) };
+        ensures { (set : ℕ) → set < 2 ^ places → value result set
+            ≡ max (value self.now set) (value others.now set + rate * value days.now set) };
 
     /// What each set saves at most, place after place in any order, from what each saves alone.
     fn saved(&self, days: &Self, rates: &[u64; 6]) -> Self
@@ -182,9 +184,11 @@ impl BySet for [u32; 4] {
 #[inline(always)]
 fn or_paid(alone: u32x4, others: u32x4, days: u32x4, rates: u32x4) -> u32x4
     requires lanes { AreLanes alone × AreLanes others × AreLanes days × AreLanes rates }
-    requires fits { (lane : ℕ) → lane < 4 → slice_index others lane + slice_index rates lane * slice_index days lane < 2 ^ 32 }
+    requires fits { (lane : ℕ) → lane < 4 → slice_index others lane
+        + slice_index rates lane * slice_index days lane < 2 ^ 32 }
     ensures lanes { AreLanes result }
-    ensures each { (lane : ℕ) → lane < 4 → slice_index result lane ≡ max (slice_index alone lane) (slice_index others lane + slice_index rates lane * slice_index days lane) }
+    ensures each { (lane : ℕ) → lane < 4 → slice_index result lane
+        ≡ max (slice_index alone lane) (slice_index others lane + slice_index rates lane * slice_index days lane) }
 {
     alone.simd_max(others.strict_add(rates.strict_mul(days)))
 }

@@ -76,7 +76,8 @@ impl DaySums {
     pub(crate) fn by_set<T: BySet>(&self, scenes: Mask, stays: &[u64; 6]) -> T
         requires few { T.places ≤ 6 }
         requires wide { 4294967295 ≤ T.most }
-        ensures { (set : ℕ) → set < 2 ^ T.places → T.value result set ≡ sum_over self.now (left_by stays.now T.places set scenes.0) }
+        ensures { (set : ℕ) → set < 2 ^ T.places → T.value result set
+            ≡ sum_over self.now (left_by stays.now T.places set scenes.0) }
     {
         let mut days = T::none();
         for number in 0..self.tables.len() {

@@ -108,7 +108,8 @@ fn stays_of(alloc: Global, casts: &[u64], actors: usize) -> Result<Vec<u64>, All
 fn scenes_without(casts: &[u64], actor: u32) -> Mask
     requires few { length casts.now ≤ 64 }
     requires known { actor < 64 }
-    ensures { (scene : ℕ) → scene < length casts.now → has result.0 scene ≡ not (has (slice_index casts.now scene) actor) }
+    ensures { (scene : ℕ) → scene < length casts.now
+        → has result.0 scene ≡ not (has (slice_index casts.now scene) actor) }
 {
     let mut scenes = Mask(0);
     for scene in 0..casts.len() {
@@ -131,9 +132,11 @@ fn by_place(stays: &[u64], holds: &[u64], group: Mask) -> Places
     requires few { size group.0 ≤ 6 }
     requires known { LiesBelow (length holds.now) group.0 }
     requires count { length stays.now ≡ length holds.now }
-    ensures stays { (place : ℕ) → place < size group.0 → slice_index result.stays place ≡ slice_index stays.now (actor_at group.0 place) }
+    ensures stays { (place : ℕ) → place < size group.0
+        → slice_index result.stays place ≡ slice_index stays.now (actor_at group.0 place) }
     ensures all_stay { (place : ℕ) → size group.0 ≤ place → place < 6 → slice_index result.stays place ≡ 2 ^ 64 - 1 }
-    ensures rates { (place : ℕ) → place < size group.0 → slice_index result.rates place ≡ slice_index holds.now (actor_at group.0 place) }
+    ensures rates { (place : ℕ) → place < size group.0
+        → slice_index result.rates place ≡ slice_index holds.now (actor_at group.0 place) }
     ensures no_rate { (place : ℕ) → size group.0 ≤ place → place < 6 → slice_index result.rates place ≡ 0 }
 {
     let mut stay_at = [u64::MAX; 6];
@@ -180,7 +183,8 @@ fn pay_of<T: BySet>(sums: &DaySums, q: Mask, stays: &[u64; 6], rates: &[u64; 6])
     requires rate { (place : ℕ) → slice_index rates.now place ≤ 64_000_000_000 }
     requires rates { sum rates.now ≤ T.most }
     requires room { sum rates.now * sum_over sums.now q.0 ≤ T.most }
-    ensures alone { result.alone ≡ sum_below 6 (λ place. slice_index rates.now place * sum_over sums.now (meet q.0 (slice_index stays.now place))) }
+    ensures alone { result.alone ≡ sum_below 6 (λ place. slice_index rates.now place * sum_over sums.now
+        (meet q.0 (slice_index stays.now place))) }
     ensures saved { IsSavedMost rates.now (λ set. sum_over sums.now (left_by stays.now 6 set q.0)) result.saved }
 {
     let days: T = sums.by_set(q, stays);

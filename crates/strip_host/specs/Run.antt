@@ -20,8 +20,8 @@ pub record IsFresh (words : List (List ℕ)) (files : FilesData) (sink : SinkDat
   pub unread : (name : List ℕ) → files.faults name ≡ 0
   pub unwritten : sink.faults ≡ 0
 
--- the code is that of a run of these words of which this holds; the files that it could read are those that the words name, and nothing
--- had failed before it
+-- the code is that of a run of these words of which this holds; the files that it could read are those that the
+-- words name, and nothing had failed before it
 pub record IsRunOf (Holds : RunData → ℕ → Type 0) (words : List (List ℕ)) (code : ℕ) : Type 0 where
   pub run : RunData
   pub same : run.words ≡ words

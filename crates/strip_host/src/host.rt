@@ -23,7 +23,8 @@ pub struct Host<'r, R: rt::Files + Print> {
 impl<'r, R: Env + rt::Files + Print + AllocGlobal> Host<'r, R> {
     /// What this runtime has: no file was opened yet, and nothing written to its output.
     pub fn of(rt: &'r R) -> Result<Host<'r, R>, Memory>
-        ensures fresh { IfOk result (λ host. IsFresh (texts host.words.items) (files_told host.files.held) (sink_told host.out.faults)) }
+        ensures fresh { IfOk result (λ host. IsFresh (texts host.words.items) (files_told host.files.held)
+            (sink_told host.out.faults)) }
         ensures unopened { IfOk result (λ host. host.files.disk ≡ []) }
     {
         let words = command_words(rt)?;

@@ -36,8 +36,8 @@ hand_of source told lines asked noted = record {
   ended = has_ended source told.ended;
 }
 
--- a pass of the two words and a pass of the book go by the same film and start, with a part for the front and for each task, and the
--- parts that the one began are those that the other claimed or that the source gave, none twice
+-- a pass of the two words and a pass of the book go by the same film and start, with a part for the front and for
+-- each task, and the parts that the one began are those that the other claimed or that the source gave, none twice
 pub record GoTogether (source : Source) (told : LeastView) (lines : ViewData) : Type 0 where
   pub film : told.film ≡ lines.search.film
   pub start : told.start ≡ lines.search.start
@@ -52,7 +52,8 @@ pub record IsSearch (lines : ViewData) : Type 0 where
   pub film : IsFilm lines.search.film
   pub tasks : AreStarts lines.search
 
--- the passes are of these two words and of this book, which is the one that the table's entries are of, and they go together
+-- the passes are of these two words and of this book, which is the one that the table's entries are of, and they go
+-- together
 pub record IsHub (table : TableId) (least : Least) (book : Book) (source : Source) (told : LeastPass) (lines : BookPass) : Type 0 where
   pub least_pass : IsLeastPassOf least told
   pub book_pass : IsBookPassOf book lines

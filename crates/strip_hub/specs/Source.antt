@@ -68,19 +68,22 @@ source_home (Takes taker) = OfQueues (taker_queues taker) (puts (taker_shares ta
 pub record GivesPart (before : Taker) (part : ℕ) (after : Taker) : Type 0 where
   pub handed : times part (handed_in (taker_shares before)) ≡ 1
   pub fresh : times part (taken_in (taker_shares before)) ≡ 0
-  pub took : (number : ℕ) → times number (taken_in (taker_shares after)) ≡ times number (taken_in (taker_shares before)) + times number (part ∷ [])
+  pub took : (number : ℕ) → times number (taken_in (taker_shares after))
+      ≡ times number (taken_in (taker_shares before)) + times number (part ∷ [])
 
 -- a taker found all queues empty
 pub record FindsNone (before after : Taker) : Type 0 where
   pub ended : have_ended (taker_shares after) ≡ true
   pub same : (number : ℕ) → times number (taken_in (taker_shares after)) ≡ times number (taken_in (taker_shares before))
 
--- a worker with this source was given a part, which it hadn't: the source and what is known of the counter, before and after
+-- a worker with this source was given a part, which it hadn't: the source and what is known of the counter, before
+-- and after
 pub record DrawsPart (before : Source) (told : LeastView) (part : ℕ) (after : Source) (drawn : LeastView) : Type 0 where
   pub only : drawn ≡ record told { claims = drawn.claims }
   pub below : part < told.parts
   pub fresh : times part told.claims + times part (taken_by before) ≡ 0
-  pub more : (other : ℕ) → times other drawn.claims + times other (taken_by after) ≡ times other told.claims + times other (taken_by before) + times other (part ∷ [])
+  pub more : (other : ℕ) → times other drawn.claims + times other (taken_by after) ≡ times other told.claims
+      + times other (taken_by before) + times other (part ∷ [])
   pub source : IsSource after told.parts drawn.claims
   pub home : source_home after ≡ source_home before
 

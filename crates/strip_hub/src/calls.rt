@@ -47,11 +47,14 @@ impl<'a, R: Wait, N: Named> Hand for Hub<'a, R, N> {
     fn claim(&mut self) -> Option<u32>
         requires { IsHub N.table self.old.least.now self.old.book.now self.old.source self.old.told self.old.lines }
         ensures sound { IsHub N.table self.new.least.now self.new.book.now self.new.source self.new.told self.new.lines }
-        ensures home { home_of self.new.least.now self.new.book.now self.new.source (known_least self.new.told) (known self.new.lines)
+        ensures home { home_of self.new.least.now self.new.book.now self.new.source (known_least self.new.told)
+            (known self.new.lines)
             ≡ home_of self.old.least.now self.old.book.now self.old.source (known_least self.old.told) (known self.old.lines) }
-        ensures claimed { Claims (hand_of self.old.source (known_least self.old.told) (known self.old.lines) self.old.asked self.old.noted) result
+        ensures claimed { Claims (hand_of self.old.source (known_least self.old.told)
+            (known self.old.lines) self.old.asked self.old.noted) result
             (hand_of self.new.source (known_least self.new.told) (known self.new.lines) self.new.asked self.new.noted) }
-        ensures next { self.old.source ≡ Counter → ClaimsNext (known_least self.old.told) result (known_least self.new.told) }
+        ensures next { self.old.source ≡ Counter → ClaimsNext (known_least self.old.told) result
+            (known_least self.new.told) }
         ensures counter { self.old.source ≡ Counter → self.new.source ≡ Counter }
     {
         other_parts_have_no_record();

@@ -12,8 +12,9 @@ use strip_film::Known;
 use strip_least::{Least, LeastPass};
 use strip_stripes::{Named, Stripes};
 
-/// The hand of one worker among several: a pass of the least cost and the next part, a pass of the book of
-/// lines, the table that all share, where it has its parts from, and the worker's last probe and note. It never answers want of memory.
+/// The hand of one worker among several: a pass of the least cost and the next part, a pass of the book of lines,
+/// the table that all share, where it has its parts from, and the worker's last probe and note. It never answers
+/// want of memory.
 #[derive(Drop)]
 pub struct Hub<'a, R: Wait, N: Named> {
     pub(crate) rt: &'a R,
@@ -75,7 +76,8 @@ impl<'a, R: Wait, N: Named> Hub<'a, R, N> {
 
     /// Gives the passes back.
     pub fn parts(self) -> HubParts
-        ensures { (result.told ≡ self.entry.told) × (result.lines ≡ self.entry.lines) × (result.source ≡ self.entry.source) }
+        ensures { (result.told ≡ self.entry.told) × (result.lines ≡ self.entry.lines)
+            × (result.source ≡ self.entry.source) }
     {
         HubParts {
             told: self.told,

@@ -55,7 +55,8 @@ pub(crate) fn next_part<R: Wait>(
 fn taken_part<R: Wait>(rt: &R, taker: &mut Taker) -> Option<u32>
     requires { IsTaker taker.old }
     ensures taker { IsTaker taker.new }
-    ensures stays { StayAt (taker_queues taker.old) (taker_queues taker.new) (taker_shares taker.old) (taker_shares taker.new) }
+    ensures stays { StayAt (taker_queues taker.old) (taker_queues taker.new) (taker_shares taker.old)
+        (taker_shares taker.new) }
     ensures answer { MatchOption result (FindsNone taker.old taker.new) (λ part. GivesPart taker.old part taker.new) }
 {
     let one = taker.take(rt)?;

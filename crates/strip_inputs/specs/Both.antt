@@ -14,7 +14,8 @@ use Rattle.strip_inputs.specs.declared.input.Input.TheVariants.{Said, Refused}
 use Rattle.strip_inputs.specs.Input.{HasInput}
 use Rattle.strip_inputs.specs.Said.{IsRefusal, IsSaidFilm, film_said, plan_said}
 
--- what holds where the film's file is refused and this is told of it, where the plan's is, and where they say an instance and a plan
+-- what holds where the film's file is refused and this is told of it, where the plan's is, and where they say an
+-- instance and a plan
 pub record Ways : Type 1 where
   pub Film : Option ToldData → Type 0
   pub Plan : Option ToldData → Type 0
@@ -66,7 +67,8 @@ ways_due Due status printed = record {
 }
 
 -- what is due for the two files, where this is due for an instance and a plan
-abbrev pub IsBothDue : (InstanceData → PlanData → Status → List ℕ → Type 0) → List ℕ → List ℕ → FilesData → FilesData → Status → List ℕ → Type 0
+abbrev pub IsBothDue : (InstanceData → PlanData → Status → List ℕ → Type 0) → List ℕ → List ℕ → FilesData → FilesData
+    → Status → List ℕ → Type 0
 IsBothDue Due film plan before after status printed = BothSay (ways_due Due status printed) film plan before after
 
 -- an instance and a plan that are given are such as texts say

@@ -19,7 +19,8 @@ pub record AreTold (film plan : List ℕ) (files : FilesData) (inst : InstanceDa
 
 -- the files tell an instance and a plan of which this holds
 abbrev pub AreFit : (InstanceData → PlanData → Type 0) → List ℕ → List ℕ → FilesData → Type 0
-AreFit Holds film plan files = (inst : InstanceData) × (its : PlanData) × AreTold film plan files inst its × Holds inst its
+AreFit Holds film plan files = (inst : InstanceData) × (its : PlanData) × AreTold film plan files inst its
+    × Holds inst its
 
 -- the film's file tells a text that says no instance
 pub record IsNoFilm (film : List ℕ) (files : FilesData) : Type 0 where
@@ -41,4 +42,5 @@ pub record IsNoPlan (film plan : List ℕ) (files : FilesData) : Type 0 where
 
 -- the files tell that one of them isn't fit, as this status says
 abbrev pub AreUnfit : List ℕ → List ℕ → FilesData → Status → Type 0
-AreUnfit film plan files why = (IsNoFilm film files × (why ≡ BadInstance)) ⊎ (IsNoPlan film plan files × (why ≡ BadPlan))
+AreUnfit film plan files why = (IsNoFilm film files × (why ≡ BadInstance))
+    ⊎ (IsNoPlan film plan files × (why ≡ BadPlan))

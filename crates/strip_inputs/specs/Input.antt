@@ -3,8 +3,8 @@ use Rattle.std.specs.Prelude.{◌≡◌, ℕ, ◌+◌, ◌<◌, ◌≤◌, List,
 use Rattle.strip_io.specs.Counts.{CameAtLeast, CameOnly}
 use Rattle.strip_io.specs.Files.{FilesData}
 
--- the file has a text of which this holds: the one that the files tell, where they tell it, and as many bytes came between the two
--- moments as it has, or more than the limit
+-- the file has a text of which this holds: the one that the files tell, where they tell it, and as many bytes came
+-- between the two moments as it has, or more than the limit
 pub record HasInput (name : List ℕ) (limit : ℕ) (before after : FilesData) (Holds : List ℕ → Type 0) : Type 0 where
   pub text : List ℕ
   pub told : (bytes : List ℕ) → before.bytes name ≡ Some bytes → text ≡ bytes

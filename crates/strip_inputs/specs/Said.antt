@@ -38,11 +38,13 @@ plan_of_says (Err fault) = Err (plan_told fault)
 
 -- what the text of a plan's file says of the instance
 abbrev pub plan_said : InstanceData → List ℕ → Result PlanData (Option ToldData)
-plan_said inst text = if nat_le (length text) 1_073_741_824 then plan_of_says (plan_says inst text) else Err (Some too_long_told)
+plan_said inst text = if nat_le (length text) 1_073_741_824 then plan_of_says (plan_says inst text) else Err
+    (Some too_long_told)
 
 -- this status and text refuse a file of which this is told
 abbrev pub IsRefusal : Status → Option ToldData → Status → List ℕ → Type 0
-IsRefusal why told status printed = (status ≡ why) × (fault : ToldData) × (told ≡ Some fault) × (printed ≡ error_row fault)
+IsRefusal why told status printed = (status ≡ why) × (fault : ToldData) × (told ≡ Some fault)
+    × (printed ≡ error_row fault)
 
 -- an instance that a text says: it keeps the limits, and has names by which a plan's text can say an order
 pub record IsSaidFilm (inst : InstanceData) : Type 0 where

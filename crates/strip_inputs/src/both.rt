@@ -58,7 +58,8 @@ pub fn both_inputs<F: Files>(
     files: &mut F,
     names: &PlanFiles,
 ) -> Result<Input<(Instance, Plan)>, Stop>
-    ensures given { IfOk result (λ input. BothSay (ways_of_input input) (string_bytes names.now.film) (string_bytes names.now.plan)
+    ensures given { IfOk result (λ input. BothSay (ways_of_input input) (string_bytes names.now.film)
+        (string_bytes names.now.plan)
         (F.state files.old) (F.state files.new)) }
     ensures said { IfOk result AreSaid }
     ensures read { result ≡ Err Stop.Read → HasReadFault (F.state files.old) (F.state files.new)
@@ -75,7 +76,8 @@ fn both_said<F: Files>(
     film: &str,
     plan: &str,
 ) -> Result<Input<(Instance, Plan)>, Stop>
-    ensures given { IfOk result (λ input. BothSay (ways_of_input input) film.now plan.now (F.state files.old) (F.state files.new)) }
+    ensures given { IfOk result (λ input. BothSay (ways_of_input input) film.now plan.now (F.state files.old)
+        (F.state files.new)) }
     ensures said { IfOk result AreSaid }
     ensures read { result ≡ Err Stop.Read → HasReadFault (F.state files.old) (F.state files.new)
         (IsEither film.now plan.now) }

@@ -60,7 +60,8 @@ fn said(alloc: Global, text: &[u8]) -> Result<Input<Instance>, Memory>
 /// The answer to a text that says this fault. Want of memory says nothing of the text.
 fn refused(alloc: Global, fault: InstanceFault) -> Result<Answer, Memory>
     ensures of_text { OnOk result (fault ≢ OutOfMemory) }
-    ensures refusal { IfOk result (λ answer. IsRefusal BadInstance (told_of (fault_data fault)) answer.status (answer_text answer)) }
+    ensures refusal { IfOk result (λ answer. IsRefusal BadInstance (told_of (fault_data fault)) answer.status
+        (answer_text answer)) }
 {
     match fault.told() {
         Some(told) => Answer::error(alloc, Status::BadInstance, told),

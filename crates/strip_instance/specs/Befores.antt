@@ -18,7 +18,8 @@ pair_between None second = None
 pair_between (Some first) None = None
 pair_between (Some first) (Some second) = if first == second then None else Some (record { first = first; then = second })
 
--- the pair that a row says: behind the word the names of two different scenes, and behind these no field that isn't empty
+-- the pair that a row says: behind the word the names of two different scenes, and behind these no field that isn't
+-- empty
 abbrev pub said_pair : List Field → Row → Option Pair
 said_pair names row =
     if is_before_row row && nat_le 3 (length row) && is_empty_row (drop 3 row)
@@ -51,11 +52,13 @@ abbrev pub first_below : {A : Type 0} → ℕ → (ℕ → Option A) → Option 
 first_below zero answer = None
 first_below (suc n) answer = option_or (first_below n answer) (answer n)
 
--- the least by scene numbers of the ways along the pairs that lead in so many steps from the one to the other of n scenes
+-- the least by scene numbers of the ways along the pairs that lead in so many steps from the one to the other of n
+-- scenes
 abbrev pub least_way : ℕ → List Pair → ℕ → ℕ → ℕ → Option (List ℕ)
 least_way n pairs zero from to = if from == to then Some (to ∷ []) else None
 least_way n pairs (suc steps) from to =
-    option_map (λ later. from ∷ later) (first_below n (λ next. if precedes pairs from next then least_way n pairs steps next to else None))
+    option_map (λ later. from ∷ later) (first_below n
+    (λ next. if precedes pairs from next then least_way n pairs steps next to else None))
 
 -- the least of the ways of the fewest steps; without a cycle no way has as many steps as there are scenes
 abbrev pub shortest_way : ℕ → List Pair → ℕ → ℕ → Option (List ℕ)

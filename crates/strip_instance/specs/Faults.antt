@@ -36,7 +36,8 @@ header_checks header =
 
 -- each rate of a row; one that is no rate has this fault at its column
 abbrev pub rate_check : (ℕ → FaultData) → Row → ℕ → Checks
-rate_check fault row actor = checks_of_one (is_number 0 1_000_000_000 (field_of (actor_fields row) actor)) (fault (actor + 3))
+rate_check fault row actor = checks_of_one (is_number 0 1_000_000_000 (field_of (actor_fields row) actor))
+    (fault (actor + 3))
 
 abbrev pub rate_checks : (ℕ → FaultData) → Row → Checks
 rate_checks fault row = below (length (actor_fields row)) (rate_check fault row)
@@ -47,7 +48,8 @@ pay_row_checks fault header number row = check (length row == length header) (Wi
 
 -- the rates: the first word, and then the row
 abbrev pub rate_row_checks : Row → Row → Checks
-rate_row_checks header rates = check (is_word (codes "rate") (field_of rates 0)) NoRateRow ∷ pay_row_checks BadRate header 2 rates
+rate_row_checks header rates = check (is_word (codes "rate")
+    (field_of rates 0)) NoRateRow ∷ pay_row_checks BadRate header 2 rates
 
 -- the hold rates, where they have a row
 abbrev pub hold_row_checks : Row → Option Row → Checks
@@ -82,7 +84,8 @@ scene_checks header earlier number row =
 
 -- a row of the body with this number, where these are the rows of the body before it
 abbrev pub row_checks : Row → List Row → ℕ → Row → Checks
-row_checks header earlier number row = if is_empty_row row then [] else scene_checks header (scene_rows earlier) number row
+row_checks header earlier number row = if is_empty_row row then [] else scene_checks header
+    (scene_rows earlier) number row
 
 -- the row at a place of the body, of which the first has this number
 abbrev pub body_checks : Row → ℕ → List Row → ℕ → Checks
@@ -104,15 +107,18 @@ way_checks names number (Some scenes) = check false (Cycle number scenes (map (f
 -- a row says a pair that makes no cycle with those of earlier rows
 abbrev pub pair_checks : List Field → List Pair → ℕ → Option Pair → Checks
 pair_checks names pairs number None = check false (BadBefore number) ∷ []
-pair_checks names pairs number (Some pair) = way_checks names number (shortest_way (length names) pairs pair.then pair.first)
+pair_checks names pairs number (Some pair) = way_checks names number
+    (shortest_way (length names) pairs pair.then pair.first)
 
 -- a row behind those of the scenes, with this number, where these are the pairs of the rows before it
 abbrev pub before_checks : List Field → List Pair → ℕ → Row → Checks
-before_checks names pairs number row = if is_empty_row row then [] else pair_checks names pairs number (said_pair names row)
+before_checks names pairs number row = if is_empty_row row then [] else pair_checks names pairs number
+    (said_pair names row)
 
 -- the row at a place of these rows, of which the first has this number
 abbrev pub later_checks : List Field → ℕ → List Row → ℕ → Checks
-later_checks names first rows place = before_checks names (pairs_of names (take place rows)) (first + place) (row_of rows place)
+later_checks names first rows place = before_checks names (pairs_of names (take place rows)) (first
+    + place) (row_of rows place)
 
 abbrev pub befores_checks : List Field → ℕ → List Row → Checks
 befores_checks names first rows = below (length rows) (later_checks names first rows)
@@ -124,10 +130,12 @@ some_scene_checks body = check (nat_lt 0 (length (scene_rows body))) NoScene ∷
 -- the rows of the scenes, then those behind them, and last that there is a scene
 abbrev pub body_parts_checks : Row → ℕ → List Row → List Row → Checks
 body_parts_checks header first scenes befores =
-    scenes_checks header first scenes ++ befores_checks (scene_names scenes) (first + length scenes) befores ++ some_scene_checks scenes
+    scenes_checks header first scenes ++ befores_checks (scene_names scenes) (first + length scenes) befores
+    ++ some_scene_checks scenes
 
 abbrev pub parts_checks : Parts → Checks
-parts_checks parts = header_checks parts.header ++ pay_checks parts ++ body_parts_checks parts.header parts.first parts.scenes parts.befores
+parts_checks parts = header_checks parts.header ++ pay_checks parts
+    ++ body_parts_checks parts.header parts.first parts.scenes parts.befores
 
 -- all checks of a text's rows; a row of rates that is missing counts as one without fields, so it lacks the word `rate`
 abbrev pub all_checks : List Row → Checks

@@ -35,8 +35,8 @@ scenes_part body = before_first is_before_row body
 abbrev pub befores_part : List Row → List Row
 befores_part body = drop (length (scenes_part body)) body
 
--- the header, the rates, the hold rates where they have a row, the rows of the scenes, those behind them, and the number of the first
--- row behind the rates
+-- the header, the rates, the hold rates where they have a row, the rows of the scenes, those behind them, and the
+-- number of the first row behind the rates
 pub record Parts : Type 0 where
   pub header : Row
   pub rates : Row

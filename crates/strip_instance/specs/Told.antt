@@ -3,7 +3,8 @@ use Rattle.std.specs.Prelude.{ℕ, List, codes, Option, None, Some}
 use Rattle.strip_text.specs.Told.{ToldData, column_sentence, field_sentence, row_sentence, told_at}
 use Rattle.strip_instance.specs.Fault.{FaultData, Empty, BadHeader, NoRateRow, Width, BadName, DuplicateScene, DuplicateActor, BadDays, BadRate, BadHold, BadMark, BadBefore, Cycle, NoScene, TooManyScenes, TooManyActors, NotUtf8, Memory}
 
--- each fault's own name, its row first and its column second, and the names of a cycle's scenes; want of memory is no fault of a text
+-- each fault's own name, its row first and its column second, and the names of a cycle's scenes; want of memory is
+-- no fault of a text
 abbrev pub told_of : FaultData → Option ToldData
 told_of Empty = told_at (codes "Empty") None None
 told_of BadHeader = told_at (codes "BadHeader") None None

@@ -33,7 +33,8 @@ pub(crate) fn read_befores(
     there: bool,
 ) -> Result<Vec<Pair>, InstanceFault>
     requires { length scenes.now ≤ 200 }
-    ensures makes { Makes (befores_checks (names_of scenes.now) rows.old.number (rows_from there row.old rows.old.left)) result }
+    ensures makes { Makes (befores_checks (names_of scenes.now) rows.old.number
+        (rows_from there row.old rows.old.left)) result }
     ensures pairs { IfOk result (λ pairs. pairs.items
         ≡ pairs_of (names_of scenes.now) (rows_from there row.old rows.old.left)) }
 {

@@ -29,7 +29,8 @@ pub fn want_of_memory_is_never_said()
 
 /// An actor is in a scene's cast where the mark at his place says that he works.
 pub fn casts_are_by_marks()
-    ensures { (marks : List Field) (actor : ℕ) → has (cast_of_marks marks) actor ≡ is_work_mark (slice_index_or marks actor []) }
+    ensures { (marks : List Field) (actor : ℕ) → has (cast_of_marks marks) actor
+        ≡ is_work_mark (slice_index_or marks actor []) }
 {}
 
 /// Of pairs that can be kept together `shortest_way` finds the shortest way from a scene to another,

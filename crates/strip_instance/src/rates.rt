@@ -37,7 +37,8 @@ pub(crate) fn read_actors(
     requires few { length (actor_fields header.now) ≤ 64 }
     requires first { rows.old.number ≡ 1 }
     requires names { strs names.now ≡ actor_fields header.now }
-    ensures makes { Makes (rate_row_checks header.now (row_of rows.old.left 0) ++ hold_row_checks header.now (hold_of (drop 1 rows.old.left))) result }
+    ensures makes { Makes (rate_row_checks header.now (row_of rows.old.left 0)
+        ++ hold_row_checks header.now (hold_of (drop 1 rows.old.left))) result }
     ensures actors { IfOk result (λ paid. map actor_data paid.actors.items ≡ paid_actors header.now rows.old.left) }
     ensures body { IfOk result (λ paid. rows_from paid.there row.new rows.new.left ≡ body_of (drop 1 rows.old.left)) }
     ensures counted { IfOk result (λ paid. (paid.there ≡ true) → rows.new.number ≡ first_of (drop 1 rows.old.left)) }

@@ -79,7 +79,8 @@ fn read_filmed(
 ) -> Result<Filmed, InstanceFault>
     requires { length (actor_fields header.now) ≤ 64 }
     ensures makes { Makes (body_parts_checks header.now rows.old.number
-        (scenes_part (rows_from there row.old rows.old.left)) (befores_part (rows_from there row.old rows.old.left))) result }
+        (scenes_part (rows_from there row.old rows.old.left))
+        (befores_part (rows_from there row.old rows.old.left))) result }
     ensures scenes { IfOk result (λ filmed. map scene_data filmed.scenes.items
         ≡ map scene_of (scene_rows (scenes_part (rows_from there row.old rows.old.left)))) }
     ensures pairs { IfOk result (λ filmed. filmed.pairs.items

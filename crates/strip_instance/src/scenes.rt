@@ -37,7 +37,8 @@ pub(crate) fn read_scenes(
     there: bool,
 ) -> Result<Scenes, InstanceFault>
     requires { length (actor_fields header.now) ≤ 64 }
-    ensures makes { Makes (scenes_checks header.now rows.old.number (scenes_part (rows_from there row.old rows.old.left))) result }
+    ensures makes { Makes (scenes_checks header.now rows.old.number
+        (scenes_part (rows_from there row.old rows.old.left))) result }
     ensures scenes { IfOk result (λ found. map scene_data found.scenes.items
         ≡ map scene_of (scene_rows (scenes_part (rows_from there row.old rows.old.left)))) }
     ensures left { IfOk result (λ found. rows_from found.there row.new rows.new.left

@@ -70,7 +70,8 @@ pub trait Files {
             → CopiesFrom text at n into.new) }
 
         // It fails only where the count of this name rose in this call, or the name isn't held.
-        ensures cause { OnErr result (ReadFailed name.now (state self.old).holds (state self.old).faults (state self.new).faults) }
+        ensures cause { OnErr result (ReadFailed name.now (state self.old).holds (state self.old).faults
+            (state self.new).faults) }
 
         ensures held { (state self.new).holds ≡ (state self.old).holds }
         ensures told { (state self.new).bytes ≡ (state self.old).bytes }

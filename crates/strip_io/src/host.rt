@@ -35,7 +35,8 @@ impl<D> Model for HostFiles<D> {
 impl<D: Disk + Drop> HostFiles<D> {
     /// The files of the disk with these names. A word that stands twice is one name. None is opened.
     pub fn new(alloc: Global, disk: D, words: &[String]) -> Result<HostFiles<D>, Memory>
-        ensures words { IfOk result (λ f. (name : List ℕ) → IsTrue (is_held f.held name) ↔ Contains (map string_bytes words.now) name) }
+        ensures words { IfOk result (λ f. (name : List ℕ) → IsTrue (is_held f.held name)
+            ↔ Contains (map string_bytes words.now) name) }
         ensures unfailed { IfOk result (λ f. (name : List ℕ) → faults_of f.held name ≡ 0) }
         ensures none_came { IfOk result (λ f. (name : List ℕ) → came_of f.held name ≡ 0) }
         ensures disk { IfOk result (λ f. f.disk ≡ disk) }
@@ -67,7 +68,8 @@ impl<D: Disk> Files for HostFiles<D> {
         requires place { at ≤ 2 ^ 31 }
 
         ensures within { IfOk result (λ n. n ≤ length into.new) }
-        ensures cause { OnErr result (ReadFailed name.now (is_held self.old.held) (faults_of self.old.held) (faults_of self.new.held)) }
+        ensures cause { OnErr result (ReadFailed name.now (is_held self.old.held) (faults_of self.old.held)
+            (faults_of self.new.held)) }
         ensures held { is_held self.new.held ≡ is_held self.old.held }
         ensures counts { CountsOnly name.now (faults_of self.old.held) (faults_of self.new.held) }
         ensures unfailed { OnOk result (faults_of self.new.held ≡ faults_of self.old.held) }
@@ -152,7 +154,8 @@ impl<W: Write> Sink for HostSink<W> {
         ensures unfailed { OnOk result (self.new.faults ≡ self.old.faults) }
 
         // The writer got the bytes that are answered and no others, where it tells what it holds.
-        ensures appended { IfOk result (λ n. Appends (W.contents self.old.writer) (W.contents self.new.writer) (take n piece.now)) }
+        ensures appended { IfOk result (λ n. Appends (W.contents self.old.writer) (W.contents self.new.writer)
+            (take n piece.now)) }
         ensures kept { OnErr result (Keeps (W.contents self.old.writer) (W.contents self.new.writer)) }
 
         ensures err { OnErr result (self.new.faults ≡ next_count self.old.faults) }

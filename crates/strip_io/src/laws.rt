@@ -14,7 +14,10 @@ pub fn cursors_give_from_their_place<T>()
 /// A text is taken where its parts are, one after the other; and a front of it where a front of the
 /// first part is, or the first part and a front of the next.
 pub fn texts_are_taken_in_parts()
-    ensures whole { (a b c : Option (List ℕ)) (first next : List ℕ) → Took a b first → Took b c next → Took a c (first ++ next) }
-    ensures early { (a b : Option (List ℕ)) (first next : List ℕ) → TookFront a b first → TookFront a b (first ++ next) }
-    ensures late { (a b c : Option (List ℕ)) (first next : List ℕ) → Took a b first → TookFront b c next → TookFront a c (first ++ next) }
+    ensures whole { (a b c : Option (List ℕ)) (first next : List ℕ) → Took a b first → Took b c next
+        → Took a c (first ++ next) }
+    ensures early { (a b : Option (List ℕ)) (first next : List ℕ) → TookFront a b first
+        → TookFront a b (first ++ next) }
+    ensures late { (a b c : Option (List ℕ)) (first next : List ℕ) → Took a b first → TookFront b c next
+        → TookFront a c (first ++ next) }
 {}

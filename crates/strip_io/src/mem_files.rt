@@ -61,7 +61,8 @@ impl MemFiles {
         ensures told { OnOk result (bytes_of self.new.files name.now ≡ Some bytes.now) }
         ensures others { OnOk result ((other : List ℕ) → other ≢ name.now
             → bytes_of self.new.files other ≡ bytes_of self.old.files other) }
-        ensures counts { OnOk result ((other : List ℕ) → faults_of self.new.files other ≡ faults_of self.old.files other) }
+        ensures counts { OnOk result ((other : List ℕ)
+            → faults_of self.new.files other ≡ faults_of self.old.files other) }
         ensures came { OnOk result ((other : List ℕ) → came_of self.new.files other ≡ came_of self.old.files other) }
         ensures err { OnErr result (self.new ≡ self.old) }
     {
@@ -81,7 +82,8 @@ impl Files for MemFiles {
         ensures within { IfOk result (λ n. n ≤ length into.new) }
         ensures copied { IfOk result (λ n. (text : List ℕ) → bytes_of self.old.files name.now ≡ Some text
             → CopiesFrom text at n into.new) }
-        ensures cause { OnErr result (ReadFailed name.now (is_held self.old.files) (faults_of self.old.files) (faults_of self.new.files)) }
+        ensures cause { OnErr result (ReadFailed name.now (is_held self.old.files) (faults_of self.old.files)
+            (faults_of self.new.files)) }
         ensures held { is_held self.new.files ≡ is_held self.old.files }
         ensures told { bytes_of self.new.files ≡ bytes_of self.old.files }
         ensures counts { CountsOnly name.now (faults_of self.old.files) (faults_of self.new.files) }

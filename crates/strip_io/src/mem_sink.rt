@@ -39,7 +39,8 @@ impl MemSink {
     /// numbers will fail.
     pub fn new(alloc: Global, room: usize, piece: usize, failing: &[u64]) -> Result<MemSink, Memory>
         requires { 1 ≤ piece }
-        ensures { IfOk result (λ m. m ≡ record { taken = []; room = room; piece = piece; failing = failing.now; calls = 0; faults = 0 }) }
+        ensures { IfOk result (λ m. m
+            ≡ record { taken = []; room = room; piece = piece; failing = failing.now; calls = 0; faults = 0 }) }
     {
         Ok(MemSink {
             taken: Vec::with_capacity(alloc, room)?,
@@ -74,10 +75,16 @@ impl Sink for MemSink {
         // It fails at the listed calls and where the room is used up, and nowhere else.
         ensures fails { IsErr result ↔ (Contains self.old.failing (next_count self.old.calls)
             ⊎ (length self.old.taken ≡ self.old.room)) }
-        ensures exact { IfOk result (λ n. n ≡ min self.old.piece (min (length piece.now) (self.old.room - length self.old.taken))) }
+        ensures exact { IfOk result (λ n. n ≡ min self.old.piece
+            (min (length piece.now) (self.old.room - length self.old.taken))) }
 
-        ensures ok { IfOk result (λ n. self.new ≡ record self.old { taken = self.old.taken ++ take n piece.now; calls = next_count self.old.calls }) }
-        ensures err { OnErr result (self.new ≡ record self.old { calls = next_count self.old.calls; faults = next_count self.old.faults }) }
+        ensures ok { IfOk result (λ n. self.new ≡ record self.old {
+          taken = self.old.taken
+              ++ take n piece.now;
+          calls = next_count self.old.calls;
+        }) }
+        ensures err { OnErr result (self.new
+            ≡ record self.old { calls = next_count self.old.calls; faults = next_count self.old.faults }) }
     {
         self.calls = next_count(self.calls);
         let left = self.room - self.taken.len();

@@ -41,7 +41,8 @@ impl NoFaultFiles {
     pub fn add(&mut self, name: &str, bytes: &[u8]) -> Result<(), Memory>
         ensures ok { OnOk result (self.new ≡ put self.old name.now bytes.now) }
         ensures told { OnOk result (bytes_of self.new name.now ≡ Some bytes.now) }
-        ensures others { OnOk result ((other : List ℕ) → other ≢ name.now → bytes_of self.new other ≡ bytes_of self.old other) }
+        ensures others { OnOk result ((other : List ℕ) → other ≢ name.now
+            → bytes_of self.new other ≡ bytes_of self.old other) }
         ensures err { OnErr result (self.new ≡ self.old) }
     {
         self.files.put(name, bytes)

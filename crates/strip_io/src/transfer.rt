@@ -83,7 +83,8 @@ pub fn load<F: Files>(
     ensures too_many { result ≡ Err LoadFault.TooLong
         → CameAtLeast (limit + 1) ((F.state files.old).came name.now) ((F.state files.new).came name.now) }
     ensures reads { F.reads files.new ≤ F.reads files.old + (limit + 1) }
-    ensures none_else { (other : List ℕ) → other ≢ name.now → (F.state files.new).came other ≡ (F.state files.old).came other }
+    ensures none_else { (other : List ℕ) → other ≢ name.now
+        → (F.state files.new).came other ≡ (F.state files.old).came other }
 {
     let mut all = Vec::new(alloc);
     let mut piece = vec![in alloc; 0; PIECE]?;

@@ -50,7 +50,8 @@ first_view course = record {
   claims = [];
 }
 
--- a view of this course, which was told no less than the least cost and has no better path; where it has ended, no part is left
+-- a view of this course, which was told no less than the least cost and has no better path; where it has ended, no
+-- part is left
 pub record Fits (course : Course) (least next : ℕ) (view : View) : Type 0 where
   pub film : view.film ≡ course.film
   pub start : view.start ≡ course.start
@@ -68,16 +69,18 @@ pub record HasBest (least : ℕ) (views : List View) : Type 0 where
   pub some_weight : 0 < view.weight
   pub best : view.best ≡ least
 
--- The words are the least cost, which some complete path paid and some pass has as its best, and the next part. The claims of all passes
--- together are the parts below the next one, each once. The next one exceeds the number of parts by no more than the weight of those who
--- found that none is left, so that it never comes near the limit of a word
+-- The words are the least cost, which some complete path paid and some pass has as its best, and the next part. The
+-- claims of all passes together are the parts below the next one, each once. The next one exceeds the number of
+-- parts by no more than the weight of those who found that none is left, so that it never comes near the limit of a
+-- word
 pub record IsKept (course : Course) (state : State ⊤ View) : Type 0 where
   pub least : ℕ
   pub next : ℕ
   pub words : state.words ≡ least ∷ next ∷ []
   pub film : IsFilm course.film
   pub paid : IsPaid course.film least
-  pub fits : (id : ℕ) (view : View) → get_elem? state.views id ≡ some view → 0 < view.weight → Fits course least next view
+  pub fits : (id : ℕ) (view : View) → get_elem? state.views id ≡ some view → 0 < view.weight
+      → Fits course least next view
   pub spent : (id : ℕ) (view : View) → get_elem? state.views id ≡ some view → view.weight ≡ 0 → view.claims ≡ []
   pub best : HasBest least state.views
   pub whole : total weight_of state.views ≡ full_weight

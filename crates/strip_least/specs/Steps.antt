@@ -4,8 +4,8 @@ use Rattle.strip_pay.specs.Pay.{IsOptimum}
 use Rattle.strip_least.specs.declared.view.View.{View}
 use Rattle.strip_least.specs.Rule.{IsPaid, full_weight, once_below, times}
 
--- A cost that the pass may be told: at most all that it was told and offered, with what the start path paid, and paid by a complete path
--- of the film, so at least the optimum
+-- A cost that the pass may be told: at most all that it was told and offered, with what the start path paid, and
+-- paid by a complete path of the film, so at least the optimum
 pub record Tells (before : View) (cost : ℕ) : Type 0 where
   pub no_more : cost ≤ before.told
   pub no_dearer : cost ≤ before.start
@@ -17,7 +17,8 @@ pub record HasLooked (before : View) (least : ℕ) (after : View) : Type 0 where
   pub only : after ≡ record before { told = least }
   pub tells : Tells before least
 
--- an offer of a path that paid this: the pass is told the lesser of it and of what was the least cost until then, and has the better path
+-- an offer of a path that paid this: the pass is told the lesser of it and of what was the least cost until then,
+-- and has the better path
 pub record HasOffered (paid : ℕ) (before : View) (answer : ℕ) (after : View) : Type 0 where
   pub least : ℕ
   pub was : Tells before least
@@ -29,7 +30,8 @@ pub record HasOffered (paid : ℕ) (before : View) (answer : ℕ) (after : View)
 abbrev pub with_claim : View → ℕ → View
 with_claim view part = record view { claims = view.claims ++ part ∷ [] }
 
--- a part is claimed: one that the pass hadn't. While there is no other pass, it is the next one of those that the pass has
+-- a part is claimed: one that the pass hadn't. While there is no other pass, it is the next one of those that the
+-- pass has
 pub record IsClaimed (before : View) (part : ℕ) (after : View) : Type 0 where
   pub unended : before.ended ≡ false
   pub below : part < before.parts
@@ -85,10 +87,11 @@ pub record HasCounted (before after : View) : Type 0 where
   pub only : after ≡ before
   pub once : AreOnce before.claims
 
--- A settlement: the pass is told the least cost. Where it has all the weight, its best path paid that, and where it has ended besides,
--- it has claimed all parts, each once
+-- A settlement: the pass is told the least cost. Where it has all the weight, its best path paid that, and where it
+-- has ended besides, it has claimed all parts, each once
 pub record HasSettled (before : View) (least : ℕ) (after : View) : Type 0 where
   pub only : after ≡ record before { told = least }
   pub tells : Tells before least
   pub best : before.weight ≡ full_weight → before.best ≡ least
-  pub each : before.weight ≡ full_weight → before.ended ≡ true → (part : ℕ) → times part before.claims ≡ once_below part before.parts
+  pub each : before.weight ≡ full_weight → before.ended ≡ true → (part : ℕ)
+      → times part before.claims ≡ once_below part before.parts

@@ -12,7 +12,8 @@ use Rattle.strip_bound.specs.Promise.{promised}
 use Rattle.strip_rule.specs.Rule.{open_firsts}
 pub use Rattle.strip_mask.specs.Least.{least_at as least_of}
 
--- the rules of a search by a film's static bounds of a kind and its open firsts; a path promises what it paid with the bound of what remains
+-- the rules of a search by a film's static bounds of a kind and its open firsts; a path promises what it paid with
+-- the bound of what remains
 abbrev pub rules_of : Kind → FilmData → Rules
 rules_of kind film = record {
   film = film;
@@ -26,7 +27,8 @@ abbrev pub known : Rules → List Line → ℕ → ℕ
 known rules [] set = rules.bound set
 known rules (line ∷ lines) set = if line.set == set then max line.bound (known rules lines set) else known rules lines set
 
--- the least, over the scenes of a list, of a step and the static bound of what then remains; `none` where the list is empty
+-- the least, over the scenes of a list, of a step and the static bound of what then remains; `none` where the list
+-- is empty
 abbrev pub least_step : Rules → ℕ → ℕ → List ℕ → ℕ
 least_step rules set none [] = none
 least_step rules set none (scene ∷ scenes) =
@@ -36,7 +38,8 @@ least_step rules set none (scene ∷ scenes) =
 abbrev pub ahead : Rules → ℕ → ℕ
 ahead rules set = max (rules.bound set) (least_step rules set (rules.bound set) (members (rules.firsts set)))
 
--- a line is justified by a list: its bound is the static one at most, or each first step and what is known of the rest reach it
+-- a line is justified by a list: its bound is the static one at most, or each first step and what is known of the
+-- rest reach it
 abbrev pub IsJustified : Rules → List Line → Line → Type 0
 IsJustified rules lines line =
     (line.bound ≤ rules.bound line.set)

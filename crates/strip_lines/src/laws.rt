@@ -28,7 +28,8 @@ pub fn the_rules_are_true()
 pub fn a_justified_list_is_true()
     ensures lines { (rules : Rules) (lines : List Line) → IsFilm rules.film → BoundsFinish rules → BeginLeast rules
         → AreJustified rules lines → All (λ line. IsAtMostFinish rules.film line.set line.bound) lines }
-    ensures known { (rules : Rules) (lines : List Line) (set : ℕ) → IsFilm rules.film → BoundsFinish rules → BeginLeast rules
+    ensures known { (rules : Rules) (lines : List Line) (set : ℕ) → IsFilm rules.film → BoundsFinish rules
+        → BeginLeast rules
         → AreJustified rules lines → LiesIn rules.film set → IsAtMostFinish rules.film set (known rules lines set) }
 {}
 
@@ -60,10 +61,12 @@ pub fn what_is_known_stays()
 /// A list stays justified where a line with the static bound of its set is added, and where the bound
 /// of one of its lines is raised to a justified one; and it grows so.
 pub fn justified_lists_grow()
-    ensures added { (rules : Rules) (lines : List Line) (line : Line) → AreJustified rules lines → LiesIn rules.film line.set
+    ensures added { (rules : Rules) (lines : List Line) (line : Line) → AreJustified rules lines
+        → LiesIn rules.film line.set
         → line.bound ≤ rules.bound line.set → AreJustified rules (lines ++ line ∷ []) }
     ensures added_grows { (lines : List Line) (line : Line) → GrowTo lines (lines ++ line ∷ []) }
-    ensures raised { (rules : Rules) (lines : List Line) (place bound : ℕ) → AreJustified rules lines → place < length lines
+    ensures raised { (rules : Rules) (lines : List Line) (place bound : ℕ) → AreJustified rules lines
+        → place < length lines
         → IsJustified rules lines (record { set = (line_at lines place).set; bound = bound })
         → AreJustified rules (with_raised lines place bound) }
     ensures raised_grows { (lines : List Line) (place bound : ℕ) → place < length lines

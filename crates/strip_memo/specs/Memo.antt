@@ -14,7 +14,8 @@ pub record IsEntry (kind : Kind) (film : FilmData) (is_whole : Bool) (entry : En
 -- each entry is true of its set, and its value is the bound itself at each place that is marked
 pub record IsMemo (kind : Kind) (film : FilmData) (memo : Memo) : Type 0 where
   pub entries : All (IsEntry kind film memo.is_whole) memo.entries.items
-  pub marked : (place : ℕ) (entry : Entry) → place < length memo.entries.items → slice_index_or memo.marks.items place false ≡ true
+  pub marked : (place : ℕ) (entry : Entry) → place < length memo.entries.items
+      → slice_index_or memo.marks.items place false ≡ true
       → IsEntry kind film true (slice_index_or memo.entries.items place entry)
 
 -- how many bytes a memo takes at most: 16 for each entry, and a mark

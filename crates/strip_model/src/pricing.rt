@@ -91,7 +91,8 @@ fn pay_to_last(inst: &Instance, order: &[u16], actor: usize) -> u64
     requires order { All (λ scene. scene < length inst.now.scenes) order.now }
     requires short { length order.now ≤ 200 }
     requires actor { actor < length inst.now.actors }
-    ensures pay { result ≡ sum_by (day_pay (film_of inst.now) actor) (to_last (works (film_of inst.now) actor) order.now) }
+    ensures pay { result ≡ sum_by (day_pay (film_of inst.now) actor)
+        (to_last (works (film_of inst.now) actor) order.now) }
     ensures small { result ≤ 99 * 1_000_000_000 * length order.now }
 {
     let mut pay = 0;

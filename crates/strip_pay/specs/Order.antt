@@ -26,7 +26,8 @@ pub record IsKeptOrder (film : FilmData) (order : List ℕ) : Type 0 where
   pub is_order : IsOrder (length film.casts) order
   pub keeps : Keeps film.pairs order
 
--- the first list comes before the second: at the first place where they differ it has the lesser number, or it ends there
+-- the first list comes before the second: at the first place where they differ it has the lesser number, or it ends
+-- there
 abbrev pub IsBefore : List ℕ → List ℕ → Type 0
 IsBefore xs [] = ⊥
 IsBefore [] (y ∷ ys) = ⊤

@@ -31,7 +31,8 @@ pub fn fit(pairs: &[Pair], scenes: usize) -> bool
 fn fits_behind(befores: &Befores, pair: &Pair, scenes: usize) -> bool
     requires { scenes ≤ 200 }
     ensures known { IsTrue result → IsKnownPair scenes pair.now }
-    ensures fits { (pairs : List Pair) → Knows befores.now pairs → FitPairs scenes pairs → IsTrue result ↔ FitPairs scenes (pairs ++ pair.now ∷ []) }
+    ensures fits { (pairs : List Pair) → Knows befores.now pairs → FitPairs scenes pairs → IsTrue result
+        ↔ FitPairs scenes (pairs ++ pair.now ∷ []) }
 {
     is_known(pair, scenes) && !befores.stands(*pair) && !befores.leads(pair.then, pair.first)
 }

@@ -32,9 +32,11 @@ pub fn the_reverse_pays_the_same()
 /// An order pays at most all days at the rates and hold rates of all actors; so within the limits of
 /// instances and films a pay is below 2^63.
 pub fn pays_stay_small()
-    ensures most { (film : FilmData) (order : List ℕ) → length film.holds ≡ length film.rates → IsOrder (length film.days) order
+    ensures most { (film : FilmData) (order : List ℕ) → length film.holds ≡ length film.rates
+        → IsOrder (length film.days) order
         → pay_of film order ≤ sum film.days * (sum film.rates + sum film.holds) }
-    ensures small { (film : FilmData) (order : List ℕ) → length film.holds ≡ length film.rates → IsOrder (length film.days) order
+    ensures small { (film : FilmData) (order : List ℕ) → length film.holds ≡ length film.rates
+        → IsOrder (length film.days) order
         → sum film.days ≤ 19800 → sum film.rates ≤ 64000000000 → sum film.holds ≤ 64000000000
         → pay_of film order < 2 ^ 63 }
 {}
@@ -49,7 +51,8 @@ pub fn lists_are_in_order()
 /// What a cycle means: no order keeps pairs that have one; and where there is none, each set of scenes
 /// that isn't empty has one that no pair puts behind another of the set.
 pub fn cycles_can_not_be_kept()
-    ensures kept { (n : ℕ) (pairs : List Pair) (order : List ℕ) → IsOrder n order → Keeps pairs order → ¬ HasCycle pairs }
+    ensures kept { (n : ℕ) (pairs : List Pair) (order : List ℕ) → IsOrder n order → Keeps pairs order
+        → ¬ HasCycle pairs }
     ensures first { (n : ℕ) (pairs : List Pair) (inside : ℕ → Bool) (x : ℕ) → ¬ HasCycle pairs
         → ((y : ℕ) → inside y ≡ true → y < n) → inside x ≡ true
         → (scene : ℕ) × (inside scene ≡ true) × ((first : ℕ) → Precedes pairs first scene → inside first ≡ false) }
@@ -58,9 +61,11 @@ pub fn cycles_can_not_be_kept()
 /// When a pair more makes a cycle: pairs without one have none with it either where its scenes differ and
 /// its second doesn't lead to its first; where it leads there they have one; and one that was there stays.
 pub fn cycles_come_by_pairs()
-    ensures none { (pairs : List Pair) (pair : Pair) → ¬ HasCycle pairs → pair.first ≢ pair.then → ¬ Leads pairs pair.then pair.first
+    ensures none { (pairs : List Pair) (pair : Pair) → ¬ HasCycle pairs → pair.first ≢ pair.then
+        → ¬ Leads pairs pair.then pair.first
         → ¬ HasCycle (pairs ++ pair ∷ []) }
-    ensures closed { (pairs : List Pair) (pair : Pair) → Leads pairs pair.then pair.first → HasCycle (pairs ++ pair ∷ []) }
+    ensures closed { (pairs : List Pair) (pair : Pair) → Leads pairs pair.then pair.first
+        → HasCycle (pairs ++ pair ∷ []) }
     ensures stays { (pairs more : List Pair) → HasCycle pairs → HasCycle (pairs ++ more) }
 {}
 
@@ -68,9 +73,13 @@ pub fn cycles_come_by_pairs()
 /// costs no more than to leave them apart, by which of the two places is the cheaper one to wait at;
 /// and which of them is shot first makes no difference then.
 pub fn equal_casts_can_stand_together()
-    ensures together { (film : FilmData) (before between behind : List ℕ) (a b : ℕ) → slice_index film.casts a ≡ slice_index film.casts b
-        → (pay_of film (before ++ (a ∷ b ∷ (between ++ behind))) ≤ pay_of film (before ++ (a ∷ (between ++ (b ∷ behind)))))
-        ⊎ (pay_of film (before ++ (between ++ (a ∷ b ∷ behind))) ≤ pay_of film (before ++ (a ∷ (between ++ (b ∷ behind))))) }
-    ensures swapped { (film : FilmData) (before behind : List ℕ) (a b : ℕ) → slice_index film.casts a ≡ slice_index film.casts b
+    ensures together { (film : FilmData) (before between behind : List ℕ) (a b : ℕ)
+        → slice_index film.casts a ≡ slice_index film.casts b
+        → (pay_of film (before ++ (a ∷ b ∷ (between ++ behind)))
+        ≤ pay_of film (before ++ (a ∷ (between ++ (b ∷ behind)))))
+        ⊎ (pay_of film (before ++ (between ++ (a ∷ b ∷ behind)))
+        ≤ pay_of film (before ++ (a ∷ (between ++ (b ∷ behind))))) }
+    ensures swapped { (film : FilmData) (before behind : List ℕ) (a b : ℕ)
+        → slice_index film.casts a ≡ slice_index film.casts b
         → pay_of film (before ++ (b ∷ a ∷ behind)) ≡ pay_of film (before ++ (a ∷ b ∷ behind)) }
 {}

@@ -31,7 +31,8 @@ impl SceneSet {
     /// Puts the scene into the set.
     pub fn add(&mut self, scene: u16)
         requires { scene < 256 }
-        ensures { (other : ℕ) → other < 256 → has_scene self.new other ≡ ((scene == other) || has_scene self.old other) }
+        ensures { (other : ℕ) → other < 256 → has_scene self.new other
+            ≡ ((scene == other) || has_scene self.old other) }
     {
         let place = scene as usize / 64;
         self.masks[place] = self.masks[place].with(scene as u32 % 64);
@@ -39,7 +40,8 @@ impl SceneSet {
 
     /// Puts the scenes of the other set into this one.
     pub fn add_all(&mut self, others: &SceneSet)
-        ensures { (other : ℕ) → other < 256 → has_scene self.new other ≡ (has_scene self.old other || has_scene others.now other) }
+        ensures { (other : ℕ) → other < 256 → has_scene self.new other
+            ≡ (has_scene self.old other || has_scene others.now other) }
     {
         for (place, mask) in self.masks.iter_mut().enumerate() {
             *mask = mask.union(others.masks[place]);

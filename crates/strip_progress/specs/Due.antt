@@ -12,4 +12,5 @@ IsDue begun wanted = fortieths (begun - 1) wanted < fortieths begun wanted
 -- with how many of the first tasks a row is due
 abbrev pub rows : ℕ → ℕ → ℕ
 rows zero wanted = 0
-rows (suc before) wanted = (if nat_lt (fortieths before wanted) (fortieths (suc before) wanted) then 1 else 0) + rows before wanted
+rows (suc before) wanted = (if nat_lt (fortieths before wanted) (fortieths (suc before) wanted) then 1 else 0)
+    + rows before wanted

@@ -53,7 +53,8 @@ count_checks number row =
 
 -- that it is the row of a line, and there aren't too many before it
 abbrev pub line_checks : ℕ → ℕ → Row → Checks
-line_checks before number row = check (is_line_row row) (BadRow number) ∷ check (nat_lt before 16_777_216) TooManyLines ∷ []
+line_checks before number row = check (is_line_row row) (BadRow number) ∷ check
+    (nat_lt before 16_777_216) TooManyLines ∷ []
 
 -- there is a row
 abbrev pub has_row : List Row → Bool

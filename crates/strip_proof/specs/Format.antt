@@ -14,8 +14,9 @@ use Rattle.strip_proof.specs.Faults.{Checks, is_pair, row_is, count_checks, due,
 abbrev pub value_of : List Row → ℕ → Field
 value_of rows place = field_of (row_of rows place) 1
 
--- a format by what it adds to the five rows of every plan and the rows of its lines: the kind of bounds that the lines go by, how many rows stand
--- before the five, how many before the lines, how many lines are due, and the checks of the rows before the five and of those behind them
+-- a format by what it adds to the five rows of every plan and the rows of its lines: the kind of bounds that the
+-- lines go by, how many rows stand before the five, how many before the lines, how many lines are due, and the
+-- checks of the rows before the five and of those behind them
 pub record Format : Type 0 where
   pub kind : Kind
   pub before : ℕ

@@ -5,7 +5,8 @@ use Rattle.strip_film.specs.declared.shared.Line.{Line}
 use Rattle.strip_proof.specs.declared.plan.Status.{Status}
 use Rattle.strip_proof.specs.declared.plan.Plan.{Plan}
 
--- an order of scenes and its cost, a bound on the cost of every order, how many lines the search had, and those that prove the bound
+-- an order of scenes and its cost, a bound on the cost of every order, how many lines the search had, and those
+-- that prove the bound
 pub record PlanData : Type 0 where
   pub status : Status
   pub kind : Kind

@@ -23,7 +23,8 @@ kind_word Pairs = codes "pairs"
 kind_word Groups = codes "groups"
 kind_word Arrivals = codes "arrivals"
 
--- the last digits of a number, this many, in base 16 and lower case: the one with i others behind it is number / 16 ^ i mod 16
+-- the last digits of a number, this many, in base 16 and lower case: the one with i others behind it is number / 16
+-- ^ i mod 16
 unfoldable pub hex_digits : ℕ → ℕ → Field
 hex_digits zero number = []
 hex_digits (suc i) number = digit_char (number / 16 ^ i % 16) ∷ hex_digits i number

@@ -53,7 +53,8 @@ pub(crate) fn read_head(
 
 /// The kind of bounds: `row` has the row of the second format, and the next one is that of the bounds.
 pub(crate) fn read_front(rows: &mut Rows<'_>, row: &mut Row) -> Result<Kind, PlanFault>
-    ensures makes { Makes (due 1 (row_is (is_pair (codes "plan") (λ value. bytes_eq value (codes "2")))) (row.old ∷ rows.old.left)
+    ensures makes { Makes (due 1 (row_is (is_pair (codes "plan")
+        (λ value. bytes_eq value (codes "2")))) (row.old ∷ rows.old.left)
         ++ due 2 (row_is (is_pair (codes "bounds") is_kind)) rows.old.left) result }
     ensures kind { IfOk result (λ kind. kind ≡ kind_of (value_of rows.old.left 0)) }
     ensures left { OnOk result (rows.new.left ≡ drop 1 rows.old.left) }

@@ -12,7 +12,8 @@ ghost use Rattle.strip_proof.specs.Text.{HasReadableScenes, IsReadablePlan, says
 
 /// The text of a plan begins with the row `plan,2`.
 pub fn texts_begin_with_their_format()
-    ensures { (inst : InstanceData) (plan : PlanData) → (rest : List ℕ) × (plan_text inst plan ≡ codes "plan,2\n" ++ rest) }
+    ensures { (inst : InstanceData) (plan : PlanData) → (rest : List ℕ)
+        × (plan_text inst plan ≡ codes "plan,2\n" ++ rest) }
 {}
 
 /// The text of a plan is that of its head rows and its line rows, and reads back as these rows.
@@ -20,7 +21,8 @@ pub fn texts_read_back()
     ensures rows { (inst : InstanceData) (plan : PlanData)
         → plan_text inst plan ≡ csv_text (head_rows inst plan (length plan.lines) ++ map line_row plan.lines) }
     ensures back { (inst : InstanceData) (plan : PlanData)
-        → rows_of (plan_text inst plan) ≡ map (map trimmed) (head_rows inst plan (length plan.lines) ++ map line_row plan.lines) }
+        → rows_of (plan_text inst plan) ≡ map (map trimmed) (head_rows inst plan (length plan.lines)
+        ++ map line_row plan.lines) }
 {}
 
 /// A plan without lines has one text, whether a proof is given or not.
@@ -32,14 +34,16 @@ pub fn plans_without_lines_are_bare()
 pub fn line_rows_tell_their_lines()
     ensures count { (set : ℕ) → length (set_field set) ≡ 16 }
     ensures value { (set : ℕ) → set < 2 ^ 64 → digits_value 16 (set_field set) ≡ set }
-    ensures apart { (a b : Line) → a.set < 2 ^ 64 → b.set < 2 ^ 64 → a.bound < 2 ^ 64 → b.bound < 2 ^ 64 → line_row a ≡ line_row b → a ≡ b }
+    ensures apart { (a b : Line) → a.set < 2 ^ 64 → b.set < 2 ^ 64 → a.bound < 2 ^ 64 → b.bound < 2 ^ 64
+        → line_row a ≡ line_row b → a ≡ b }
 {}
 
 /// The text of a plan says the plan, with its kind, and without a proof the plan without lines: where
 /// the names of the scenes are such as a text can say an order by, and the plan is one that a text can
 /// say.
 pub fn written_plans_read_back()
-    ensures whole { (inst : InstanceData) (plan : PlanData) → HasReadableScenes inst → IsReadablePlan inst plan → says inst (plan_text inst plan) ≡ Ok plan }
+    ensures whole { (inst : InstanceData) (plan : PlanData) → HasReadableScenes inst → IsReadablePlan inst plan
+        → says inst (plan_text inst plan) ≡ Ok plan }
     ensures bare { (inst : InstanceData) (plan : PlanData) → HasReadableScenes inst → IsReadablePlan inst plan
         → says inst (bare_text inst plan) ≡ Ok (record plan { lines = [] }) }
 {}
@@ -47,7 +51,8 @@ pub fn written_plans_read_back()
 /// A plan that a text says is one that a text can say, so that what was read and is written again
 /// reads back.
 pub fn what_is_said_is_readable()
-    ensures { (inst : InstanceData) (text : List ℕ) (plan : PlanData) → says inst text ≡ Ok plan → IsReadablePlan inst plan }
+    ensures { (inst : InstanceData) (text : List ℕ) (plan : PlanData) → says inst text ≡ Ok plan
+        → IsReadablePlan inst plan }
 {}
 
 /// No text says that memory ran out: that fault is of the machine alone.

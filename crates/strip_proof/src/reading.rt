@@ -56,7 +56,8 @@ fn read_first(
     rows: &mut Rows<'_>,
     row: &mut Row,
 ) -> Result<Plan, PlanFault>
-    ensures makes { Makes (checks_in inst.now (row.old ∷ rows.old.left) (first_format (row.old ∷ rows.old.left))) result }
+    ensures makes { Makes (checks_in inst.now (row.old ∷ rows.old.left)
+        (first_format (row.old ∷ rows.old.left))) result }
     ensures plan { IfOk result (λ plan. plan_data plan
         ≡ plan_in inst.now (row.old ∷ rows.old.left) (first_format (row.old ∷ rows.old.left))) }
 {
@@ -72,7 +73,8 @@ fn read_second(
     rows: &mut Rows<'_>,
     row: &mut Row,
 ) -> Result<Plan, PlanFault>
-    ensures makes { Makes (checks_in inst.now (row.old ∷ rows.old.left) (second_format (row.old ∷ rows.old.left))) result }
+    ensures makes { Makes (checks_in inst.now (row.old ∷ rows.old.left)
+        (second_format (row.old ∷ rows.old.left))) result }
     ensures plan { IfOk result (λ plan. plan_data plan
         ≡ plan_in inst.now (row.old ∷ rows.old.left) (second_format (row.old ∷ rows.old.left))) }
 {

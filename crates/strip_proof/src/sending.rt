@@ -75,7 +75,8 @@ impl Chunk {
     /// Adds a row, once what is there was sent where there is no room for it.
     fn add<S: Sink>(&mut self, out: &mut S, row: &[u8]) -> Result<(), Failed>
         requires { length row.now ≤ MAX_ROW }
-        ensures ok { OnOk result ((sent : List ℕ) × (sent ++ self.new ≡ self.old ++ row.now) × Took (S.state out.old).taken (S.state out.new).taken sent) }
+        ensures ok { OnOk result ((sent : List ℕ) × (sent ++ self.new ≡ self.old ++ row.now)
+            × Took (S.state out.old).taken (S.state out.new).taken sent) }
         ensures cause { OnErr result (Rose (S.state out.old).faults (S.state out.new).faults) }
         ensures front { OnErr result (TookFront (S.state out.old).taken (S.state out.new).taken self.old) }
         ensures later { (S.state out.old).faults ≤ (S.state out.new).faults }

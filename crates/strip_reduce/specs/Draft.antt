@@ -15,8 +15,9 @@ draft_state draft = record {
   apart = draft.apart;
 }
 
--- a state that steps can be taken on: what is set apart and all days at all rates are together at most what those of an instance
--- are, so that no sum overflows; and no scene or actor that was compared can be joined with a later one
+-- a state that steps can be taken on: what is set apart and all days at all rates are together at most what those
+-- of an instance are, so that no sum overflows; and no scene or actor that was compared can be joined with a later
+-- one
 pub record IsDraft (at : State) (compared : Compared) : Type 0 where
   pub state : IsState at
   pub pay : at.apart + sum at.film.days * sum at.film.rates ≤ 19800 * 64_000_000_000

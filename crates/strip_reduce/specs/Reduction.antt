@@ -18,15 +18,18 @@ least_behind n test a = least_below n (λ b. nat_lt a b && test a b)
 -- of the numbers a < b below n that pass together, those of the least a, and then of the least b
 abbrev pub least_two : ℕ → (ℕ → ℕ → Bool) → Option (ℕ × ℕ)
 least_two n test =
-    option_and_then (λ a. option_map (λ b. (a, b)) (least_behind n test a)) (least_below n (λ a. is_some (least_behind n test a)))
+    option_and_then (λ a. option_map (λ b. (a, b)) (least_behind n test a)) (least_below n
+    (λ a. is_some (least_behind n test a)))
 
--- the state after the first step that can be taken: the least actor is dropped, else the first two scenes are joined, else the
--- first two actors
+-- the state after the first step that can be taken: the least actor is dropped, else the first two scenes are
+-- joined, else the first two actors
 abbrev pub next : State → Option State
 next state =
     option_or (option_map (dropped state) (least_below (length state.film.rates) (can_drop state.film)))
-    (option_or (option_map (λ two. scenes_joined state two.0 two.1) (least_two (length state.film.casts) (can_join_scenes state.film)))
-    (option_map (λ two. actors_joined state two.0 two.1) (least_two (length state.film.rates) (can_join_actors state.film))))
+    (option_or (option_map (λ two. scenes_joined state two.0 two.1)
+    (least_two (length state.film.casts) (can_join_scenes state.film)))
+    (option_map (λ two. actors_joined state two.0 two.1)
+    (least_two (length state.film.rates) (can_join_actors state.film))))
 
 -- the state after so many steps, or after fewer where no more can be taken
 abbrev pub after_steps : ℕ → State → State

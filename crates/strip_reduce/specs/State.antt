@@ -5,8 +5,8 @@ use Rattle.strip_mask.specs.Set.{numbers_below}
 use Rattle.strip_pay.specs.Film.{FilmData}
 use Rattle.strip_film.specs.Film.{IsFilmUpTo}
 
--- what is left to shoot, for each of its scenes the scenes of the first film that were joined in it, in the order in which they
--- are shot, and what is paid in any order
+-- what is left to shoot, for each of its scenes the scenes of the first film that were joined in it, in the order
+-- in which they are shot, and what is paid in any order
 pub record State : Type 0 where
   pub film : FilmData
   pub members : List (List ℕ)

@@ -17,7 +17,8 @@ scene_count film actor = sum_below (length film.casts) (λ scene. if works film 
 
 -- the days of the scenes that he works in
 abbrev pub work_days : FilmData → ℕ → ℕ
-work_days film actor = sum_below (length film.casts) (λ scene. if works film actor scene then slice_index film.days scene else 0)
+work_days film actor = sum_below (length film.casts)
+    (λ scene. if works film actor scene then slice_index film.days scene else 0)
 
 -- the actor's pay is the same in any order: his waiting costs nothing, or he has no two scenes to wait between
 abbrev pub can_drop : FilmData → ℕ → Bool
@@ -30,7 +31,8 @@ is_paired pairs scene = list_any (λ pair. (pair.first == scene) || (pair.then =
 -- the scenes have equal casts, and neither stands in a pair
 abbrev pub can_join_scenes : FilmData → ℕ → ℕ → Bool
 can_join_scenes film a b =
-    (slice_index film.casts a == slice_index film.casts b) && (not (is_paired film.pairs a) && not (is_paired film.pairs b))
+    (slice_index film.casts a == slice_index film.casts b)
+    && (not (is_paired film.pairs a) && not (is_paired film.pairs b))
 
 -- the actors work in the same scenes
 abbrev pub can_join_actors : FilmData → ℕ → ℕ → Bool

@@ -42,7 +42,8 @@ fn working_twice(casts: &[u64]) -> Mask
 pub(crate) fn joinable_scenes(casts: &[u64], pairs: &[Pair], from: usize) -> Option<(usize, usize)>
     requires few { length casts.now ≤ 200 }
     requires known { All (IsKnownPair 200) pairs.now }
-    requires none_before { NoTwoBelow from (length casts.now) (can_join_scenes (film_data casts.now [] [] [] pairs.now)) }
+    requires none_before { NoTwoBelow from (length casts.now)
+        (can_join_scenes (film_data casts.now [] [] [] pairs.now)) }
     ensures { result ≡ least_two (length casts.now) (can_join_scenes (film_data casts.now [] [] [] pairs.now)) }
 {
     equal_scenes(casts, &paired(pairs), from)
@@ -125,7 +126,8 @@ fn alike_behind(casts: &[u64], a: usize, actors: usize) -> Option<usize>
 /// The actors who work in the same scenes as this one.
 fn working_alike(casts: &[u64], actor: u32) -> Mask
     requires { actor < 64 }
-    ensures { (other : ℕ) → other < 64 → has result.0 other ≡ can_join_actors (film_data casts.now [] [] [] []) actor other }
+    ensures { (other : ℕ) → other < 64 → has result.0 other
+        ≡ can_join_actors (film_data casts.now [] [] [] []) actor other }
 {
     let mut alike = Mask::below(64);
     for cast in casts {

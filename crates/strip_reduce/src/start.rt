@@ -55,7 +55,8 @@ fn holds_of(alloc: Global, actors: &[Actor]) -> Result<Vec<u64>, AllocError>
 /// For each scene below `count` the list of it alone.
 fn single_scenes(alloc: Global, count: usize) -> Result<Vec<Vec<u16>>, AllocError>
     requires { count ≤ 200 }
-    ensures { IfOk result (λ members. map (λ list. list.items) members.items ≡ map (λ scene. scene ∷ []) (numbers_below count)) }
+    ensures { IfOk result (λ members. map (λ list. list.items) members.items
+        ≡ map (λ scene. scene ∷ []) (numbers_below count)) }
 {
     let mut members = Vec::new(alloc);
     for scene in 0..count {

@@ -64,7 +64,8 @@ how_many n test = sum_below n (λ i. if test i then 1 else 0)
 abbrev pub works_among : FilmData → List ℕ → ℕ → Bool
 works_among film scenes actor = list_any (works film actor) scenes
 
--- the actor is held at this place of the order: he doesn't work there, and does in a scene before it and in one behind it
+-- the actor is held at this place of the order: he doesn't work there, and does in a scene before it and in one
+-- behind it
 abbrev pub is_held : FilmData → List ℕ → ℕ → ℕ → Bool
 is_held film order place actor =
     works_among film (take place order) actor && works_among film (drop (place + 1) order) actor

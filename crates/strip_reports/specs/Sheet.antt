@@ -38,7 +38,8 @@ row_of position name figures =
     ∷ decimal figures.working ∷ decimal figures.holding ∷ decimal figures.pay ∷ []
 
 abbrev pub scene_row : InstanceData → List ℕ → ℕ → Row
-scene_row inst order place = row_of (place + 1) (scene_name inst (scene_at order place)) (figures_at (film_of inst) order place)
+scene_row inst order place = row_of (place + 1) (scene_name inst (scene_at order place))
+    (figures_at (film_of inst) order place)
 
 -- all days, and what all actors get for all scenes
 abbrev pub total_row : ℕ → ℕ → Row

@@ -7,7 +7,8 @@ use Rattle.strip_reports.specs.Days.{work_days, hold_days}
 
 -- the days that an actor works at his rate, and those that he waits at his hold rate
 abbrev pub pay_for : FilmData → List ℕ → ℕ → ℕ
-pay_for film crews actor = slice_index film.rates actor * work_days crews actor + slice_index film.holds actor * hold_days crews actor
+pay_for film crews actor = slice_index film.rates actor * work_days crews actor
+    + slice_index film.holds actor * hold_days crews actor
 
 abbrev pub sums_of : FilmData → List ℕ → ℕ → Sums
 sums_of film crews actor = record { work = work_days crews actor; hold = hold_days crews actor; pay = pay_for film crews actor }

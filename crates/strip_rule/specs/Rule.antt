@@ -15,8 +15,8 @@ fits_before film set first second =
     is_part (on_location film set) (slice_index film.casts first)
     && is_part (slice_index film.casts first) (union (on_location film set) (slice_index film.casts second))
 
--- the first scene rules the second out as the one that is shot next: both are ready, and the first fits before the second; where
--- each fits before the other, the lesser rules out the greater
+-- the first scene rules the second out as the one that is shot next: both are ready, and the first fits before the
+-- second; where each fits before the other, the lesser rules out the greater
 abbrev pub rules_out : FilmData → ℕ → ℕ → ℕ → Bool
 rules_out film set first second =
     (has (ready film set) first && has (ready film set) second)
@@ -28,4 +28,5 @@ is_ruled_out film set scene = list_any (λ first. rules_out film set first scene
 
 -- the open firsts of a set: its ready scenes that no scene rules out
 abbrev pub open_firsts : FilmData → ℕ → ℕ
-open_firsts film set = fold (λ found scene. if is_ruled_out film set scene then found else with found scene) 0 (members (ready film set))
+open_firsts film set = fold (λ found scene. if is_ruled_out film set scene then found else with found scene) 0
+    (members (ready film set))

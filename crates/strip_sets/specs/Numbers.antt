@@ -15,7 +15,8 @@ halves place without_it with_it set = cond {A = ℕ} (has set place) (with_it (w
 -- the sum of the numbers of the subsets, those of the first places alone and those with each place more
 abbrev pub sum_within : ℕ → (ℕ → ℕ) → ℕ → ℕ
 sum_within zero number set = number 0
-sum_within (suc place) number set = sum_within place number set + cond {A = ℕ} (has set place) (sum_within place (λ part. number (with part place)) set) 0
+sum_within (suc place) number set = sum_within place number set
+    + cond {A = ℕ} (has set place) (sum_within place (λ part. number (with part place)) set) 0
 
 -- a number for each class
 abbrev pub by_class : {R : Type 0} → (R → ℕ → ℕ) → Classes R → ℕ → ℕ → ℕ
@@ -25,7 +26,8 @@ by_class value classes class set =
 abbrev pub HasLanes : Classes (List ℕ) → Type 0
 HasLanes classes = AreLanes classes.first × AreLanes classes.second × AreLanes classes.third × AreLanes classes.fourth
 
--- the four steps by which the sets of two places are come to, each at a lane: where it leads to, and where it comes from
+-- the four steps by which the sets of two places are come to, each at a lane: where it leads to, and where it comes
+-- from
 abbrev pub step_to : List ℕ
 step_to = 3 ∷ 1 ∷ 2 ∷ 3 ∷ []
 

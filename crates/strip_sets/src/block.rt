@@ -15,7 +15,8 @@ impl<'a, T: BySet> Classes<&'a Block<T>> {
     /// The numbers in the blocks.
     #[inline(always)]
     fn numbers(self) -> Classes<&'a T>
-        ensures { (class set : ℕ) → by_class (λ s. T.value s.now) result class set ≡ by_class (λ s. T.value s.now.numbers) self.entry class set }
+        ensures { (class set : ℕ) → by_class (λ s. T.value s.now) result class set
+            ≡ by_class (λ s. T.value s.now.numbers) self.entry class set }
     {
         Classes {
             first: &self.first.numbers,

@@ -52,14 +52,16 @@ pub trait BySet: Sized + Drop {
     fn other_sums(&mut self, first: u64, numbers: &[u64; 10])
         requires few { places ≤ 10 }
         requires fits { first + sum_over numbers.now (full places) ≤ most }
-        ensures { (set : ℕ) → set < 2 ^ places → value self.new set + sum_over numbers.now set ≡ first + sum_over numbers.now (full places) };
+        ensures { (set : ℕ) → set < 2 ^ places → value self.new set + sum_over numbers.now set ≡ first
+            + sum_over numbers.now (full places) };
 
     /// That much more at one set.
     fn add(&mut self, set: usize, number: u64)
         requires few { places ≤ 10 }
         requires known { set < 2 ^ places }
         requires fits { value self.old set + number ≤ most }
-        ensures { (other : ℕ) → other < 2 ^ places → value self.new other ≡ value self.old other + counted (other == set) number };
+        ensures { (other : ℕ) → other < 2 ^ places
+            → value self.new other ≡ value self.old other + counted (other == set) number };
 
     /// For each set the sum of the numbers of its subsets.
     fn below(&mut self)
@@ -77,8 +79,10 @@ pub trait BySet: Sized + Drop {
 
     /// For each set the number of the others, and its weight for each of its days.
     fn sum_times(&mut self, others: &Self, weights: &Self, days: &Self)
-        requires { (set : ℕ) → set < 2 ^ places → value others.now set + value weights.now set * value days.now set ≤ most }
-        ensures { (set : ℕ) → set < 2 ^ places → value self.new set ≡ value others.now set + value weights.now set * value days.now set };
+        requires { (set : ℕ) → set < 2 ^ places → value others.now set + value weights.now set * value days.now set
+            ≤ most }
+        ensures { (set : ℕ) → set < 2 ^ places → value self.new set ≡ value others.now set
+            + value weights.now set * value days.now set };
 
     /// For each set the number of the others more.
     fn plus(&mut self, others: &Self)
@@ -91,8 +95,11 @@ pub trait BySet: Sized + Drop {
 
     /// Lowers the number of each set to that of the others and what its days cost, where nothing is blocked.
     fn or_open(&mut self, others: &Self, weights: &Self, days: &Self, blocked: &Self)
-        requires { (set : ℕ) → set < 2 ^ places → value others.now set + value weights.now set * value days.now set ≤ most }
-        ensures { (set : ℕ) → set < 2 ^ places → value self.new set ≡ lowered (value self.old set) (value others.now set + value weights.now set * value days.now set) (value blocked.now set) 0 };
+        requires { (set : ℕ) → set < 2 ^ places → value others.now set + value weights.now set * value days.now set
+            ≤ most }
+        ensures { (set : ℕ) → set < 2 ^ places → value self.new set
+            ≡ lowered (value self.old set) (value others.now set
+            + value weights.now set * value days.now set) (value blocked.now set) 0 };
 
     /// Lowers the number of each set to that of the others and what the days that it has more than
     /// they cost, where the same is blocked for both.
@@ -106,9 +113,17 @@ pub trait BySet: Sized + Drop {
         blocked_before: &Self,
     )
         requires classes { C.COUNT ≤ 4 }
-        requires rise { (class set : ℕ) → class < C.COUNT → set < 2 ^ places → by_class (λ s. value s.now) before class set ≤ by_class (λ s. value s.now) days class set }
-        requires fits { (set : ℕ) → set < 2 ^ places → value others.now set + cost_from C.COUNT (by_class (λ s. value s.now) weights) (by_class (λ s. value s.now) days) (by_class (λ s. value s.now) before) set ≤ most }
-        ensures { (set : ℕ) → set < 2 ^ places → value self.new set ≡ lowered (value self.old set) (value others.now set + cost_from C.COUNT (by_class (λ s. value s.now) weights.entry) (by_class (λ s. value s.now) days.entry) (by_class (λ s. value s.now) before.entry) set) (counted G.GUARDS (value blocked.now set)) (counted G.GUARDS (value blocked_before.now set)) };
+        requires rise { (class set : ℕ) → class < C.COUNT → set < 2 ^ places
+            → by_class (λ s. value s.now) before class set ≤ by_class (λ s. value s.now) days class set }
+        requires fits { (set : ℕ) → set < 2 ^ places
+            → value others.now set + cost_from C.COUNT (by_class (λ s. value s.now) weights) (by_class
+            (λ s. value s.now) days) (by_class (λ s. value s.now) before) set ≤ most }
+        ensures { (set : ℕ) → set < 2 ^ places → value self.new set
+            ≡ lowered (value self.old set) (value others.now set
+            + cost_from C.COUNT (by_class (λ s. value s.now) weights.entry) (by_class
+            (λ s. value s.now) days.entry) (by_class
+            (λ s. value s.now) before.entry) set) (counted G.GUARDS (value blocked.now set))
+            (counted G.GUARDS (value blocked_before.now set)) };
 
     /// Lowers the number of each set to the least that it takes to come to it, place after place in
     /// any order: each step costs the weights at the set it leads to for the days that come with it,
@@ -121,8 +136,11 @@ pub trait BySet: Sized + Drop {
     )
         requires few { places ≤ 10 }
         requires classes { C.COUNT ≤ 4 }
-        requires room { HasRoom places C.COUNT most (by_class (λ s. value s.now) weights) (by_class (λ s. value s.now) days) (value self.old) }
-        ensures { Passes places (cost C.COUNT (by_class (λ s. value s.now) weights.entry) (by_class (λ s. value s.now) days.entry)) (λ set. counted G.GUARDS (value blocked.now set)) (value self.old) (value self.new) };
+        requires room { HasRoom places C.COUNT most (by_class (λ s. value s.now) weights) (by_class
+            (λ s. value s.now) days) (value self.old) }
+        ensures { Passes places (cost C.COUNT (by_class (λ s. value s.now) weights.entry) (by_class
+            (λ s. value s.now) days.entry)) (λ set. counted G.GUARDS (value blocked.now set)) (value self.old)
+            (value self.new) };
 
     /// Each number fits in 64 bits.
     ghost narrow: { most < 2 ^ 64 };
@@ -426,7 +444,9 @@ impl<'a, T: BySet> Classes<&'a Halves<T>> {
     /// Those of the sets without the last place.
     #[inline(always)]
     fn without(self) -> Classes<&'a T>
-        ensures { (class set : ℕ) → set < 2 ^ T.places → by_class (λ s. T.value s.now) result class set ≡ by_class (λ s. halves T.places (T.value s.now.without) (T.value s.now.with)) self.entry class set }
+        ensures { (class set : ℕ) → set < 2 ^ T.places
+            → by_class (λ s. T.value s.now) result class set
+            ≡ by_class (λ s. halves T.places (T.value s.now.without) (T.value s.now.with)) self.entry class set }
     {
         Classes {
             first: &self.first.without,
@@ -439,7 +459,10 @@ impl<'a, T: BySet> Classes<&'a Halves<T>> {
     /// Those of the sets with the last place.
     #[inline(always)]
     fn with(self) -> Classes<&'a T>
-        ensures { (class set : ℕ) → set < 2 ^ T.places → by_class (λ s. T.value s.now) result class set ≡ by_class (λ s. halves T.places (T.value s.now.without) (T.value s.now.with)) self.entry class (with set T.places) }
+        ensures { (class set : ℕ) → set < 2 ^ T.places
+            → by_class (λ s. T.value s.now) result class set
+            ≡ by_class (λ s. halves T.places (T.value s.now.without) (T.value s.now.with)) self.entry class
+            (with set T.places) }
     {
         Classes {
             first: &self.first.with,

@@ -11,7 +11,8 @@ impl Classes<&[u32; 4]> {
     #[inline(always)]
     pub(crate) fn lanes(self) -> Classes<u32x4>
         ensures lanes { HasLanes result }
-        ensures same { (class lane : ℕ) → by_class slice_index result class lane ≡ by_class (λ s. slice_index s.now) self.entry class lane }
+        ensures same { (class lane : ℕ) → by_class slice_index result class lane
+            ≡ by_class (λ s. slice_index s.now) self.entry class lane }
     {
         Classes {
             first: vector(self.first),
@@ -73,7 +74,10 @@ pub(crate) fn lower<G: Guard>(
     requires lanes { AreLanes numbers × AreLanes others × AreLanes costs × AreLanes blocked × AreLanes blocked_before }
     requires fits { (lane : ℕ) → lane < 4 → slice_index others lane + slice_index costs lane < 2 ^ 32 }
     ensures lanes { AreLanes result }
-    ensures each { (lane : ℕ) → lane < 4 → slice_index result lane ≡ lowered (slice_index numbers lane) (slice_index others lane + slice_index costs lane) (counted G.GUARDS (slice_index blocked lane)) (counted G.GUARDS (slice_index blocked_before lane)) }
+    ensures each { (lane : ℕ) → lane < 4 → slice_index result lane
+        ≡ lowered (slice_index numbers lane) (slice_index others lane
+        + slice_index costs lane) (counted G.GUARDS (slice_index blocked lane))
+        (counted G.GUARDS (slice_index blocked_before lane)) }
 {
     let reached = others.strict_add(costs);
     let least = numbers.simd_min(reached);
@@ -94,10 +98,14 @@ pub(crate) fn cost_of<C: Count>(
 ) -> u32x4
     requires classes { C.COUNT ≤ 4 }
     requires vectors { HasLanes weights × HasLanes days × HasLanes before }
-    requires rise { (class lane : ℕ) → class < C.COUNT → lane < 4 → by_class slice_index before class lane ≤ by_class slice_index days class lane }
-    requires fits { (lane : ℕ) → lane < 4 → cost_from C.COUNT (by_class slice_index weights) (by_class slice_index days) (by_class slice_index before) lane < 2 ^ 32 }
+    requires rise { (class lane : ℕ) → class < C.COUNT → lane < 4
+        → by_class slice_index before class lane ≤ by_class slice_index days class lane }
+    requires fits { (lane : ℕ) → lane < 4 → cost_from C.COUNT (by_class slice_index weights)
+        (by_class slice_index days) (by_class slice_index before) lane < 2 ^ 32 }
     ensures lanes { AreLanes result }
-    ensures each { (lane : ℕ) → lane < 4 → slice_index result lane ≡ cost_from C.COUNT (by_class slice_index weights) (by_class slice_index days) (by_class slice_index before) lane }
+    ensures each { (lane : ℕ) → lane < 4 → slice_index result lane
+        ≡ cost_from C.COUNT (by_class slice_index weights) (by_class slice_index days)
+        (by_class slice_index before) lane }
 {
     let sum = u32x4::splat(0);
     let sum = plus_days(sum, C::COUNT > 0, weights.first, days.first, before.first);
@@ -123,9 +131,11 @@ pub(crate) fn cost_of<C: Count>(
 fn plus_days(sum: u32x4, counts: bool, weights: u32x4, days: u32x4, before: u32x4) -> u32x4
     requires lanes { AreLanes sum × AreLanes weights × AreLanes days × AreLanes before }
     requires rise { (lane : ℕ) → lane < 4 → IsTrue counts → slice_index before lane ≤ slice_index days lane }
-    requires fits { (lane : ℕ) → lane < 4 → slice_index sum lane + counted counts (slice_index weights lane * (slice_index days lane - slice_index before lane)) < 2 ^ 32 }
+    requires fits { (lane : ℕ) → lane < 4 → slice_index sum lane
+        + counted counts (slice_index weights lane * (slice_index days lane - slice_index before lane)) < 2 ^ 32 }
     ensures lanes { AreLanes result }
-    ensures each { (lane : ℕ) → lane < 4 → slice_index result lane ≡ slice_index sum lane + counted counts (slice_index weights lane * (slice_index days lane - slice_index before lane)) }
+    ensures each { (lane : ℕ) → lane < 4 → slice_index result lane ≡ slice_index sum lane
+        + counted counts (slice_index weights lane * (slice_index days lane - slice_index before lane)) }
 {
     if counts {
         sum.strict_add(weights.strict_mul(days.strict_sub(before)))
@@ -143,7 +153,8 @@ trait Pick {
     fn pick(lanes: u32x4) -> u32x4
         requires { AreLanes lanes }
         ensures lanes { AreLanes result }
-        ensures each { (lane : ℕ) → lane < 4 → slice_index result lane ≡ slice_index lanes (slice_index positions lane) };
+        ensures each { (lane : ℕ) → lane < 4 → slice_index result lane
+            ≡ slice_index lanes (slice_index positions lane) };
 }
 
 /// Where each of the four steps leads to by which the sets of two places are come to: to both from the
@@ -224,7 +235,8 @@ impl Pick for FromSecond {
 fn picked<P: Pick>(classes: Classes<u32x4>) -> Classes<u32x4>
     requires { HasLanes classes }
     ensures lanes { HasLanes result }
-    ensures each { (class lane : ℕ) → lane < 4 → by_class slice_index result class lane ≡ by_class slice_index classes class (slice_index P.positions lane) }
+    ensures each { (class lane : ℕ) → lane < 4 → by_class slice_index result class lane
+        ≡ by_class slice_index classes class (slice_index P.positions lane) }
 {
     Classes {
         first: P::pick(classes.first),
@@ -239,10 +251,15 @@ fn picked<P: Pick>(classes: Classes<u32x4>) -> Classes<u32x4>
 fn step_costs<C: Count>(weights: Classes<u32x4>, days: Classes<u32x4>) -> u32x4
     requires classes { C.COUNT ≤ 4 }
     requires vectors { HasLanes weights × HasLanes days }
-    requires rise { (class lane : ℕ) → class < C.COUNT → lane < 4 → by_class slice_index days class (slice_index step_from lane) ≤ by_class slice_index days class (slice_index step_to lane) }
-    requires fits { (lane : ℕ) → lane < 4 → cost C.COUNT (by_class slice_index weights) (by_class slice_index days) (slice_index step_to lane) (slice_index step_from lane) < 2 ^ 32 }
+    requires rise { (class lane : ℕ) → class < C.COUNT → lane < 4
+        → by_class slice_index days class (slice_index step_from lane)
+        ≤ by_class slice_index days class (slice_index step_to lane) }
+    requires fits { (lane : ℕ) → lane < 4 → cost C.COUNT (by_class slice_index weights) (by_class slice_index days)
+        (slice_index step_to lane) (slice_index step_from lane) < 2 ^ 32 }
     ensures lanes { AreLanes result }
-    ensures each { (lane : ℕ) → lane < 4 → slice_index result lane ≡ cost C.COUNT (by_class slice_index weights) (by_class slice_index days) (slice_index step_to lane) (slice_index step_from lane) }
+    ensures each { (lane : ℕ) → lane < 4 → slice_index result lane
+        ≡ cost C.COUNT (by_class slice_index weights) (by_class slice_index days) (slice_index step_to lane)
+        (slice_index step_from lane) }
 {
     let (there, from) = (picked::<StepTo>(days), picked::<StepFrom>(days));
     cost_of::<C>(picked::<StepTo>(weights), there, from)
@@ -269,9 +286,11 @@ pub(crate) fn pass_two<C: Count, G: Guard>(
     requires classes { C.COUNT ≤ 4 }
     requires lanes { AreLanes numbers × AreLanes blocked }
     requires vectors { HasLanes weights × HasLanes days }
-    requires room { HasRoom 2 C.COUNT (2 ^ 32 - 1) (by_class slice_index weights) (by_class slice_index days) (slice_index numbers) }
+    requires room { HasRoom 2 C.COUNT (2 ^ 32 - 1) (by_class slice_index weights) (by_class slice_index days)
+        (slice_index numbers) }
     ensures lanes { AreLanes result }
-    ensures passes { Passes 2 (cost C.COUNT (by_class slice_index weights) (by_class slice_index days)) (λ set. counted G.GUARDS (slice_index blocked set)) (slice_index numbers) (slice_index result) }
+    ensures passes { Passes 2 (cost C.COUNT (by_class slice_index weights) (by_class slice_index days))
+        (λ set. counted G.GUARDS (slice_index blocked set)) (slice_index numbers) (slice_index result) }
 {
     let costs = step_costs::<C>(weights, days);
     let one = lower_from::<FromNone, G>(numbers, costs, blocked);

@@ -18,7 +18,8 @@ pub record MayBe (options : SearchOptions) : Type 0 where
   pub some_entries : 64 ≤ options.entries
   pub few_entries : options.entries ≤ 4194304
 
--- the answer for an instance: a plan of it, which a text can say, where no more than 64 classes are left, and else how many there are
+-- the answer for an instance: a plan of it, which a text can say, where no more than 64 classes are left, and else
+-- how many there are
 pub record IsAnswerFor (options : SearchOptions) (inst : InstanceData) (answer : Result Plan ReduceFault) : Type 0 where
   pub solved : IfOk answer (λ plan. IsSolved options.kind (film_of inst) options.nodes (plan_data plan))
   pub readable : IfOk answer (λ plan. IsReadablePlan inst (plan_data plan))

@@ -15,10 +15,11 @@ use Rattle.strip_solve.specs.declared.outset.Outset.TheVariants.{Open, Over}
 
 -- a climb from the path made as many lines as there may be
 abbrev pub IsFull : Kind → FilmData → PathData → ℕ → Climbed → Type 0
-IsFull kind film begun most climbed = IsClimbed kind film begun most (climbed_data climbed) × (length climbed.lines.items ≡ most)
+IsFull kind film begun most climbed = IsClimbed kind film begun most (climbed_data climbed)
+    × (length climbed.lines.items ≡ most)
 
--- the film is searched from a complete path that is no dearer than the one that the search begins with; and a climb that came before
--- made as many lines as there may be
+-- the film is searched from a complete path that is no dearer than the one that the search begins with; and a climb
+-- that came before made as many lines as there may be
 pub record IsOpened (kind : Kind) (film : FilmData) (begun : PathData) (most : ℕ) (opened : Opened) : Type 0 where
   pub complete : IsComplete film (path_data opened.from)
   pub no_dearer : (path_data opened.from).paid ≤ begun.paid
@@ -29,7 +30,8 @@ abbrev pub IsOutset : Kind → FilmData → PathData → ℕ → Outset → Type
 IsOutset kind film begun most (Over ended) = IsEnded kind film begun most (ended_data ended)
 IsOutset kind film begun most (Open opened) = IsOpened kind film begun most opened
 
--- the end of a search has the bound and the lines of a climb where the search was cut short and the climb bounds more, and else stays
+-- the end of a search has the bound and the lines of a climb where the search was cut short and the climb bounds
+-- more, and else stays
 abbrev pub IsProvedBy : EndedData → ClimbedData → EndedData → Type 0
 IsProvedBy ended climbed after =
     (((ended.spent ≡ false) ⊎ (climbed.bound ≤ ended.bound)) × (after ≡ ended))

@@ -17,7 +17,8 @@ use Rattle.strip_solve.specs.Solved.{IsVaried}
 
 -- lines are trimmed exactly where the bound is the cost
 abbrev pub IsTrimmed : Kind → FilmData → EndedData → Option (Vec Line Global) → Type 0
-IsTrimmed kind film ended (Some lines) = (ended.bound ≡ ended.cost) × AreTrimmed (rules_of kind film) ended.lines lines.items
+IsTrimmed kind film ended (Some lines) = (ended.bound ≡ ended.cost)
+    × AreTrimmed (rules_of kind film) ended.lines lines.items
 IsTrimmed kind film ended None = ended.bound ≢ ended.cost
 
 -- the search of a film began with a path that varying the start gave, and ended as a search that begins with it

@@ -33,26 +33,30 @@ pub record IsVaried (film : FilmData) (start varied : PathData) : Type 0 where
   pub complete : IsComplete film varied
   pub no_dearer : varied.paid ≤ start.paid
 
--- the lines that prove a bound, of those that a search held: all of them, or where the bound is the cost those that the bound needs
+-- the lines that prove a bound, of those that a search held: all of them, or where the bound is the cost those that
+-- the bound needs
 abbrev pub AreRows : Rules → Status → List Line → List Line → Type 0
 AreRows rules Optimal found lines = AreTrimmed rules found lines
 AreRows rules Bounded found lines = lines ≡ found
 
--- the lines are those that the bound needs of as many as were held; they are justified, and what they make known of all classes, with what
--- is set apart, reaches the bound; and as many as were held are at most the candidates of the path that the search began with, as are the
--- lines of each set
+-- the lines are those that the bound needs of as many as were held; they are justified, and what they make known of
+-- all classes, with what is set apart, reaches the bound; and as many as were held are at most the candidates of
+-- the path that the search began with, as are the lines of each set
 pub record AreProof (kind : Kind) (film : FilmData) (begun : PathData) (plan : PlanData) : Type 0 where
   pub found : List Line
   pub held : plan.held ≡ length found
   pub rows : AreRows (class_rules kind film) plan.status found plan.lines
   pub justified : AreJustified (class_rules kind film) plan.lines
-  pub reaches : plan.bound ≤ known (class_rules kind film) plan.lines (all_scenes (reduced film).film) + (reduced film).apart
+  pub reaches : plan.bound ≤ known (class_rules kind film) plan.lines (all_scenes (reduced film).film)
+      + (reduced film).apart
   pub few_rows : length plan.lines ≤ plan.held
   pub candidates : plan.held ≤ candidate_count (class_rules kind film) begun.paid
-  pub sets : (set : ℕ) → count_by (λ line. line.set == set) plan.lines ≤ leaving_count (class_rules kind film) begun.paid set
+  pub sets : (set : ℕ) → count_by (λ line. line.set == set) plan.lines
+      ≤ leaving_count (class_rules kind film) begun.paid set
 
--- the lines that there may be were all made, though there are fewer than candidates of the path that the search began with, and so than twice the orders of the
--- classes; and the bound is at least the look-ahead of all classes with what is set apart
+-- the lines that there may be were all made, though there are fewer than candidates of the path that the search
+-- began with, and so than twice the orders of the classes; and the bound is at least the look-ahead of all classes
+-- with what is set apart
 pub record RanOut (kind : Kind) (film : FilmData) (most : ℕ) (begun : PathData) (plan : PlanData) : Type 0 where
   pub below : plan.bound < plan.cost
   pub full : plan.held ≡ most
@@ -65,15 +69,16 @@ abbrev pub Closes : Kind → FilmData → ℕ → PathData → PlanData → Stat
 Closes kind film most begun plan Optimal = plan.bound ≡ plan.cost
 Closes kind film most begun plan Bounded = RanOut kind film most begun plan
 
--- the order is one of the classes, each as the scenes that it stands for. Where no classes have to keep their order, it is the one that is
--- always chosen of it and its reverse
+-- the order is one of the classes, each as the scenes that it stands for. Where no classes have to keep their
+-- order, it is the one that is always chosen of it and its reverse
 pub record IsOfClasses (film : FilmData) (order : List ℕ) : Type 0 where
   pub classes : List ℕ
   pub stands : order ≡ way_back (reduced film).members classes
   pub turned : (reduced film).film.pairs ≡ [] → classes ≡ oriented classes
 
--- a plan of the film by static bounds of this kind, and with this many lines at most: its order keeps the pairs and pays the cost, which
--- is no more than the path costs that varying the start gave; no order that keeps the pairs pays less than the bound; the lines prove it; and its status holds
+-- a plan of the film by static bounds of this kind, and with this many lines at most: its order keeps the pairs and
+-- pays the cost, which is no more than the path costs that varying the start gave; no order that keeps the pairs
+-- pays less than the bound; the lines prove it; and its status holds
 pub record IsSolved (kind : Kind) (film : FilmData) (most : ℕ) (plan : PlanData) : Type 0 where
   pub same_kind : plan.kind ≡ kind
   pub order : IsKeptOrder film plan.order

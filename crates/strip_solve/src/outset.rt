@@ -58,7 +58,8 @@ pub(crate) fn end_alone<F: Fn(u64, u64) -> u64, G: Gate>(
     requires begun { IsComplete kept.now.film.now (path_data begun.now) }
     requires options { MayBe options }
     ensures memo { IsMemo kept.now.kind kept.now.film.now memo.new }
-    ensures ended { IfOk result (λ ended. IsEnded kept.now.kind kept.now.film.now (path_data begun.now) options.nodes (ended_data ended)) }
+    ensures ended { IfOk result (λ ended. IsEnded kept.now.kind kept.now.film.now (path_data begun.now) options.nodes
+        (ended_data ended)) }
 {
     kept.film().keeps_limits();
     match set_out(alloc, kept, memo, begun, options)? {
@@ -95,7 +96,8 @@ pub(crate) fn end_beside<R: Threads + Wait + Sync, F: Fn(u64, u64) -> u64 + Sync
     requires options { MayBe options }
     requires workers { (2 ≤ workers) × (workers ≤ 64) }
     ensures memo { IsMemo kept.now.kind kept.now.film.now memo.new }
-    ensures ended { IfOk result (λ ended. IsEnded kept.now.kind kept.now.film.now (path_data begun.now) options.nodes (ended_data ended)) }
+    ensures ended { IfOk result (λ ended. IsEnded kept.now.kind kept.now.film.now (path_data begun.now) options.nodes
+        (ended_data ended)) }
 {
     kept.film().keeps_limits();
     let limits = Limits {
@@ -193,8 +195,10 @@ fn over(alloc: Global, climbed: Climbed) -> Result<Ended, Memory>
 impl Opened {
     /// The end of the search from the path, with what the climb before it proved where that is more.
     fn ended_by(self, ended: Ended) -> Ended
-        ensures ended { (kind : Kind) (film : FilmData) (begun : PathData) (most : ℕ) → IsFilm film → IsOpened kind film begun most self
-            → IsEnded kind film (path_data self.from) most (ended_data ended) → IsEnded kind film begun most (ended_data result) }
+        ensures ended { (kind : Kind) (film : FilmData) (begun : PathData) (most : ℕ) → IsFilm film
+            → IsOpened kind film begun most self
+            → IsEnded kind film (path_data self.from) most (ended_data ended)
+            → IsEnded kind film begun most (ended_data result) }
         ensures no_less { ended.bound ≤ result.bound }
         ensures climbed { IfSome self.climbed (λ climbed. ended.spent ≡ true → climbed.bound ≤ result.bound) }
     {

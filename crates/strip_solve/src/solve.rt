@@ -303,7 +303,8 @@ fn plan_of(
 ) -> Result<Plan, Memory>
     requires start { IsStart reduced.now.film (path_data start.now) }
     requires searched { IsSearchedFrom options.kind reduced.now.film (path_data start.now) options.nodes searched }
-    ensures solved { (film : FilmData) → reduced_data reduced.now ≡ reduction film → StandsFor film (reduced_data reduced.now)
+    ensures solved { (film : FilmData) → reduced_data reduced.now ≡ reduction film
+        → StandsFor film (reduced_data reduced.now)
         → IfOk result (λ plan. IsSolved options.kind film options.nodes (plan_data plan)) }
     ensures cost { IfOk result (λ plan. plan.cost ≡ searched.ended.cost + reduced.now.apart) }
     ensures held { IfOk result (λ plan. plan.held ≡ searched.ended.held) }

@@ -47,7 +47,8 @@ fn least_step(film: &Film, state: &Running) -> Option<u32>
 
 /// The one that costs less, the first where they cost the same.
 fn lesser(best: Option<Choice>, found: Choice) -> Choice
-    ensures { MatchOption best (result ≡ found) (λ b. MatchBool (nat_lt found.step b.step) (result ≡ found) (result ≡ b)) }
+    ensures { MatchOption best (result ≡ found) (λ b. MatchBool (nat_lt found.step b.step) (result ≡ found) (result
+        ≡ b)) }
 {
     match best {
         Some(best) if best.step <= found.step => best,

@@ -28,7 +28,8 @@ pub fn a_move_takes_one_scene_to_a_place()
 /// costs more.
 pub fn an_order_is_improved_in_one_way()
     ensures one { (film : FilmData) (order a b : List ℕ) → IsImproved film order a → IsImproved film order b → a ≡ b }
-    ensures kept { (film : FilmData) (order best : List ℕ) → IsImproved film order best → EachOnce film (all_scenes film) order
+    ensures kept { (film : FilmData) (order best : List ℕ) → IsImproved film order best
+        → EachOnce film (all_scenes film) order
         → EachOnce film (all_scenes film) best }
     ensures no_dearer { (film : FilmData) (order best : List ℕ) → IsImproved film order best
         → steps_cost film (all_scenes film) best ≤ steps_cost film (all_scenes film) order }

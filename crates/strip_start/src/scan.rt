@@ -19,7 +19,8 @@ pub(crate) fn first_place(film: &Film, path: &Path, sides: &Sides, from: usize) 
     requires sides { AreSides film.now (path_data path.now).scenes sides.now }
     requires place { from < length (path_data path.now).scenes }
     ensures some { IfSome result (IsFirstPlace film.now (path_data path.now).scenes from) }
-    ensures none { result ≡ None → NoPlace film.now (path_data path.now).scenes from 0 (length (path_data path.now).scenes) }
+    ensures none { result ≡ None → NoPlace film.now (path_data path.now).scenes from 0
+        (length (path_data path.now).scenes) }
 {
     match earlier_place(film, path, sides, from) {
         Some(to) => Some(to),
@@ -64,7 +65,8 @@ fn later_place(film: &Film, path: &Path, sides: &Sides, from: usize) -> Option<u
     requires place { from < length (path_data path.now).scenes }
     requires earlier { NoPlace film.now (path_data path.now).scenes from 0 from }
     ensures some { IfSome result (IsFirstPlace film.now (path_data path.now).scenes from) }
-    ensures none { result ≡ None → NoPlace film.now (path_data path.now).scenes from 0 (length (path_data path.now).scenes) }
+    ensures none { result ≡ None → NoPlace film.now (path_data path.now).scenes from 0
+        (length (path_data path.now).scenes) }
 {
     film.keeps_limits();
     let scenes = path.scenes();
@@ -100,8 +102,10 @@ fn turned(film: &Film, cost: u64, before: Mask, behind: Mask, first: u32, second
     requires first { first < length film.now.casts }
     requires second { second < length film.now.casts }
     requires cost { cost < 2 ^ 63 }
-    requires enough { turn_cost film.now before.0 behind.0 first second ≤ cost + turn_cost film.now before.0 behind.0 second first }
-    ensures { result + turn_cost film.now before.0 behind.0 first second ≡ cost + turn_cost film.now before.0 behind.0 second first }
+    requires enough { turn_cost film.now before.0 behind.0 first second ≤ cost
+        + turn_cost film.now before.0 behind.0 second first }
+    ensures { result + turn_cost film.now before.0 behind.0 first second ≡ cost
+        + turn_cost film.now before.0 behind.0 second first }
 {
     cost + turn_cost(film, before, behind, second, first)
         - turn_cost(film, before, behind, first, second)

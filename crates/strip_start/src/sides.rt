@@ -30,7 +30,8 @@ impl Sides {
 fn casts_before(film: &Film, scenes: &[u8]) -> [u64; MAX_COUNT]
     requires known { All (λ scene. scene < length film.now.casts) scenes.now }
     requires few { length scenes.now ≤ MAX_COUNT }
-    ensures { (place : ℕ) → place < length scenes.now → slice_index result place ≡ cast_along film.now (take place scenes.now) }
+    ensures { (place : ℕ) → place < length scenes.now
+        → slice_index result place ≡ cast_along film.now (take place scenes.now) }
 {
     let casts = film.casts();
     let mut before = [0; MAX_COUNT];
@@ -45,7 +46,8 @@ fn casts_before(film: &Film, scenes: &[u8]) -> [u64; MAX_COUNT]
 fn casts_behind(film: &Film, scenes: &[u8]) -> [u64; MAX_COUNT]
     requires known { All (λ scene. scene < length film.now.casts) scenes.now }
     requires few { length scenes.now ≤ MAX_COUNT }
-    ensures { (place : ℕ) → place < length scenes.now → slice_index result place ≡ cast_along film.now (drop (place + 1) scenes.now) }
+    ensures { (place : ℕ) → place < length scenes.now
+        → slice_index result place ≡ cast_along film.now (drop (place + 1) scenes.now) }
 {
     let casts = film.casts();
     let mut behind = [0; MAX_COUNT];

@@ -22,8 +22,8 @@ with_taken share None = record share { ended = true }
 abbrev pub IsClosed : List (Option ℕ) → Type 0
 IsClosed put = (gone items : List (Option ℕ)) → gone ++ None ∷ items ≡ put → numbers_in items ≡ []
 
--- a take of an entry: no number was taken more often than it was put, and by a pass that took in no other one they were taken in the
--- order of putting
+-- a take of an entry: no number was taken more often than it was put, and by a pass that took in no other one they
+-- were taken in the order of putting
 pub record HasTaken (before : Share) (entry : Option ℕ) (after : Share) : Type 0 where
   pub only : after ≡ with_taken before entry
   pub few : (number : ℕ) → times number after.taken ≤ times number (numbers_in before.put)
@@ -34,11 +34,12 @@ HasTakenOne before [] after = ⊥
 HasTakenOne before (entry ∷ []) after = HasTaken before entry after
 HasTakenOne before (entry ∷ other ∷ entries) after = ⊥
 
--- what was taken with a pass: no number more often than it was put; and where the pass has all the weight and an end was taken, each
--- number as often as it was put
+-- what was taken with a pass: no number more often than it was put; and where the pass has all the weight and an
+-- end was taken, each number as often as it was put
 pub record AreCounted (share : Share) : Type 0 where
   pub few : (number : ℕ) → times number share.taken ≤ times number (numbers_in share.put)
-  pub each : share.weight ≡ full_weight → share.ended ≡ true → (number : ℕ) → times number share.taken ≡ times number (numbers_in share.put)
+  pub each : share.weight ≡ full_weight → share.ended ≡ true → (number : ℕ)
+      → times number share.taken ≡ times number (numbers_in share.put)
 
 -- a split: the pass loses a weight of 1, which the new one has, with which nothing was taken
 abbrev pub lightened : Share → Share
@@ -75,5 +76,6 @@ pub record IsAsked (before : List Share) (from : ℕ) (answer : Option ℕ) (aft
 pub record AreJoined (before others : List Share) (place : ℕ) (after : List Share) : Type 0 where
   pub long : length after ≡ length before
   pub early : (i : ℕ) (share : Share) → get_elem? before i ≡ some share → i < place → get_elem? after i ≡ some share
-  pub late : (i : ℕ) (share other : Share) → get_elem? before i ≡ some share → get_elem? others i ≡ some other → place ≤ i
+  pub late : (i : ℕ) (share other : Share) → get_elem? before i ≡ some share → get_elem? others i ≡ some other
+      → place ≤ i
       → (get_elem? after i ≡ some (joined share other)) × AreCounted (joined share other)

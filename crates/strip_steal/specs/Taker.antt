@@ -61,7 +61,8 @@ pub record IsTaker (taker : Taker) : Type 0 where
   pub small : length taker.seats.items ≤ 64
   pub order : All (λ share. AreInOrder share.taken (numbers_in share.put)) (taker_shares taker)
   pub room : length (handed_in (taker_shares taker)) ≤ vec_capacity taker.taken
-  pub given : (number : ℕ) → times number (map (λ (one : Taken). one.number) taker.taken.items) ≡ times number (taken_in (taker_shares taker))
+  pub given : (number : ℕ) → times number (map (λ (one : Taken). one.number) taker.taken.items)
+      ≡ times number (taken_in (taker_shares taker))
 
 -- a pool, each of whose owners weighs so much
 pub record IsPool (weight : ℕ) (pool : Pool) : Type 0 where
@@ -98,23 +99,28 @@ pub record AreDealt (count : ℕ) (numbers : List ℕ) (shares : List Share) : T
   pub long : length shares ≡ count
   pub filled : (place : ℕ) (share : Share) → get_elem? shares place ≡ some share → share ≡ record first_share { put = entries_of count numbers place }
 
--- a taker was given a number: one that was handed in and that it hadn't; it is of its own queue, unless that was found empty
+-- a taker was given a number: one that was handed in and that it hadn't; it is of its own queue, unless that was
+-- found empty
 pub record GivesNumber (before : Taker) (one : Taken) (after : Taker) : Type 0 where
   pub listed : after.taken.items ≡ before.taken.items ++ one ∷ []
   pub handed : times one.number (handed_in (taker_shares before)) ≡ 1
   pub fresh : times one.number (taken_in (taker_shares before)) ≡ 0
-  pub took : (number : ℕ) → times number (taken_in (taker_shares after)) ≡ times number (taken_in (taker_shares before)) + times number (one.number ∷ [])
+  pub took : (number : ℕ) → times number (taken_in (taker_shares after))
+      ≡ times number (taken_in (taker_shares before)) + times number (one.number ∷ [])
   pub within : one.from < length (taker_shares before)
   pub came_from : (share : Share) → get_elem? (taker_shares before) one.from ≡ some share
       → get_elem? (taker_shares after) one.from ≡ some (with_taken share (Some one.number))
-  pub own_first : one.from ≢ before.place → (share : Share) → get_elem? (taker_shares after) before.place ≡ some share → share.ended ≡ true
+  pub own_first : one.from ≢ before.place → (share : Share) → get_elem? (taker_shares after) before.place ≡ some share
+      → share.ended ≡ true
 
--- a taker was gathered into a pool: what was taken with it was taken with the pool, no number more often than it was handed in; and where
--- that is the last of them, and some taker found all queues empty, each number as often as it was handed in
+-- a taker was gathered into a pool: what was taken with it was taken with the pool, no number more often than it
+-- was handed in; and where that is the last of them, and some taker found all queues empty, each number as often as
+-- it was handed in
 pub record HasGathered (before : Pool) (taker : Taker) (after : Pool) : Type 0 where
   pub weight : (weight : ℕ) → IsPool weight before → IsPool (weight + 1) after
   pub stays : StayAt (pool_queues before) (pool_queues after) (pool_shares before) (pool_shares after)
-  pub took : (number : ℕ) → times number (taken_in (pool_shares after)) ≡ times number (taken_in (pool_shares before)) + times number (taken_in (taker_shares taker))
+  pub took : (number : ℕ) → times number (taken_in (pool_shares after)) ≡ times number (taken_in (pool_shares before))
+      + times number (taken_in (taker_shares taker))
   pub few : (number : ℕ) → times number (taken_in (pool_shares after)) ≤ times number (handed_in (pool_shares after))
   pub ended : have_ended (taker_shares taker) ≡ true → have_ended (pool_shares after) ≡ true
   pub each : IsPool full_weight after → have_ended (pool_shares after) ≡ true

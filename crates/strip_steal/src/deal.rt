@@ -19,7 +19,8 @@ pub fn pool(alloc: Global, workers: u32, numbers: &[u32]) -> Result<Pool, Memory
     requires once { (number : ℕ) → times number numbers.now ≤ 1 }
     ensures pool { IfOk result (IsPool full_weight) }
     ensures dealt { IfOk result (λ pool. AreDealt workers numbers.now (pool_shares pool)) }
-    ensures handed { IfOk result (λ pool. (number : ℕ) → times number (handed_in (pool_shares pool)) ≡ times number numbers.now) }
+    ensures handed { IfOk result (λ pool. (number : ℕ)
+        → times number (handed_in (pool_shares pool)) ≡ times number numbers.now) }
     ensures untaken { IfOk result (λ pool. (number : ℕ) → times number (taken_in (pool_shares pool)) ≡ 0) }
 {
     let count = workers as usize;

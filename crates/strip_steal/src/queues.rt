@@ -63,11 +63,15 @@ impl Pool {
         requires place { place < length self.old.owners.items }
         ensures taker { IfOk result IsTaker }
         ensures place { IfOk result (λ taker. taker.place ≡ place) }
-        ensures same { IfOk result (λ taker. StayAt (pool_queues self.old) (taker_queues taker) (pool_shares self.old) (taker_shares taker)) }
-        ensures unused { IfOk result (λ taker. (taker.taken.items ≡ []) × ((number : ℕ) → times number (taken_in (taker_shares taker)) ≡ 0)) }
+        ensures same { IfOk result (λ taker. StayAt (pool_queues self.old) (taker_queues taker) (pool_shares self.old)
+            (taker_shares taker)) }
+        ensures unused { IfOk result (λ taker. (taker.taken.items ≡ []) × ((number : ℕ)
+            → times number (taken_in (taker_shares taker)) ≡ 0)) }
         ensures weight { IfOk result (λ _. (weight : ℕ) → IsPool (suc weight) self.old → IsPool weight self.new) }
-        ensures stays { IfOk result (λ _. StayAt (pool_queues self.old) (pool_queues self.new) (pool_shares self.old) (pool_shares self.new)) }
-        ensures taken { IfOk result (λ _. (number : ℕ) → times number (taken_in (pool_shares self.new)) ≡ times number (taken_in (pool_shares self.old))) }
+        ensures stays { IfOk result (λ _. StayAt (pool_queues self.old) (pool_queues self.new) (pool_shares self.old)
+            (pool_shares self.new)) }
+        ensures taken { IfOk result (λ _. (number : ℕ)
+            → times number (taken_in (pool_shares self.new)) ≡ times number (taken_in (pool_shares self.old))) }
         ensures ended { IfOk result (λ _. have_ended (pool_shares self.new) ≡ have_ended (pool_shares self.old)) }
     {
         let taken = Vec::with_capacity(alloc, self.count)?;

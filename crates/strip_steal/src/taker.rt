@@ -43,11 +43,13 @@ impl Taker {
     pub fn take<R: Wait>(&mut self, rt: &R) -> Option<Taken>
         requires taker { IsTaker self.old }
         ensures taker { IsTaker self.new }
-        ensures stays { StayAt (taker_queues self.old) (taker_queues self.new) (taker_shares self.old) (taker_shares self.new) }
+        ensures stays { StayAt (taker_queues self.old) (taker_queues self.new) (taker_shares self.old)
+            (taker_shares self.new) }
         ensures place { self.new.place ≡ self.old.place }
         ensures answer { MatchOption result
             ((have_ended (taker_shares self.new) ≡ true) × (self.new.taken.items ≡ self.old.taken.items)
-            × ((number : ℕ) → times number (taken_in (taker_shares self.new)) ≡ times number (taken_in (taker_shares self.old))))
+            × ((number : ℕ) → times number (taken_in (taker_shares self.new))
+            ≡ times number (taken_in (taker_shares self.old))))
             (λ one. GivesNumber self.old one self.new) }
     {
         let count = self.seats.len();

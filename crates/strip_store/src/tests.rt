@@ -91,7 +91,8 @@ fn reached<R: Threads + Wait + Sync, F: Fn(u64, u64) -> u64 + Sync>(
         rt,
         needs,
         &|need: u64| -> u64
-            requires { Keeps (F.pre kept.now.f) (F.post kept.now.f) kept.now.kind kept.now.film.now × LiesIn kept.now.film.now set.0 }
+            requires { Keeps (F.pre kept.now.f) (F.post kept.now.f) kept.now.kind kept.now.film.now
+                × LiesIn kept.now.film.now set.0 }
         { kept.reach(set, need) },
     )?;
     Ok(all)

@@ -87,7 +87,8 @@ impl<N: Named> Shelf<N> {
         requires pass { IsPassOf book.now pass.old }
         requires knows { Knows (known pass.old).lines line.now }
         ensures puts { Puts (home self.old line.now.set) line.now (home self.new line.now.set) result }
-        ensures others { self.new ≡ slice_set self.old (bucket_of line.now.set (length self.old)) (home self.new line.now.set) }
+        ensures others { self.new ≡ slice_set self.old (bucket_of line.now.set (length self.old))
+            (home self.new line.now.set) }
         ensures pass { IsPassOf book.now pass.new }
         ensures same { known pass.new ≡ known pass.old }
     {

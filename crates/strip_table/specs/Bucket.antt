@@ -46,8 +46,8 @@ pub record HasFewest (bucket : List Known) (place : ℕ) (entry : Known) : Type 
   pub fewest : (k : ℕ) (other : Known) → slice_get bucket k ≡ Some other → size entry.set ≤ size other.set
   pub first : (k : ℕ) (other : Known) → slice_get bucket k ≡ Some other → k < place → size entry.set < size other.set
 
--- no entry of the set, and no free place: the entry with the fewest scenes leaves, those behind it close up, and the new line
--- comes behind them
+-- no entry of the set, and no free place: the entry with the fewest scenes leaves, those behind it close up, and
+-- the new line comes behind them
 pub record IsEvicted (bucket : List Known) (known : Known) (after : List Known) (set bound : ℕ) : Type 0 where
   pub none : find_in bucket known.set ≡ None
   pub full : 4 ≤ length bucket

@@ -21,14 +21,17 @@ pub fn the_entry_of_a_set_is_found()
 
 /// A put makes one thing of a bucket, with one answer.
 pub fn a_put_has_one_outcome()
-    ensures some { (bucket : List Known) (known : Known) → (after : List Known) × (answer : Noted) × Puts bucket known after answer }
-    ensures one { (buckets number : ℕ) (bucket after other : List Known) (known : Known) (answer given : Noted) → IsBucket buckets number bucket
+    ensures some { (bucket : List Known) (known : Known)
+        → (after : List Known) × (answer : Noted) × Puts bucket known after answer }
+    ensures one { (buckets number : ℕ) (bucket after other : List Known) (known : Known) (answer given : Noted)
+        → IsBucket buckets number bucket
         → Puts bucket known after answer → Puts bucket known other given → (after ≡ other) × (answer ≡ given) }
 {}
 
 /// A put leaves a bucket, whose entries were there before, but for the new line.
 pub fn a_put_leaves_a_bucket()
-    ensures bucket { (buckets number : ℕ) (bucket after : List Known) (known : Known) (answer : Noted) → IsBucket buckets number bucket
+    ensures bucket { (buckets number : ℕ) (bucket after : List Known) (known : Known) (answer : Noted)
+        → IsBucket buckets number bucket
         → bucket_of known.set buckets ≡ number → Puts bucket known after answer → IsBucket buckets number after }
     ensures entries { (bucket after : List Known) (known entry : Known) (answer : Noted)
         → Puts bucket known after answer → Contains after entry → (entry ≡ known) ⊎ Contains bucket entry }
@@ -37,7 +40,8 @@ pub fn a_put_leaves_a_bucket()
 /// After a put the entry of the set has at least the bound that was put: it is the new line, or was there
 /// before.
 pub fn a_put_is_known_afterwards()
-    ensures { (buckets number : ℕ) (bucket after : List Known) (known : Known) (answer : Noted) → IsBucket buckets number bucket
+    ensures { (buckets number : ℕ) (bucket after : List Known) (known : Known) (answer : Noted)
+        → IsBucket buckets number bucket
         → Puts bucket known after answer
         → (entry : Known) × (find_in after known.set ≡ Some entry) × (known.bound ≤ entry.bound)
         × ((entry ≡ known) ⊎ (find_in bucket known.set ≡ Some entry)) }
@@ -45,7 +49,8 @@ pub fn a_put_is_known_afterwards()
 
 /// Each other set keeps its entry, but for the one that the answer names, which left a full bucket.
 pub fn other_sets_keep_their_entries()
-    ensures { (buckets number : ℕ) (bucket after : List Known) (known : Known) (answer : Noted) (set : ℕ) → IsBucket buckets number bucket
+    ensures { (buckets number : ℕ) (bucket after : List Known) (known : Known) (answer : Noted) (set : ℕ)
+        → IsBucket buckets number bucket
         → Puts bucket known after answer → set ≢ known.set
         → (find_in after set ≡ find_in bucket set)
         ⊎ ((length bucket ≡ 4) × (find_in after set ≡ None)

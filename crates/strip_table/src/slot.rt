@@ -41,8 +41,10 @@ pub(crate) fn place_of(sets: &[u64; PLACES], count: u8, set: u64) -> Option<usiz
 /// The place of the set with the fewest scenes, the first of those that have as few.
 fn fewest(sets: &[u64; PLACES]) -> usize
     ensures within { result < PLACES }
-    ensures fewest { (place : ℕ) → place < PLACES → size (slice_index sets.now result) ≤ size (slice_index sets.now place) }
-    ensures first { (place : ℕ) → place < result → size (slice_index sets.now result) < size (slice_index sets.now place) }
+    ensures fewest { (place : ℕ) → place < PLACES
+        → size (slice_index sets.now result) ≤ size (slice_index sets.now place) }
+    ensures first { (place : ℕ) → place < result
+        → size (slice_index sets.now result) < size (slice_index sets.now place) }
 {
     let mut fewest = 0;
     for place in 1..PLACES {
@@ -56,7 +58,8 @@ fn fewest(sets: &[u64; PLACES]) -> usize
 /// Writes the known line at a place.
 fn write(slot: &mut Slot, lines: &mut [u32; PLACES], place: usize, known: &Known)
     requires { place < PLACES }
-    ensures { entries_of slot.new.sets slot.new.bounds lines.new ≡ slice_set (entries_of slot.old.sets slot.old.bounds lines.old) place known.now }
+    ensures { entries_of slot.new.sets slot.new.bounds lines.new
+        ≡ slice_set (entries_of slot.old.sets slot.old.bounds lines.old) place known.now }
 {
     slot.sets[place] = known.set;
     slot.bounds[place] = known.bound;

@@ -89,7 +89,8 @@ impl Stripe {
     /// it.
     pub fn put(&mut self, known: &Known) -> Noted
         ensures puts { Puts (home self.old known.now.set) known.now (home self.new known.now.set) result }
-        ensures others { self.new ≡ slice_set self.old (bucket_of known.now.set (length self.old)) (home self.new known.now.set) }
+        ensures others { self.new ≡ slice_set self.old (bucket_of known.now.set (length self.old))
+            (home self.new known.now.set) }
     {
         let bucket = self.home(known.set);
         put_in(

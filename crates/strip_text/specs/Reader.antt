@@ -22,7 +22,8 @@ records_where_told state (Some bytes) = records_in state bytes
 
 -- the rows that are left, none where the reading has ended
 abbrev pub left_of : Bool → Reader (Bor (List ℕ)) → List Row
-left_of ended reader = if ended then [] else map (map trimmed) (records_where_told (reader_state reader) (bytes_left reader))
+left_of ended reader = if ended then [] else map (map trimmed)
+    (records_where_told (reader_state reader) (bytes_left reader))
 
 -- it reads each record as it stands, whatever its number of fields, and hasn't failed
 pub record IsReading (reader : Reader (Bor (List ℕ))) : Type 0 where

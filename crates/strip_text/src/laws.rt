@@ -30,6 +30,8 @@ pub fn written_numbers_read_back()
 
 /// The fault of some checks is that of the first one that fails, and there is none where all hold.
 pub fn the_first_fault_is_the_first<Fault>()
-    ensures first { (checks : List (Check Fault)) (fault : Fault) → (first_fault checks ≡ Some fault) ↔ IsFirst checks fault }
-    ensures none { (checks : List (Check Fault)) → (first_fault checks ≡ None) ↔ All (λ check. check.holds ≡ true) checks }
+    ensures first { (checks : List (Check Fault)) (fault : Fault) → (first_fault checks ≡ Some fault)
+        ↔ IsFirst checks fault }
+    ensures none { (checks : List (Check Fault)) → (first_fault checks ≡ None)
+        ↔ All (λ check. check.holds ≡ true) checks }
 {}

@@ -69,7 +69,8 @@ impl Text {
 fn write_row(writer: &mut Writer<Vec<u8>>, fields: &[&[u8]]) -> Result<(), Memory>
     requires { IsBetweenRows writer.old }
     ensures goes { OnOk result (IsBetweenRows writer.new) }
-    ensures text { OnOk result (bytes_of writer.new ≡ bytes_of writer.old ++ csv_row (map (λ field. field.now) fields.now)) }
+    ensures text { OnOk result (bytes_of writer.new ≡ bytes_of writer.old
+        ++ csv_row (map (λ field. field.now) fields.now)) }
 {
     // Writing into a vector fails only where memory runs out.
     writer.write_fields(fields).map_err(|_| Memory)

@@ -10,8 +10,8 @@ use Rattle.strip_film.specs.Shoot.{step_cost}
 use Rattle.strip_lines.specs.Lines.{line_at}
 use Rattle.strip_best.specs.Best.{IsBestLine, best_bound}
 
--- the best line of the set leads on to what remains after the scene: its bound is above the static one, and above the step with the
--- static bound of what then remains; and the scene is one of the firsts
+-- the best line of the set leads on to what remains after the scene: its bound is above the static one, and above
+-- the step with the static bound of what then remains; and the scene is one of the firsts
 pub record LeadsOn (rules : Rules) (lines : List Line) (set scene : ℕ) : Type 0 where
   pub above : rules.bound set < best_bound lines set
   pub first : has (rules.firsts set) scene ≡ true
@@ -25,7 +25,8 @@ Leads rules lines set (scene ∷ scenes) = LeadsOn rules lines set scene × Lead
 -- the set is reached: some list of scenes leads from the whole set to it
 abbrev pub Reached : Rules → List Line → ℕ → Type 0
 Reached rules lines set =
-    (scenes : List ℕ) × Leads rules lines (all_scenes rules.film) scenes × (rest_after (all_scenes rules.film) scenes ≡ set)
+    (scenes : List ℕ) × Leads rules lines (all_scenes rules.film) scenes
+    × (rest_after (all_scenes rules.film) scenes ≡ set)
 
 -- the line at the place is the best one of its set
 abbrev pub IsBestAt : List Line → ℕ → Type 0

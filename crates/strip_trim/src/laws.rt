@@ -9,18 +9,21 @@ ghost use Rattle.strip_trim.specs.Trimmed.{AreTrimmed, Reached};
 /// A trimmed list of a justified one is justified, and makes the same known of the whole set, and of
 /// each set that is reached.
 pub fn a_trimmed_list_is_as_good()
-    ensures justified { (rules : Rules) (lines trimmed : List Line) → AreTrimmed rules lines trimmed → AreJustified rules lines
+    ensures justified { (rules : Rules) (lines trimmed : List Line) → AreTrimmed rules lines trimmed
+        → AreJustified rules lines
         → AreJustified rules trimmed }
     ensures known { (rules : Rules) (lines trimmed : List Line) → AreTrimmed rules lines trimmed
         → known rules trimmed (all_scenes rules.film) ≡ known rules lines (all_scenes rules.film) }
-    ensures reached { (rules : Rules) (lines trimmed : List Line) (set : ℕ) → AreTrimmed rules lines trimmed → Reached rules lines set
+    ensures reached { (rules : Rules) (lines trimmed : List Line) (set : ℕ) → AreTrimmed rules lines trimmed
+        → Reached rules lines set
         → known rules trimmed set ≡ known rules lines set }
 {}
 
 /// A trimmed list has no more lines than the list, and of no kind more: those that pass a test, as
 /// those with one set.
 pub fn a_trimmed_list_is_no_longer()
-    ensures length { (rules : Rules) (lines trimmed : List Line) → AreTrimmed rules lines trimmed → length trimmed ≤ length lines }
+    ensures length { (rules : Rules) (lines trimmed : List Line) → AreTrimmed rules lines trimmed
+        → length trimmed ≤ length lines }
     ensures each { (rules : Rules) (lines trimmed : List Line) (test : Line → Bool) → AreTrimmed rules lines trimmed
         → count_by test trimmed ≤ count_by test lines }
 {}

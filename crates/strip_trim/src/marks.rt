@@ -30,7 +30,8 @@ pub(crate) fn marks_of<F: Fn(u64, u64) -> u64>(
     requires memo { IsMemo kept.now.kind kept.now.film.now memo.old }
     requires count { count ≡ length best.now.lines }
     ensures memo { IsMemo kept.now.kind kept.now.film.now memo.new }
-    ensures marked { IfOk result (λ marks. AreMarked (rules_of kept.now.kind kept.now.film.now) best.now.lines marks.items) }
+    ensures marked { IfOk result (λ marks. AreMarked
+        (rules_of kept.now.kind kept.now.film.now) best.now.lines marks.items) }
 {
     let mut marks = vec![in alloc; false; count]?;
     mark_reached(kept, memo, best, &mut marks);
@@ -75,7 +76,8 @@ fn mark_followers<F: Fn(u64, u64) -> u64>(
     requires lies { LiesIn kept.now.film.now entry.now.set }
     requires bound { entry.now.bound ≡ best_bound best.now.lines entry.now.set }
     ensures memo { IsMemo kept.now.kind kept.now.film.now memo.new }
-    ensures marked { MarksMore marks.old marks.new (Follows (rules_of kept.now.kind kept.now.film.now) best.now.lines entry.now.set) }
+    ensures marked { MarksMore marks.old marks.new
+        (Follows (rules_of kept.now.kind kept.now.film.now) best.now.lines entry.now.set) }
 {
     let film = kept.film();
     let q = Mask(entry.set);
@@ -105,7 +107,8 @@ fn mark_below<F: Fn(u64, u64) -> u64>(
     requires count { length marks.old ≡ length best.now.lines }
     requires lies { LiesIn kept.now.film.now q.0 }
     ensures memo { IsMemo kept.now.kind kept.now.film.now memo.new }
-    ensures marked { MarksMore marks.old marks.new (λ place. (bound kept.now.kind kept.now.film.now q.0 < need) × IsBestOf best.now.lines q.0 place) }
+    ensures marked { MarksMore marks.old marks.new (λ place. (bound kept.now.kind kept.now.film.now q.0 < need)
+        × IsBestOf best.now.lines q.0 place) }
 {
     if let Some(place) = best.place(q.0) {
         let line = best.entries()[place].line;

@@ -30,7 +30,8 @@ pub fn trim<F: Fn(u64, u64) -> u64>(
     requires memo { IsMemo kept.now.kind kept.now.film.now memo.old }
     requires justified { AreJustified (rules_of kept.now.kind kept.now.film.now) lines.now }
     ensures memo { IsMemo kept.now.kind kept.now.film.now memo.new }
-    ensures trimmed { IfOk result (λ trimmed. AreTrimmed (rules_of kept.now.kind kept.now.film.now) lines.now trimmed.items) }
+    ensures trimmed { IfOk result (λ trimmed. AreTrimmed
+        (rules_of kept.now.kind kept.now.film.now) lines.now trimmed.items) }
 {
     let best = Best::of(alloc, lines)?;
     let marks = marks_of(alloc, kept, memo, &best, lines.len())?;

@@ -31,7 +31,8 @@ gen_command = record { word = codes "gen"; operands = 3; valued = []; flags = []
 -- the words name this film to print
 abbrev pub NameGen : List Word → GenData → Type 0
 NameGen words film =
-    (items : List Item) × (rest : Option (List Word)) × IsSpelled gen_command words items rest × NameFilm (operands_of items rest) film
+    (items : List Item) × (rest : Option (List Word)) × IsSpelled gen_command words items rest
+    × NameFilm (operands_of items rest) film
 
 abbrev pub trial_command : Command
 trial_command = record {
@@ -41,8 +42,8 @@ trial_command = record {
   flags = [];
 }
 
--- a trial of such a film: the greatest number of lines, the table's entries, how often the start is varied where the words say it, in
--- how many steps the bound is raised first, where the words say it, and the static bound
+-- a trial of such a film: the greatest number of lines, the table's entries, how often the start is varied where
+-- the words say it, in how many steps the bound is raised first, where the words say it, and the static bound
 pub record TrialData : Type 0 where
   pub film : GenData
   pub nodes : ℕ
@@ -62,4 +63,5 @@ pub record SayTrial (items : List Item) (rest : Option (List Word)) (job : Trial
 
 -- the words name this trial
 abbrev pub NameTrial : List Word → TrialData → Type 0
-NameTrial words job = (items : List Item) × (rest : Option (List Word)) × IsSpelled trial_command words items rest × SayTrial items rest job
+NameTrial words job = (items : List Item) × (rest : Option (List Word)) × IsSpelled trial_command words items rest
+    × SayTrial items rest job

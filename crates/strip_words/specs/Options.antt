@@ -53,7 +53,8 @@ IsChosen option items n =
 -- the option's number, where it has one
 abbrev pub IsGiven : FreeOption → List Item → Option ℕ → Type 0
 IsGiven option items None = IsLeftOut option.name items
-IsGiven option items (Some n) = (value : Word) × Any (Gives option.name value) items × IsNumber option.least option.most value n
+IsGiven option items (Some n) = (value : Word) × Any (Gives option.name value) items
+    × IsNumber option.least option.most value n
 
 -- the option's word
 abbrev pub IsPicked : ChoiceOption → List Item → Word → Type 0

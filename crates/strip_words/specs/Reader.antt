@@ -15,7 +15,8 @@ pub record Spells (command : Command) (words : List Word) (items : List Item) (r
 
 -- two hyphens and more, no equals sign
 abbrev pub is_option_name : Word → Bool
-is_option_name word = bytes_eq (take 2 word) (codes "--") && nat_lt 2 (length word) && not (list_any (λ byte. eqb byte 61) word)
+is_option_name word = bytes_eq (take 2 word) (codes "--") && nat_lt 2 (length word)
+    && not (list_any (λ byte. eqb byte 61) word)
 
 -- the command's options can be told from other words, and those with a value from those without
 abbrev pub has_names : Command → Bool

@@ -78,4 +78,5 @@ pub record SayJob (items : List Item) (rest : Option (List Word)) (job : SolveDa
 
 -- the words name this job to solve
 abbrev pub NameSolve : List Word → SolveData → Type 0
-NameSolve words job = (items : List Item) × (rest : Option (List Word)) × IsSpelled solve words items rest × SayJob items rest job
+NameSolve words job = (items : List Item) × (rest : Option (List Word)) × IsSpelled solve words items rest
+    × SayJob items rest job

@@ -69,7 +69,8 @@ pub(crate) fn gen_job(alloc: Global, later: &[String]) -> Result<GenJob, WordsFa
 /// The trial that the words behind `trial` name.
 pub(crate) fn trial_job(alloc: Global, later: &[String]) -> Result<TrialJob, WordsFault>
     ensures named { IfOk result (λ job. NameTrial (codes "trial" ∷ texts later.now) (trial_data job)) }
-    ensures bad { IfErr result (λ e. e ≡ NoJob → (job : TrialData) → ¬ NameTrial (codes "trial" ∷ texts later.now) job) }
+    ensures bad { IfErr result (λ e. e ≡ NoJob → (job : TrialData)
+        → ¬ NameTrial (codes "trial" ∷ texts later.now) job) }
 {
     let reading = read(alloc, &TRIAL, later)?;
     let items = reading.items.as_slice();

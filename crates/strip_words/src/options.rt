@@ -45,7 +45,8 @@ impl ChoiceOption {
     pub(crate) fn picked<'w>(&self, items: &[Item<'w>]) -> Result<&'w str, WordsFault>
         requires { AreDistinct (options_in (items_data items.now)) }
         ensures ok { IfOk result (λ word. IsPicked (choice_data self.now) (items_data items.now) word.now) }
-        ensures bad { IfErr result (λ e. (word : Word) → ¬ IsPicked (choice_data self.now) (items_data items.now) word) }
+        ensures bad { IfErr result (λ e. (word : Word)
+            → ¬ IsPicked (choice_data self.now) (items_data items.now) word) }
     {
         match value_of(items, self.name) {
             None => Ok(self.default),

@@ -24,7 +24,8 @@ pub fn plan_files(
     later: &[String],
 ) -> Result<PlanFiles, WordsFault>
     ensures named { IfOk result (λ files. NamePlanFiles word.now (word.now ∷ texts later.now) (plan_files_data files)) }
-    ensures bad { IfErr result (λ e. e ≡ NoJob → (files : PlanFilesData) → ¬ NamePlanFiles word.now (word.now ∷ texts later.now) files) }
+    ensures bad { IfErr result (λ e. e ≡ NoJob → (files : PlanFilesData)
+        → ¬ NamePlanFiles word.now (word.now ∷ texts later.now) files) }
 {
     let command = Command {
         word,

@@ -25,8 +25,10 @@ pub(crate) fn read<'w>(
     later: &'w [String],
 ) -> Result<Reading<'w>, WordsFault>
     requires { IsTrue (has_names (command_data command.now)) }
-    ensures ok { IfOk result (λ reading. IsSpelled (command_data command.now) (command.now.word.now ∷ texts later.now) (items_data reading.items.items) (rest_data reading.rest)) }
-    ensures bad { IfErr result (λ e. e ≡ NoJob → (items : List ItemData) (rest : Option (List Word)) → ¬ IsSpelled (command_data command.now) (command.now.word.now ∷ texts later.now) items rest) }
+    ensures ok { IfOk result (λ reading. IsSpelled (command_data command.now) (command.now.word.now ∷ texts later.now)
+        (items_data reading.items.items) (rest_data reading.rest)) }
+    ensures bad { IfErr result (λ e. e ≡ NoJob → (items : List ItemData) (rest : Option (List Word))
+        → ¬ IsSpelled (command_data command.now) (command.now.word.now ∷ texts later.now) items rest) }
 {
     let reading = read_items(alloc, command, later)?;
     let operands = reading.operands(alloc)?;
@@ -43,7 +45,8 @@ pub(crate) fn read<'w>(
 impl<'w> Reading<'w> {
     /// The operands among the items and behind `--`.
     pub(crate) fn operands(&self, alloc: Global) -> Result<Vec<&'w str>, AllocError>
-        ensures { IfOk result (λ words. strs words.items ≡ operands_of (items_data self.now.items.items) (rest_data self.now.rest)) }
+        ensures { IfOk result (λ words. strs words.items
+            ≡ operands_of (items_data self.now.items.items) (rest_data self.now.rest)) }
     {
         let mut operands = operands_in(alloc, self.items.as_slice())?;
         for word in self.rest.unwrap_or(&[]) {
@@ -99,8 +102,10 @@ fn read_items<'w>(
     words: &'w [String],
 ) -> Result<Reading<'w>, WordsFault>
     requires { IsTrue (has_names (command_data command.now)) }
-    ensures ok { IfOk result (λ reading. Spells (command_data command.now) (texts words.now) (items_data reading.items.items) (rest_data reading.rest)) }
-    ensures bad { IfErr result (λ e. e ≡ NoJob → (items : List ItemData) (rest : Option (List Word)) → ¬ Spells (command_data command.now) (texts words.now) items rest) }
+    ensures ok { IfOk result (λ reading. Spells (command_data command.now) (texts words.now)
+        (items_data reading.items.items) (rest_data reading.rest)) }
+    ensures bad { IfErr result (λ e. e ≡ NoJob → (items : List ItemData) (rest : Option (List Word))
+        → ¬ Spells (command_data command.now) (texts words.now) items rest) }
 {
     let mut items = Vec::new(alloc);
     let mut later = words;
@@ -124,8 +129,10 @@ fn first_item<'w>(
     later: &'w [String],
 ) -> Result<(Item<'w>, &'w [String]), WordsFault>
     requires { IsTrue (has_names (command_data command.now)) }
-    ensures ok { IfOk result (λ first. Begins (command_data command.now) (word.now ∷ texts later.now) (item_data first.0) (texts first.1.now)) }
-    ensures bad { IfErr result (λ e. (item : ItemData) (behind : List Word) → ¬ Begins (command_data command.now) (word.now ∷ texts later.now) item behind) }
+    ensures ok { IfOk result (λ first. Begins (command_data command.now) (word.now ∷ texts later.now)
+        (item_data first.0) (texts first.1.now)) }
+    ensures bad { IfErr result (λ e. (item : ItemData) (behind : List Word)
+        → ¬ Begins (command_data command.now) (word.now ∷ texts later.now) item behind) }
 {
     if is_operand(word) {
         Ok((Item::Operand(word), later))
@@ -143,7 +150,8 @@ fn first_item<'w>(
 /// The value that stands first among the words, and the words behind it.
 fn first_plain(words: &[String]) -> Result<(&str, &[String]), WordsFault>
     ensures ok { IfOk result (λ first. (texts words.now ≡ first.0.now ∷ texts first.1.now) × IsPlain first.0.now) }
-    ensures bad { IfErr result (λ e. (value : Word) (behind : List Word) → texts words.now ≡ value ∷ behind → ¬ IsPlain value) }
+    ensures bad { IfErr result (λ e. (value : Word) (behind : List Word) → texts words.now ≡ value ∷ behind
+        → ¬ IsPlain value) }
 {
     match words.split_first() {
         Some((value, behind)) if is_plain(value.as_str()) => Ok((value.as_str(), behind)),
@@ -154,8 +162,10 @@ fn first_plain(words: &[String]) -> Result<(&str, &[String]), WordsFault>
 /// The option and its value that are this one word.
 fn cut<'w>(command: &Command, word: &'w str) -> Result<(&'w str, &'w str), WordsFault>
     requires { IsTrue (has_names (command_data command.now)) }
-    ensures ok { IfOk result (λ parts. (word.now ≡ parts.0.now ++ 61 ∷ parts.1.now) × BelongsTo (command_data command.now) (AJoined parts.0.now parts.1.now)) }
-    ensures bad { IfErr result (λ e. (name value : Word) → word.now ≡ name ++ 61 ∷ value → ¬ BelongsTo (command_data command.now) (AJoined name value)) }
+    ensures ok { IfOk result (λ parts. (word.now ≡ parts.0.now ++ 61 ∷ parts.1.now)
+        × BelongsTo (command_data command.now) (AJoined parts.0.now parts.1.now)) }
+    ensures bad { IfErr result (λ e. (name value : Word) → word.now ≡ name ++ 61 ∷ value
+        → ¬ BelongsTo (command_data command.now) (AJoined name value)) }
 {
     match word.split_once('=') {
         Some((name, value)) if command.has_valued(name) && is_plain(value) => Ok((name, value)),

@@ -100,7 +100,8 @@ pub struct SolveJob {
 /// The job to solve that the words behind `solve` name.
 pub(crate) fn solve_job(alloc: Global, later: &[String]) -> Result<SolveJob, WordsFault>
     ensures named { IfOk result (λ job. NameSolve (codes "solve" ∷ texts later.now) (solve_data job)) }
-    ensures bad { IfErr result (λ e. e ≡ NoJob → (job : SolveData) → ¬ NameSolve (codes "solve" ∷ texts later.now) job) }
+    ensures bad { IfErr result (λ e. e ≡ NoJob → (job : SolveData)
+        → ¬ NameSolve (codes "solve" ∷ texts later.now) job) }
 {
     let reading = read(alloc, &SOLVE, later)?;
     let items = reading.items.as_slice();

@@ -14,8 +14,8 @@ use Rattle.strip_hand.specs.Hand.{Knows, LetsThrough}
 use Rattle.strip_hand.specs.Search.{depth_of, search_rules}
 use Rattle.strip_world.specs.World.{WorldData, part_at, worker_at}
 
--- the worker claimed the part, and the path is an open one of the part that comes after its last, with something remaining, and
--- which neither the static bound nor, outside the front, the last probe rules out
+-- the worker claimed the part, and the path is an open one of the part that comes after its last, with something
+-- remaining, and which neither the static bound nor, outside the front, the last probe rules out
 pub record MayEnlist (world : WorldData) (who part : ℕ) (path : PathData) : Type 0 where
   pub known : part < length world.parts
   pub claimed : (part_at world part).claimer ≡ Some who

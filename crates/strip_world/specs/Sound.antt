@@ -11,7 +11,8 @@ use Rattle.strip_hand.specs.Hand.{Knows}
 use Rattle.strip_hand.specs.Search.{AreStarts, SearchData, depth_of, search_rules}
 use Rattle.strip_world.specs.World.{WorkerData, WorldData, part_at, stripe_at, worker_at}
 
--- the worker's best path is complete and costs at least the least cost, and it was told no less and no more than the start's
+-- the worker's best path is complete and costs at least the least cost, and it was told no less and no more than
+-- the start's
 pub record IsWorker (search : SearchData) (least : ℕ) (worker : WorkerData) : Type 0 where
   pub complete : IsComplete search.film worker.best
   pub no_better : least ≤ worker.best.paid
@@ -28,14 +29,18 @@ pub record HasLeast (world : WorldData) : Type 0 where
 pub record IsStripeOf (world : WorldData) (number : ℕ) (buckets : List (List Known)) : Type 0 where
   pub stripe : IsStripe buckets
   pub count : length buckets ≡ world.buckets
-  pub own : (bucket : ℕ) → bucket < length buckets → All (λ entry. stripe_of entry.set ≡ number) (bucket_at buckets bucket)
+  pub own : (bucket : ℕ) → bucket < length buckets
+      → All (λ entry. stripe_of entry.set ≡ number) (bucket_at buckets bucket)
   pub entries : (bucket : ℕ) → bucket < length buckets → All (Knows world.lines) (bucket_at buckets bucket)
 
--- a part below the next one has a claimer, whose last path is one of the film and lies in it; another part has nothing yet
+-- a part below the next one has a claimer, whose last path is one of the film and lies in it; another part has
+-- nothing yet
 pub record IsClaimed (world : WorldData) (part : ℕ) : Type 0 where
   pub claimer : part < world.next → (who : ℕ) × (who < length world.workers) × ((part_at world part).claimer ≡ Some who)
-  pub free : world.next ≤ part → ((part_at world part).claimer ≡ None) × ((part_at world part).last ≡ None) × ((part_at world part).number ≡ 0)
-  pub last : (path : PathData) → (part_at world part).last ≡ Some path → lies_in (depth_of world.search) world.search.tasks part path ≡ true
+  pub free : world.next ≤ part → ((part_at world part).claimer ≡ None) × ((part_at world part).last ≡ None)
+      × ((part_at world part).number ≡ 0)
+  pub last : (path : PathData) → (part_at world part).last ≡ Some path
+      → lies_in (depth_of world.search) world.search.tasks part path ≡ true
   pub own : (path : PathData) → (part_at world part).last ≡ Some path → IsPath world.search.film path
 
 pub record IsSound (world : WorldData) : Type 0 where
@@ -50,5 +55,6 @@ pub record IsSound (world : WorldData) : Type 0 where
   pub part_count : length world.parts ≡ suc (length world.search.tasks)
   pub next : world.next ≤ length world.parts
   pub parts : (part : ℕ) → part < length world.parts → IsClaimed world part
-  pub counts : AreCounted (search_rules world.search) world.search.start (depth_of world.search) world.search.tasks world.lines
+  pub counts : AreCounted (search_rules world.search) world.search.start
+      (depth_of world.search) world.search.tasks world.lines
       (λ part. (part_at world part).last) (λ part. (part_at world part).number)

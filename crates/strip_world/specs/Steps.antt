@@ -29,7 +29,8 @@ with_worker world who worker = record world { workers = slice_set world.workers 
 abbrev pub looked : WorldData → ℕ → WorldData
 looked world who = with_worker world who (record (worker_at world who) { told = world.least })
 
--- an offer: the least cost is that of the path where it is cheaper, which the worker keeps where it is cheaper than its best
+-- an offer: the least cost is that of the path where it is cheaper, which the worker keeps where it is cheaper than
+-- its best
 abbrev pub offered : WorldData → ℕ → PathData → WorldData
 offered world who path =
     with_worker (record world { least = min world.least path.paid }) who (record (worker_at world who) {
@@ -49,8 +50,8 @@ claimed world who = if nat_lt world.next (length world.parts)
 abbrev pub claim_reply : WorldData → Option ℕ
 claim_reply world = if nat_lt world.next (length world.parts) then Some world.next else None
 
--- an enlistment: a line of what remains, with its static bound; the path is its part's last. Nothing where the lines are as many as
--- they may be
+-- an enlistment: a line of what remains, with its static bound; the path is its part's last. Nothing where the
+-- lines are as many as they may be
 abbrev pub new_line : WorldData → PathData → Line
 new_line world path = record { set = path.rest; bound = bound world.search.kind world.search.film path.rest }
 
@@ -63,7 +64,8 @@ enlisted world part path = if length world.lines == world.search.cap
     }
 
 abbrev pub enlist_reply : WorldData → Listed
-enlist_reply world = if length world.lines == world.search.cap then Spent (length world.lines) else NewLine (length world.lines)
+enlist_reply world = if length world.lines == world.search.cap then Spent (length world.lines) else NewLine
+    (length world.lines)
 
 -- a raise: the line has the greater of its bound and this one
 abbrev pub raised_in : WorldData → ℕ → ℕ → WorldData
@@ -82,9 +84,11 @@ probed world who set = with_worker world who (record (worker_at world who) { pro
 
 -- a note: the bucket of its set, and nothing else of the table, changes as a put says
 pub record IsNoted (world : WorldData) (who : ℕ) (known : Known) (after : WorldData) (answer : Noted) : Type 0 where
-  pub puts : Puts (home (home_stripe world known.set) known.set) known (home (home_stripe after known.set) known.set) answer
+  pub puts : Puts (home (home_stripe world known.set) known.set) known
+      (home (home_stripe after known.set) known.set) answer
   pub table : after.stripes ≡ slice_set world.stripes (stripe_of known.set)
-      (slice_set (home_stripe world known.set) (bucket_of known.set (length (home_stripe world known.set))) (home (home_stripe after known.set) known.set))
+      (slice_set (home_stripe world known.set) (bucket_of known.set (length (home_stripe world known.set)))
+      (home (home_stripe after known.set) known.set))
   pub others : after ≡ record (with_worker world who (record (worker_at world who) { note = Some known })) { stripes = after.stripes }
 
 -- the event makes this of the world, with this reply
@@ -97,7 +101,8 @@ Steps world (Enlist who task path) after reply =
     (after ≡ enlisted world task (path_data path)) × (reply ≡ HasListed (enlist_reply world))
 Steps world (Raise who line bound) after reply = (after ≡ raised_in world line bound) × (reply ≡ HasRaised)
 Steps world (Ask who set) after reply = (after ≡ probed world who set) × (reply ≡ Probed (found world set))
-Steps world (Note who known) after reply = (answer : Noted) × IsNoted world who known after answer × (reply ≡ HasNoted answer)
+Steps world (Note who known) after reply = (answer : Noted) × IsNoted world who known after answer
+    × (reply ≡ HasNoted answer)
 
 -- no event is left, or the next one isn't allowed
 abbrev pub StopsAt : WorldData → List Event → Type 0
@@ -109,4 +114,5 @@ abbrev pub Runs : WorldData → List Event → ℕ → WorldData → Type 0
 Runs world events zero after = (after ≡ world) × StopsAt world events
 Runs world [] (suc n) after = ⊥
 Runs world (event ∷ events) (suc n) after =
-    IsAllowed world event × ((between : WorldData) × (reply : Reply) × Steps world event between reply × Runs between events n after)
+    IsAllowed world event × ((between : WorldData) × (reply : Reply) × Steps world event between reply
+    × Runs between events n after)

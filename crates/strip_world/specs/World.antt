@@ -7,7 +7,8 @@ use Rattle.strip_table.specs.Home.{stripe_of}
 use Rattle.strip_hand.specs.Hand.{ProbeData}
 use Rattle.strip_hand.specs.Search.{SearchData}
 
--- part 0 is the front, part 1 that of the first task, and so on: who claimed it, its last path, and how many lines it made
+-- part 0 is the front, part 1 that of the first task, and so on: who claimed it, its last path, and how many lines
+-- it made
 pub record PartData : Type 0 where
   pub claimer : Option ℕ
   pub last : Option PathData
@@ -20,8 +21,8 @@ pub record WorkerData : Type 0 where
   pub probe : Option ProbeData
   pub note : Option Known
 
--- the least cost so far, the lines, the stripes of the table with so many buckets each, the next part to be claimed, the parts and the
--- workers
+-- the least cost so far, the lines, the stripes of the table with so many buckets each, the next part to be
+-- claimed, the parts and the workers
 pub record WorldData : Type 0 where
   pub search : SearchData
   pub buckets : ℕ

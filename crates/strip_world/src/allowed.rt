@@ -117,7 +117,8 @@ impl World {
         requires search { GoesBy kept.now.kind kept.now.film.now self.now.search }
         requires part { part < length self.now.parts }
         requires path { IsPath self.now.search.film (path_data path.now) }
-        ensures { IsTrue result ↔ ComesAfter (search_rules self.now.search) (part_at self.now part).last (path_data path.now) }
+        ensures { IsTrue result ↔ ComesAfter (search_rules self.now.search) (part_at self.now part).last
+            (path_data path.now) }
     {
         match &self.parts[part as usize].last {
             Some(last) => is_earlier(kept, self.film.all(), last.scenes(), path.scenes()),
@@ -170,7 +171,8 @@ impl World {
         requires keeps { Keeps (F.pre kept.now.f) (F.post kept.now.f) kept.now.kind kept.now.film.now }
         requires search { GoesBy kept.now.kind kept.now.film.now self.now.search }
         requires lies { LiesIn self.now.search.film set.0 }
-        ensures { IsTrue result ↔ IsJustified (search_rules self.now.search) self.now.lines (record { set = set.0; bound = bound }) }
+        ensures { IsTrue result ↔ IsJustified (search_rules self.now.search) self.now.lines
+            (record { set = set.0; bound = bound }) }
     {
         bound <= self.bound(kept, set)
             || !set.is_empty() && self.each_first_reaches(kept, set, bound)

@@ -115,7 +115,8 @@ impl Hand for World {
         ensures sound { IsOwned self.new }
         ensures home { length self.new.workers ≡ length self.old.workers }
         ensures noted { Notes (hand_data self.old) known.now result (hand_data self.new) }
-        ensures step { (answer : Noted) × (result ≡ Ok answer) × Steps self.old (Note 0 known.now) self.new (HasNoted answer) }
+        ensures step { (answer : Noted) × (result ≡ Ok answer)
+            × Steps self.old (Note 0 known.now) self.new (HasNoted answer) }
     {
         Ok(self.note_as(0, known))
     }

@@ -24,7 +24,8 @@ use strip_lines::laws::the_rules_are_true;
 
 /// A search opens with a sound world, and every step of an allowed event keeps it sound.
 pub fn steps_keep_worlds_sound()
-    ensures opened { (film : FilmData) (kind : Kind) (start : PathData) (tasks : List PathData) (limits : Limits) → IsFilm film
+    ensures opened { (film : FilmData) (kind : Kind) (start : PathData) (tasks : List PathData) (limits : Limits)
+        → IsFilm film
         → IsComplete film start → AreStarts (search_of film kind start tasks limits) → AreLimits limits
         → IsSound (opened film kind start tasks limits) }
     ensures steps { (world after : WorldData) (event : Event) (reply : Reply) → IsSound world → IsAllowed world event
@@ -39,7 +40,8 @@ pub fn a_sound_world_is_true()
     ensures entries { (world : WorldData) (stripe bucket : ℕ) (entry : Known) → IsSound world → stripe < 16
         → bucket < length (stripe_at world stripe) → Contains (bucket_at (stripe_at world stripe) bucket) entry
         → IsAtMostFinish world.search.film entry.set entry.bound }
-    ensures least { (world : WorldData) (pay : ℕ) → IsSound world → IsOptimum world.search.film pay → pay ≤ world.least }
+    ensures least { (world : WorldData) (pay : ℕ) → IsSound world → IsOptimum world.search.film pay
+        → pay ≤ world.least }
 {
     the_rules_are_true();
 }
@@ -47,18 +49,23 @@ pub fn a_sound_world_is_true()
 /// In a sound world the lines are at most as many as the candidates of the start, in all and of each set;
 /// and where a path may be enlisted, there are fewer.
 pub fn sound_worlds_have_few_lines()
-    ensures most { (world : WorldData) → IsSound world → length world.lines ≤ candidate_count (search_rules world.search) world.search.start }
+    ensures most { (world : WorldData) → IsSound world
+        → length world.lines ≤ candidate_count (search_rules world.search) world.search.start }
     ensures sets { (world : WorldData) (set : ℕ) → IsSound world
-        → count_by (λ line. line.set == set) world.lines ≤ leaving_count (search_rules world.search) world.search.start set }
+        → count_by (λ line. line.set == set) world.lines
+        ≤ leaving_count (search_rules world.search) world.search.start set }
     ensures room { (world : WorldData) (who part : ℕ) (path : PathData) → IsSound world → who < length world.workers
-        → MayEnlist world who part path → length world.lines + 1 ≤ candidate_count (search_rules world.search) world.search.start }
+        → MayEnlist world who part path → length world.lines + 1
+        ≤ candidate_count (search_rules world.search) world.search.start }
 {}
 
 /// The least cost never rises, a line's set never changes and its bound never falls, and what the search
 /// goes by stays.
 pub fn what_was_seen_stays_true()
-    ensures least { (world after : WorldData) (event : Event) (reply : Reply) → Steps world event after reply → after.least ≤ world.least }
-    ensures lines { (world after : WorldData) (event : Event) (reply : Reply) → IsAllowed world event → Steps world event after reply
+    ensures least { (world after : WorldData) (event : Event) (reply : Reply) → Steps world event after reply
+        → after.least ≤ world.least }
+    ensures lines { (world after : WorldData) (event : Event) (reply : Reply) → IsAllowed world event
+        → Steps world event after reply
         → GrowTo world.lines after.lines }
     ensures search { (world after : WorldData) (event : Event) (reply : Reply) → Steps world event after reply
         → after.search ≡ world.search }

@@ -31,9 +31,11 @@ impl World {
         limits: &Limits,
     ) -> Result<World, Memory>
         requires start { IsComplete film.now (path_data start.now) }
-        requires tasks { AreStarts (search_of film.now kind (path_data start.now) (map path_data tasks.now) limits.now) }
+        requires tasks { AreStarts (search_of film.now kind (path_data start.now)
+            (map path_data tasks.now) limits.now) }
         requires limits { AreLimits limits.now }
-        ensures opened { IfOk result (λ world. world ≡ opened film.now kind (path_data start.now) (map path_data tasks.now) limits.now) }
+        ensures opened { IfOk result (λ world. world
+            ≡ opened film.now kind (path_data start.now) (map path_data tasks.now) limits.now) }
         ensures sound { IfOk result IsSound }
     {
         film.keeps_limits();
@@ -78,7 +80,8 @@ fn free_parts(alloc: Global, count: usize) -> Result<Vec<Part>, AllocError>
 
 /// So many workers that did nothing.
 fn idle_workers(alloc: Global, start: &Path, count: usize) -> Result<Vec<Worker>, AllocError>
-    ensures { IfOk result (λ workers. map worker_data workers.items ≡ replicate count (idle_worker (path_data start.now))) }
+    ensures { IfOk result (λ workers. map worker_data workers.items
+        ≡ replicate count (idle_worker (path_data start.now))) }
 {
     let workers = vec![in alloc; Worker::of(start); count]?;
     Ok(workers)

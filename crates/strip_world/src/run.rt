@@ -25,7 +25,8 @@ impl World {
         requires search { GoesBy kept.now.kind kept.now.film.now self.old.search }
         ensures runs { Runs self.old events.now result self.new }
         ensures sound { IsSound self.new }
-        ensures entries { (stripe bucket : ℕ) (entry : Known) → stripe < 16 → bucket < length (stripe_at self.new stripe)
+        ensures entries { (stripe bucket : ℕ) (entry : Known) → stripe < 16
+            → bucket < length (stripe_at self.new stripe)
             → Contains (bucket_at (stripe_at self.new stripe) bucket) entry
             → IsAtMostFinish self.new.search.film entry.set entry.bound }
         ensures least { (pay : ℕ) → IsOptimum self.new.search.film pay → pay ≤ self.new.least }

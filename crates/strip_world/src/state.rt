@@ -30,7 +30,11 @@ impl Part {
     /// Makes a path the last one, and one more is counted.
     pub(crate) fn enlist(&mut self, path: &Path)
         requires { self.old.number < 2 ^ 32 - 1 }
-        ensures { part_data self.new ≡ record (part_data self.old) { last = Some (path_data path.now); number = self.old.number + 1 } }
+        ensures { part_data self.new ≡ record (part_data self.old) {
+          last = Some
+              (path_data path.now);
+          number = self.old.number + 1;
+        } }
     {
         self.last = Some(*path);
         self.number += 1;

@@ -124,8 +124,8 @@ fn orders_are_turned_round_where_they_end_lower(rt: HostRuntime) -> Result<(), F
     Ok(())
 }
 
-// Whether a film of 200 scenes and so many casts of two actors has as many classes, with all scenes in them; or so many classes
-// are too many.
+// Whether a film of 200 scenes and so many casts of two actors has as many classes, with all scenes in them; or so
+// many classes are too many.
 fn has_classes(alloc: Global, kinds: usize, too_many: bool) -> Result<bool, Fail> {
     let casts = casts_of_two(alloc, 200, kinds)?;
     let inst = instance(alloc, &casts, &[1; 200], &[1; 13], &[1; 13])?;

@@ -9,7 +9,8 @@ use Rattle.strip_front.specs.Filled.{IsFilled}
 use Rattle.strip_front.specs.Front.{FrontData, IsFrontOf}
 use Rattle.strip_worker.specs.Team.{IsSearchBy}
 
--- the front of its tasks was gone down, and what was found of each task is at most what is known of what remains after it
+-- the front of its tasks was gone down, and what was found of each task is at most what is known of what remains
+-- after it
 pub record IsOnItsWay (kind : Kind) (film : FilmData) (hand : HandData) (front : FrontData) (found : List ℕ) : Type 0 where
   pub search : IsSearchBy kind film hand.search
   pub tasks : hand.search.tasks ≡ front.tasks

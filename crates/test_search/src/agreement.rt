@@ -1,4 +1,5 @@
-// What searches find that begin with the greedy order, which wasn't improved, compared with the plain program, which tries every order.
+// What searches find that begin with the greedy order, which wasn't improved, compared with the plain program,
+// which tries every order.
 ghost use Rattle.std.specs.Prelude.{◌≤◌};
 
 use crate::instances::{EIGHT, Film, PAIRED, RANDOM, TRIANGLE, WORKED, instance};
@@ -109,8 +110,8 @@ fn is_closed(ended: &Ended, cost: u64, order: &[u8], lines: &[Line]) -> bool {
         && ended.lines.as_slice() == lines
 }
 
-// The lines of the triangle whose second scene comes last. The actors get 12 for the days that they work. Two orders keep the
-// pairs: in one b waits a day, in the other, which begins with the third scene, c does.
+// The lines of the triangle whose second scene comes last. The actors get 12 for the days that they work. Two
+// orders keep the pairs: in one b waits a day, in the other, which begins with the third scene, c does.
 static THREE: [Line; 3] = [
     Line { set: 7, bound: 14 },
     Line { set: 6, bound: 11 },

@@ -41,7 +41,8 @@ impl Hand for Forgetful {
         requires { IsOwned self.old.world }
         ensures sound { IsOwned self.new.world }
         ensures home { length self.new.world.workers ≡ length self.old.world.workers }
-        ensures told { Tells (noting self.old.world self.old.last_note) result (noting self.new.world self.new.last_note) }
+        ensures told { Tells (noting self.old.world self.old.last_note) result
+            (noting self.new.world self.new.last_note) }
     {
         self.world.look()
     }
@@ -51,7 +52,8 @@ impl Hand for Forgetful {
         requires complete { IsComplete self.old.world.search.film (path_data path.now) }
         ensures sound { IsOwned self.new.world }
         ensures home { length self.new.world.workers ≡ length self.old.world.workers }
-        ensures told { Tells (noting self.old.world self.old.last_note) result (noting self.new.world self.new.last_note) }
+        ensures told { Tells (noting self.old.world self.old.last_note) result
+            (noting self.new.world self.new.last_note) }
         ensures offered { result ≤ (path_data path.now).paid }
     {
         self.world.offer(path)
@@ -61,14 +63,16 @@ impl Hand for Forgetful {
         requires { IsOwned self.old.world }
         ensures sound { IsOwned self.new.world }
         ensures home { length self.new.world.workers ≡ length self.old.world.workers }
-        ensures claimed { Claims (noting self.old.world self.old.last_note) result (noting self.new.world self.new.last_note) }
+        ensures claimed { Claims (noting self.old.world self.old.last_note) result
+            (noting self.new.world self.new.last_note) }
     {
         self.world.claim()
     }
 
     fn enlist(&mut self, cursor: &mut Cursor, path: &Path, bound: u64) -> Result<Listed, Memory>
         requires sound { IsOwned self.old.world }
-        requires may { MayEnlist (noting self.old.world self.old.last_note) (cursor_data cursor.old) (path_data path.now) bound }
+        requires may { MayEnlist (noting self.old.world self.old.last_note) (cursor_data cursor.old)
+            (path_data path.now) bound }
         ensures sound { IsOwned self.new.world }
         ensures home { length self.new.world.workers ≡ length self.old.world.workers }
         ensures listed { Enlists (noting self.old.world self.old.last_note) (cursor_data cursor.old)
@@ -82,7 +86,8 @@ impl Hand for Forgetful {
         requires may { MayRaise (noting self.old.world self.old.last_note) line bound }
         ensures sound { IsOwned self.new.world }
         ensures home { length self.new.world.workers ≡ length self.old.world.workers }
-        ensures raised { Raises (noting self.old.world self.old.last_note) line bound result (noting self.new.world self.new.last_note) }
+        ensures raised { Raises (noting self.old.world self.old.last_note) line bound result
+            (noting self.new.world self.new.last_note) }
     {
         self.world.raise(line, bound)
     }
@@ -92,7 +97,8 @@ impl Hand for Forgetful {
         requires lies { LiesIn self.old.world.search.film set.0 }
         ensures sound { IsOwned self.new.world }
         ensures home { length self.new.world.workers ≡ length self.old.world.workers }
-        ensures probed { Probes (noting self.old.world self.old.last_note) set.0 result (noting self.new.world self.new.last_note) }
+        ensures probed { Probes (noting self.old.world self.old.last_note) set.0 result
+            (noting self.new.world self.new.last_note) }
     {
         self.world.probe(set)
     }
@@ -102,7 +108,8 @@ impl Hand for Forgetful {
         requires known { Knows self.old.world.lines known.now }
         ensures sound { IsOwned self.new.world }
         ensures home { length self.new.world.workers ≡ length self.old.world.workers }
-        ensures noted { Notes (noting self.old.world self.old.last_note) known.now result (noting self.new.world self.new.last_note) }
+        ensures noted { Notes (noting self.old.world self.old.last_note) known.now result
+            (noting self.new.world self.new.last_note) }
     {
         self.last_note = Some(*known);
         Ok(Noted::Fresh)

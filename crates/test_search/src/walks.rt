@@ -53,7 +53,8 @@ fn begin<H: Hand, F: Fn(u64, u64) -> u64>(
     requires front { IsEmptyFront (rules_of kept.now.kind kept.now.film.now) (front_data front.old) }
     ensures sound { H.is_sound hand.new }
     ensures home { H.home hand.new ≡ H.home hand.old }
-    ensures way { IfOk result (λ found. IsOnItsWay kept.now.kind kept.now.film.now (H.shows hand.new) (front_data front.new) found.items) }
+    ensures way { IfOk result (λ found. IsOnItsWay kept.now.kind kept.now.film.now (H.shows hand.new)
+        (front_data front.new) found.items) }
 {
     let part = claimed(hand)?;
     if part != 0 {
@@ -87,10 +88,12 @@ fn take_tasks<H: Hand, F: Fn(u64, u64) -> u64>(
 ) -> Result<(), Fail>
     requires sound { H.is_sound hand.old }
     requires keeps { Keeps (F.pre kept.now.f) (F.post kept.now.f) kept.now.kind kept.now.film.now }
-    requires way { IsOnItsWay kept.now.kind kept.now.film.now (H.shows hand.old) (front_data front.now) found.old.items }
+    requires way { IsOnItsWay kept.now.kind kept.now.film.now (H.shows hand.old)
+        (front_data front.now) found.old.items }
     ensures sound { H.is_sound hand.new }
     ensures home { H.home hand.new ≡ H.home hand.old }
-    ensures way { IfOk result (λ _. IsOnItsWay kept.now.kind kept.now.film.now (H.shows hand.new) (front_data front.now) found.new.items) }
+    ensures way { IfOk result (λ _. IsOnItsWay kept.now.kind kept.now.film.now (H.shows hand.new)
+        (front_data front.now) found.new.items) }
 {
     let mut memo = Memo::new(alloc, kept)?;
     for _ in 0..front.tasks().len() {
@@ -109,12 +112,14 @@ fn take_task<H: Hand, F: Fn(u64, u64) -> u64>(
 ) -> Result<(), Fail>
     requires sound { H.is_sound hand.old }
     requires keeps { Keeps (F.pre kept.now.f) (F.post kept.now.f) kept.now.kind kept.now.film.now }
-    requires way { IsOnItsWay kept.now.kind kept.now.film.now (H.shows hand.old) (front_data front.now) found.old.items }
+    requires way { IsOnItsWay kept.now.kind kept.now.film.now (H.shows hand.old)
+        (front_data front.now) found.old.items }
     requires memo { IsMemo kept.now.kind kept.now.film.now memo.old }
     ensures sound { H.is_sound hand.new }
     ensures home { H.home hand.new ≡ H.home hand.old }
     ensures memo { IsMemo kept.now.kind kept.now.film.now memo.new }
-    ensures way { IfOk result (λ _. IsOnItsWay kept.now.kind kept.now.film.now (H.shows hand.new) (front_data front.now) found.new.items) }
+    ensures way { IfOk result (λ _. IsOnItsWay kept.now.kind kept.now.film.now (H.shows hand.new)
+        (front_data front.now) found.new.items) }
 {
     kept.film().keeps_limits();
     let part = claimed(hand)?;

@@ -224,8 +224,8 @@ fn take_all<F: Fn(u64, u64) -> u64>(kept: &StoredBound<F>, world: &mut World, ev
     }
 }
 
-// The world of the triangle with plain bounds and an order that costs 14, in which worker 0 has the front and worker 1 the first task,
-// and the empty path and that of scene 1 are enlisted, with the bounds 12 and 9.
+// The world of the triangle with plain bounds and an order that costs 14, in which worker 0 has the front and
+// worker 1 the first task, and the empty path and that of scene 1 are enlisted, with the bounds 12 and 9.
 fn begun<F: Fn(u64, u64) -> u64>(alloc: Global, kept: &StoredBound<F>) -> Result<World, Fail>
     requires keeps { Keeps (F.pre kept.now.f) (F.post kept.now.f) kept.now.kind kept.now.film.now }
     ensures sound { IfOk result IsSound }

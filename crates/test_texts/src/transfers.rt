@@ -80,7 +80,8 @@ fn files_without_faults_hold_each_name(rt: HostRuntime) -> Result<(), Fail> {
     Ok(())
 }
 
-/// Whether a sink of so much room, whose writes of these numbers fail, is sent the alphabet and four digits so, and gets this.
+/// Whether a sink of so much room, whose writes of these numbers fail, is sent the alphabet and four digits so, and
+/// gets this.
 fn is_sent(
     alloc: Global,
     room: usize,

@@ -88,7 +88,8 @@ pub(crate) fn enlist_two<F: Fn(u64, u64) -> u64>(
 /// Whether each step to an open first of all scenes reaches the bound with that of what then remains.
 pub(crate) fn each_first_reaches<F: Fn(u64, u64) -> u64>(kept: &StoredBound<F>, number: u64) -> bool
     requires keeps { Keeps (F.pre kept.now.f) (F.post kept.now.f) kept.now.kind kept.now.film.now }
-    ensures { IsTrue result → (scene : ℕ) → has (open_firsts kept.now.film.now (all_scenes kept.now.film.now)) scene ≡ true
+    ensures { IsTrue result → (scene : ℕ) → has (open_firsts kept.now.film.now (all_scenes kept.now.film.now)) scene
+        ≡ true
         → number ≤ step_cost kept.now.film.now (all_scenes kept.now.film.now) scene
         + bound kept.now.kind kept.now.film.now (without (all_scenes kept.now.film.now) scene) }
 {
@@ -129,8 +130,8 @@ pub(crate) fn raise_whole<F: Fn(u64, u64) -> u64>(
     true
 }
 
-/// The lines of a book with room for one and a task of two scenes, in whose front two paths are enlisted and the first one's line is
-/// raised to 13; and whether the second was told that the lines are spent.
+/// The lines of a book with room for one and a task of two scenes, in whose front two paths are enlisted and the
+/// first one's line is raised to 13; and whether the second was told that the lines are spent.
 fn lines_of_one<F: Fn(u64, u64) -> u64>(
     alloc: Global,
     kept: &StoredBound<F>,

@@ -127,7 +127,8 @@ fn raise_to<H: Hand, F: Fn(u64, u64) -> u64>(
     requires made { HasWhole kept.now.film.now (H.shows hand.old) line }
     ensures sound { H.is_sound hand.new }
     ensures search { IfOk result (λ _. (H.shows hand.new).search ≡ (H.shows hand.old).search) }
-    ensures knows { IfOk result (λ _. Knows (H.shows hand.new).lines (record { line = line; set = all_scenes kept.now.film.now; bound = bound })) }
+    ensures knows { IfOk result (λ _. Knows (H.shows hand.new).lines
+        (record { line = line; set = all_scenes kept.now.film.now; bound = bound })) }
 {
     if kept.film().all().is_empty() || !each_first_reaches(kept, bound) {
         return Err("a bound that each first step reaches".into());
