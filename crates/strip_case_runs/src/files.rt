@@ -1,5 +1,5 @@
 // The files at hand in a case.
-ghost use Rattle.std.specs.Prelude.{◌≡◌, ◌++◌, [], length, Ok, None, IfOk, IfSome, OnOk, string_bytes};
+ghost use Rattle.std.specs.Prelude.{◌≡◌, ◌≤◌, ◌++◌, [], length, Ok, None, IfOk, IfSome, OnOk, string_bytes};
 ghost use Rattle.strip_io.specs.Held.{bytes_of, came_of, faults_of, is_held};
 ghost use Rattle.strip_answer.specs.Run.{files_data};
 ghost use Rattle.strip_cases.specs.Met.{IsHeld};
@@ -110,12 +110,18 @@ fn within(
     Ok((row <= number).then_some(bytes))
 }
 
-/// The files as a source in which these reads fail.
-pub(crate) fn source(alloc: Global, files: &[Held], failing: &[u64]) -> Result<MemFiles, Memory>
-    requires { AreApart files.now }
+/// The files as a source whose reads give at most `piece` bytes each, and in which these reads fail.
+pub(crate) fn source(
+    alloc: Global,
+    files: &[Held],
+    piece: usize,
+    failing: &[u64],
+) -> Result<MemFiles, Memory>
+    requires apart { AreApart files.now }
+    requires piece { 1 ≤ piece }
     ensures { IfOk result (λ source. IsSource files.now (files_data (is_held source.files) (bytes_of source.files) (faults_of source.files) (came_of source.files))) }
 {
-    let mut source = MemFiles::new(alloc, failing)?;
+    let mut source = MemFiles::short(alloc, piece, failing)?;
     for held in files {
         source.add(held.name.as_str(), &held.bytes)?;
     }

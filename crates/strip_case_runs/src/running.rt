@@ -101,7 +101,8 @@ fn run_step<R: Threads + Wait + Sync>(
     requires { AreApart files.old.items }
     ensures { result ≡ Ok None → IsStepMet step.now files.old.items files.new.items }
 {
-    let mut source = source(alloc, files, &step.failing_reads)?;
+    let read_piece = (step.read_piece as usize).max(1);
+    let mut source = source(alloc, files, read_piece, &step.failing_reads)?;
     let room = step.room as usize;
     let piece = (step.piece as usize).max(1);
     let mut out = MemSink::new(alloc, room, piece, &step.failing_writes)?;
