@@ -17,10 +17,12 @@ pub record IsNowHeld (name bytes : List ℕ) (before after : List Held) : Type 0
   pub alone : (other : List ℕ) → IsHeld after name other → other ≡ bytes
   pub others : (other kept : List ℕ) → other ≢ name → IsHeld after other kept ↔ IsHeld before other kept
 
--- the bytes of a given file: its rows, or its rows behind those of a file at hand, or such a file with its rows in place of one
+-- the bytes of a given file: its rows, or its rows behind those of a file at hand, or such a file with its rows in
+-- place of one
 abbrev pub HasBytes : List Held → Base → List ℕ → List ℕ → Type 0
 HasBytes files None rows bytes = bytes ≡ rows
-HasBytes files (Behind of) rows bytes = (front : List ℕ) × IsHeld files (string_bytes of) front × (bytes ≡ front ++ rows)
+HasBytes files (Behind of) rows bytes = (front : List ℕ) × IsHeld files (string_bytes of) front
+    × (bytes ≡ front ++ rows)
 HasBytes files (Within of row) rows bytes = (whole : List ℕ) × IsHeld files (string_bytes of) whole
 
 -- a given file is at hand from now on

@@ -33,7 +33,8 @@ is_any_unread [] = false
 is_any_unread (None ∷ later) = true
 is_any_unread (Some cases ∷ later) = is_any_unread later
 
--- so many cases were run, by a count that stands at the end of its type, and so many of them differ: where none does, all are met
+-- so many cases were run, by a count that stands at the end of its type, and so many of them differ: where none
+-- does, all are met
 pub record IsCounted (files : List (Option Cases)) (cases differ : ℕ) (is_unread : Bool) : Type 0 where
   pub counted : cases ≡ min (cases_in files) (2 ^ 64 - 1)
   pub few : differ ≤ cases
@@ -48,7 +49,8 @@ end_status differ true = 2
 end_status zero false = 0
 end_status (suc more) false = 1
 
--- the files that the words name were read, but for those that couldn't be, and their cases run; the last row says how many, and the status agrees
+-- the files that the words name were read, but for those that couldn't be, and their cases run; the last row says
+-- how many, and the status agrees
 pub record IsJudged (run : RunData) (status : ℕ) : Type 0 where
   pub files : List (Option Cases)
   pub each : AreRead run.files_before.bytes run.words files

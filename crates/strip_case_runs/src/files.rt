@@ -1,5 +1,5 @@
 // The files at hand in a case.
-ghost use Rattle.std.specs.Prelude.{◌≡◌, ◌++◌, [], length, Ok, None, IfOk, IfSome, OnOk, string_bytes};
+ghost use Rattle.std.specs.Prelude.{◌≡◌, ◌≤◌, ◌++◌, [], length, Ok, None, IfOk, IfSome, OnOk, string_bytes};
 ghost use Rattle.strip_io.specs.Held.{held_data};
 ghost use Rattle.strip_cases.specs.Met.{IsHeld};
 ghost use Rattle.strip_case_runs.specs.AtHand.{AreApart, HasBytes, IsGiven, IsNowHeld, IsSource};
@@ -109,12 +109,18 @@ fn within(
     Ok((row <= number).then_some(bytes))
 }
 
-/// The files as a source in which these reads fail.
-pub(crate) fn source(alloc: Global, files: &[Held], failing: &[u64]) -> Result<MemFiles, Memory>
-    requires { AreApart files.now }
+/// The files as a source whose reads give at most `piece` bytes each, and in which these reads fail.
+pub(crate) fn source(
+    alloc: Global,
+    files: &[Held],
+    piece: usize,
+    failing: &[u64],
+) -> Result<MemFiles, Memory>
+    requires apart { AreApart files.now }
+    requires piece { 1 ≤ piece }
     ensures { IfOk result (λ source. IsSource files.now (held_data source.files)) }
 {
-    let mut source = MemFiles::new(alloc, failing)?;
+    let mut source = MemFiles::short(alloc, piece, failing)?;
     for held in files {
         source.add(held.name.as_str(), &held.bytes)?;
     }

@@ -85,7 +85,8 @@ fn judge_file<R: Threads + Wait + Sync, F: Files>(
     tally: &mut Tally,
 ) -> Result<String, Memory>
     ensures told { (F.state files.new).bytes ≡ (F.state files.old).bytes }
-    ensures counted { OnOk result ((file : Option Cases) × IfSome file (IsReadFrom ((F.state files.old).bytes name.now)) × ((files : List (Option Cases))
+    ensures counted { OnOk result ((file : Option Cases)
+        × IfSome file (IsReadFrom ((F.state files.old).bytes name.now)) × ((files : List (Option Cases))
         → IsCounted files tally.old.cases tally.old.differing tally.old.is_unread
         → IsCounted (files ++ file ∷ []) tally.new.cases tally.new.differing tally.new.is_unread)) }
 {

@@ -102,7 +102,8 @@ fn run_step<R: Threads + Wait + Sync>(
     requires { AreApart files.old.items }
     ensures { result ≡ Ok None → IsStepMet step.now files.old.items files.new.items }
 {
-    let mut source = source(alloc, files, &step.failing_reads)?;
+    let read_piece = (step.read_piece as usize).max(1);
+    let mut source = source(alloc, files, read_piece, &step.failing_reads)?;
     let room = step.room as usize;
     let piece = (step.piece as usize).max(1);
     let mut out = MemSink::new(alloc, room, piece, &step.failing_writes)?;
@@ -121,7 +122,8 @@ fn run_program<R: Threads + Wait + Sync>(
     out: &mut MemSink,
 ) -> u8
     ensures { IsClaimedBy program (run_data (texts words.now)
-        (held_data files.old.files) (held_data files.new.files) (memory_sink_data out.old) (memory_sink_data out.new)) result }
+        (held_data files.old.files) (held_data files.new.files) (memory_sink_data out.old)
+        (memory_sink_data out.new)) result }
 {
     match program {
         Program::Stripboard => strip_commands::run(rt, alloc, words, files, out, &OpenGate),

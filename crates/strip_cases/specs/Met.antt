@@ -29,11 +29,13 @@ pub record HasNumber (text name : List ℕ) (number : ℕ) : Type 0 where
 
 -- the file is at hand with these bytes
 abbrev pub IsHeld : List Held → List ℕ → List ℕ → Type 0
-IsHeld files name bytes = (file : Held) × Contains files file × (string_bytes file.name ≡ name) × (file.bytes.items ≡ bytes)
+IsHeld files name bytes = (file : Held) × Contains files file × (string_bytes file.name ≡ name)
+    × (file.bytes.items ≡ bytes)
 
 abbrev pub IsBound : List Held → Bound → ℕ → Type 0
 IsBound files (Number most) number = number ≡ most
-IsBound files (In name file) number = (bytes : List ℕ) × IsHeld files (string_bytes file) bytes × HasNumber bytes (string_bytes name) number
+IsBound files (In name file) number = (bytes : List ℕ) × IsHeld files (string_bytes file) bytes
+    × HasNumber bytes (string_bytes name) number
 
 abbrev pub AreRelated : Relation → ℕ → ℕ → Type 0
 AreRelated Equal number other = number ≡ other

@@ -59,6 +59,8 @@ pub struct Step {
     pub words: Vec<String>,
     /// The numbers of the reads that fail, counted from 1.
     pub failing_reads: Vec<u64>,
+    /// How many bytes a read gives at most.
+    pub read_piece: u64,
     /// The numbers of the writes that fail, counted from 1.
     pub failing_writes: Vec<u64>,
     /// How many bytes a write takes at most.

@@ -133,6 +133,7 @@ fn begun_of(alloc: Global, text: &str, values: &[Value]) -> Result<Step, Wrong> 
         program,
         words: words.collect(alloc)?,
         failing_reads: Vec::new(alloc),
+        read_piece: u64::MAX,
         failing_writes: Vec::new(alloc),
         piece: PIECE,
         room: ROOM,
@@ -165,7 +166,7 @@ fn add_line(alloc: Global, line: &Line, values: &[Value], step: &mut Step) -> Re
         Head::Status => step.wanted.statuses = statuses_of(alloc, &words)?,
         Head::Number => step.wanted.numbers.push(number_wanted(&words)?)?,
         Head::Keep => step.keep = Some(only_word(&words)?),
-        Head::Reads => step.failing_reads = failing(alloc, &words)?,
+        Head::Reads => set_reads(alloc, &words, step)?,
         Head::Writes => set_writes(alloc, &words, step)?,
         _ => return Err(Wrong::Place),
     }
@@ -197,6 +198,17 @@ fn failing(alloc: Global, words: &[String]) -> Result<Vec<u64>, Wrong> {
         [fail, numbers @ ..] if fail.as_str() == "fail" => numbers_in(alloc, numbers, u64::MAX),
         _ => Err(Wrong::Words),
     }
+}
+
+/// What is said of the reads: which fail, or how many bytes one gives.
+fn set_reads(alloc: Global, words: &[String], step: &mut Step) -> Result<(), Wrong> {
+    match words {
+        [take, number] if take.as_str() == "take" => {
+            step.read_piece = number_in(number.as_str(), 1, u64::MAX)?;
+        }
+        _ => step.failing_reads = failing(alloc, words)?,
+    }
+    Ok(())
 }
 
 /// What is said of the writes: which fail, how many bytes one takes, or how many all of them take.

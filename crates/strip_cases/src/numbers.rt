@@ -40,7 +40,8 @@ fn bound_of(files: &[Held], bound: &Bound) -> Option<u64>
 
 /// The number of this name in the file.
 fn number_in_file(files: &[Held], name: &str, file: &str) -> Option<u64>
-    ensures { IfSome result (λ number. (bytes : List ℕ) × IsHeld files.now file.now bytes × HasNumber bytes name.now number) }
+    ensures { IfSome result (λ number. (bytes : List ℕ) × IsHeld files.now file.now bytes
+        × HasNumber bytes name.now number) }
 {
     let held = file_of(files, file)?;
     number_named(&held.bytes, name)
