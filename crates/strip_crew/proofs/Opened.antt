@@ -5,7 +5,7 @@ use Rattle.strip_pay.specs.Film.{FilmData}
 use Rattle.strip_film.specs.Film.{IsFilm}
 use Rattle.strip_film.specs.Path.{PathData}
 use Rattle.strip_lines.specs.Lines.{rules_of}
-use Rattle.strip_hand.specs.Search.{AreStarts, SearchData}
+use Rattle.strip_hand.specs.Search.{AreStarts, GoesBy, SearchData}
 use Rattle.strip_front.specs.Front.{FrontData, IsEmptyFront}
 use Rattle.strip_least.specs.declared.least.Least.{Least}
 use Rattle.strip_least.specs.declared.pass.LeastPass.{LeastPass}
@@ -18,7 +18,6 @@ use Rattle.strip_book.specs.Pass.{IsFirst as IsFirstBook, known}
 use Rattle.strip_book.specs.View.{ViewData}
 use Rattle.strip_hub.specs.declared.source.Source.TheVariants.{Counter}
 use Rattle.strip_hub.specs.Hub.{GoTogether, IsSearch}
-use Rattle.strip_worker.specs.Team.{IsSearchBy}
 use Rattle.strip_crew.specs.Race.{MayBegin}
 
 module _ (kind : Kind) (film : FilmData) (start : PathData) (cap : ℕ) (tasks : List PathData) (front : FrontData)
@@ -48,10 +47,12 @@ module _ (kind : Kind) (film : FilmData) (start : PathData) (cap : ℕ) (tasks :
     };
     full = record { told = ap (λ (v : LeastView). v.weight) first_least.knows; lines = ap (λ (v : ViewData). v.weight) first_book.knows; source = tt };
     counter = refl;
-    search = subst (λ (v : ViewData). IsSearchBy kind film v.search) (sym first_book.knows) (record { same_film = refl; same_kind = refl });
+    search = subst (λ (v : ViewData). GoesBy kind film v.search) (sym first_book.knows) (refl, refl);
     some_lines = subst (λ (v : ViewData). 1 ≤ v.search.cap) (sym first_book.knows) some;
     unclaimed = ap (λ (v : ViewData). v.entries) first_book.knows;
     unended = ap (λ (v : LeastView). v.ended) first_least.knows;
-    front_of = subst (λ (v : ViewData). IsEmptyFront (rules_of v.search.kind v.search.film) front) (sym first_book.knows) empty;
-    tasks = ap (λ (v : ViewData). v.search.tasks) first_book.knows ∙ by_tasks;
+    unfilled = record {
+      tasks = ap (λ (v : ViewData). v.search.tasks) first_book.knows ∙ by_tasks;
+      empty = subst (λ (v : ViewData). IsEmptyFront (rules_of v.search.kind v.search.film) front) (sym first_book.knows) empty;
+    };
   }

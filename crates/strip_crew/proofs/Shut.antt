@@ -9,18 +9,18 @@ use Rattle.strip_lines.specs.Lines.{ahead, known, rules_of}
 use Rattle.strip_lines.proofs.Grown.{known-grows}
 use Rattle.strip_count.specs.Paths.{candidate_count}
 use Rattle.strip_hand.specs.Hand.{HandData, IsHand}
-use Rattle.strip_hand.specs.Search.{SearchData, search_rules}
+use Rattle.strip_hand.specs.Search.{GoesBy, SearchData, search_rules}
 use Rattle.strip_worker.specs.declared.ended.Ended.{Ended}
 use Rattle.strip_worker.specs.Closed.{IsClosed, known_of_all}
 use Rattle.strip_worker.specs.Ended.{EndedData, IsEnded}
-use Rattle.strip_worker.specs.Team.{GoesOn, IsSearchBy}
+use Rattle.strip_worker.specs.Team.{GoesOn}
 use Rattle.strip_worker.proofs.Moved.{cut_still}
 
 -- what was closed up is, where the hand goes on
 pub closed_still : (kind : Kind) (film : FilmData) (before after : HandData) (spent : Bool) (number : ℕ) → GoesOn before after → IsHand after
     → IsClosed kind film before spent number → IsClosed kind film after spent number
 closed_still kind film before after spent number on limits shut = record {
-  search = subst (IsSearchBy kind film) (sym on.search) shut.search;
+  search = subst (GoesBy kind film) (sym on.search) shut.search;
   limits = limits;
   most = (let same : known_of_all (record before { lines = after.lines }) after.lines ≡ known_of_all after after.lines
       = ap (λ (search : SearchData). known (search_rules search) after.lines (all_scenes search.film)) (sym on.search) in

@@ -1,8 +1,8 @@
 -- The passes of a worker of a crew, as a hand, and what becomes of it where passes are split, joined and settled.
-use Rattle.std.specs.Prelude.{◌≡◌, ℕ, suc, ◌+◌, None, List, length, All}
+use Rattle.std.specs.Prelude.{◌≡◌, ℕ, suc, ◌+◌, ◌<◌, None, List, length, All}
 use Rattle.strip_kind.specs.declared.kind.Kind.{Kind}
 use Rattle.strip_pay.specs.Film.{FilmData}
-use Rattle.strip_hand.specs.Hand.{HandData}
+use Rattle.strip_hand.specs.Hand.{HandData, IsSearchOf}
 use Rattle.strip_least.specs.declared.least.Least.{Least}
 use Rattle.strip_least.specs.Rule.{full_weight}
 use Rattle.strip_least.specs.Pass.{known as known_least}
@@ -14,10 +14,10 @@ use Rattle.strip_memo.specs.Memo.{IsMemo}
 use Rattle.strip_front.specs.Front.{FrontData}
 use Rattle.strip_worker.specs.declared.walked.Walked.{Walked}
 use Rattle.strip_worker.specs.Closed.{AreCountedBy, HasAll}
-use Rattle.strip_worker.specs.Team.{GoesOn, HasWorked, IsFresh, IsSearchBy}
+use Rattle.strip_worker.specs.Team.{GoesOn, HasWorked, IsFresh}
 use Rattle.strip_hub.specs.Source.{SourceHome, source_home}
 use Rattle.strip_crew.specs.declared.job.Job.{Job}
-use Rattle.strip_crew.specs.Sources.{Bears, IsWorkers, NoneLeft, split_home}
+use Rattle.strip_crew.specs.Sources.{Bears, Deals, IsWorkers, NoneLeft, split_home}
 
 -- two passes and a source, as a hand that has neither probed nor noted
 abbrev pub shown : HubParts → HandData
@@ -37,6 +37,12 @@ pub record Weigh (weight : ℕ) (passes : HubParts) : Type 0 where
 abbrev pub NoPartLeft : HubParts → Type 0
 NoPartLeft passes = NoneLeft passes.source (known_least passes.told).ended
 
+-- the passes can be split for so many workers, who take their parts from this home, and for whoever has what is left
+pub record CanSplit (workers : ℕ) (home : SourceHome) (passes : HubParts) : Type 0 where
+  pub weight : (rest : ℕ) × Weigh (1 + rest + workers) passes
+  pub deals : (desk : ℕ) → desk < workers → Deals desk (split_home passes.source)
+  pub home_is : split_home passes.source ≡ home
+
 -- passes of a further worker were split off, which know what these know and have nothing
 pub record HasSplit (least : Least) (book : Book) (before part after : HubParts) : Type 0 where
   pub passes : ArePassesOf least book after
@@ -49,8 +55,8 @@ pub record HasSplit (least : Least) (book : Book) (before part after : HubParts)
   pub worker : IsWorkers part.source
   pub from : source_home part.source ≡ split_home before.source
 
--- passes were settled: they went on, with the records and the source that they had; those of full weight count all lines, and where no
--- part is left, they have all parts
+-- passes were settled: they went on, with the records and the source that they had; those of full weight count all
+-- lines, and where no part is left, they have all parts
 pub record AreSettled (before after : HubParts) : Type 0 where
   pub goes_on : GoesOn (shown before) (shown after)
   pub records : (part : ℕ) → (shown after).records part ≡ (shown before).records part
@@ -58,24 +64,27 @@ pub record AreSettled (before after : HubParts) : Type 0 where
   pub counts : Weigh full_weight before → AreCountedBy (shown after) (shown after).lines
   pub all : Weigh full_weight before → NoPartLeft before → HasAll (shown after)
 
--- a worker's job in a search of the film by its tasks: passes of weight 1, a worker's source, what was found with them so far, and a
--- true memo
-pub record IsJob (kind : Kind) (film : FilmData) (front : FrontData) (least : Least) (book : Book) (home : SourceHome) (job : Job) : Type 0 where
+-- a worker's job in a search of the film by its tasks: passes of weight 1, a worker's source, what was found with them
+-- so far, and a true memo
+pub record IsJob (kind : Kind) (film : FilmData) (front : FrontData) (least : Least) (book : Book)
+    (home : SourceHome) (job : Job) : Type 0 where
   pub passes : ArePassesOf least book job.passes
   pub light : Weigh 1 job.passes
   pub worker : IsWorkers job.passes.source
   pub from : source_home job.passes.source ≡ home
-  pub search : IsSearchBy kind film (shown job.passes).search
+  pub search : IsSearchOf kind film (shown job.passes)
   pub worked : HasWorked (shown job.passes) front job.walked.found.items job.walked.spent
   pub memo : IsMemo kind film job.memo
 
 -- the job is done: no part is left
-pub record IsDone (kind : Kind) (film : FilmData) (front : FrontData) (least : Least) (book : Book) (home : SourceHome) (job : Job) : Type 0 where
+pub record IsDone (kind : Kind) (film : FilmData) (front : FrontData) (least : Least) (book : Book)
+    (home : SourceHome) (job : Job) : Type 0 where
   pub is_job : IsJob kind film front least book home job
   pub left : NoPartLeft job.passes
 
 -- so many jobs were dealt from passes
-pub record AreDealt (kind : Kind) (film : FilmData) (front : FrontData) (least : Least) (book : Book) (before after : HubParts) (jobs : List Job) (workers : ℕ) : Type 0 where
+pub record AreDealt (kind : Kind) (film : FilmData) (front : FrontData) (least : Least) (book : Book)
+    (before after : HubParts) (jobs : List Job) (workers : ℕ) : Type 0 where
   pub passes : ArePassesOf least book after
   pub same : shown after ≡ shown before
   pub weight : (rest : ℕ) → Weigh (rest + workers) before → Weigh rest after
@@ -84,17 +93,21 @@ pub record AreDealt (kind : Kind) (film : FilmData) (front : FrontData) (least :
   pub jobs_are : All (IsJob kind film front least book (split_home before.source)) jobs
 
 -- a job that is done was put to passes, and what it found to what was found
-pub record HasGathered (least : Least) (book : Book) (before : HubParts) (was : Walked) (job : Job) (after : HubParts) (walked : Walked) : Type 0 where
+pub record HasGathered (least : Least) (book : Book) (before : HubParts) (was : Walked) (job : Job)
+    (after : HubParts) (walked : Walked) : Type 0 where
   pub passes : ArePassesOf least book after
   pub goes_on : GoesOn (shown before) (shown after)
   pub weight : (rest : ℕ) → Weigh rest before → Weigh 1 job.passes → Weigh (rest + 1) after
   pub home : split_home after.source ≡ split_home before.source
   pub worked : (front : FrontData) → HasWorked (shown before) front was.found.items was.spent
-      → HasWorked (shown job.passes) front job.walked.found.items job.walked.spent → HasWorked (shown after) front walked.found.items walked.spent
+      → HasWorked (shown job.passes) front job.walked.found.items job.walked.spent
+      → HasWorked (shown after) front walked.found.items walked.spent
   pub left : NoPartLeft job.passes → NoPartLeft after
 
--- workers did what was left to do, and what they found was gathered into these passes, which weigh as much as before, if that was so much
-pub record HaveWorked (so_much : ℕ) (front : FrontData) (least : Least) (book : Book) (before after : HubParts) (walked : Walked) : Type 0 where
+-- workers did what was left to do, and what they found was gathered into these passes, which weigh as much as before,
+-- if that was so much
+pub record HaveWorked (so_much : ℕ) (front : FrontData) (least : Least) (book : Book) (before after : HubParts)
+    (walked : Walked) : Type 0 where
   pub passes : ArePassesOf least book after
   pub goes_on : GoesOn (shown before) (shown after)
   pub weight : Weigh so_much before → Weigh so_much after

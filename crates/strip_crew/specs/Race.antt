@@ -3,8 +3,9 @@ use Rattle.std.specs.Prelude.{◌≡◌, ℕ, suc, ◌<◌, ◌≤◌, Bool, fal
 use mathlib.Core.Bool.{beq}
 use Rattle.strip_kind.specs.declared.kind.Kind.{Kind}
 use Rattle.strip_pay.specs.Film.{FilmData}
-use Rattle.strip_hand.specs.Search.{search_rules}
-use Rattle.strip_front.specs.Front.{FrontData, IsEmptyFront}
+use Rattle.strip_hand.specs.Hand.{IsSearchOf}
+use Rattle.strip_front.specs.Calls.{IsUnfilled}
+use Rattle.strip_front.specs.Front.{FrontData}
 use Rattle.strip_front.specs.Shown.{front_data}
 use Rattle.strip_least.specs.declared.least.Least.{Least}
 use Rattle.strip_least.specs.Pass.{best_path, known as known_least}
@@ -15,23 +16,24 @@ use Rattle.strip_hub.specs.declared.hub.HubParts.{HubParts}
 use Rattle.strip_hub.specs.declared.source.Source.TheVariants.{Counter}
 use Rattle.strip_worker.specs.declared.walked.Walked.{Walked}
 use Rattle.strip_worker.specs.Closed.{IsClosed}
-use Rattle.strip_worker.specs.Team.{GoesOn, HasWorked, IsSearchBy}
+use Rattle.strip_worker.specs.Team.{GoesOn, HasWorked}
 use Rattle.strip_hub.specs.Source.{AreTasks}
 use Rattle.strip_crew.specs.declared.racing.Opening.{Opening}
 use Rattle.strip_crew.specs.Crew.{ArePassesOf, Weigh, shown}
 use Rattle.strip_crew.specs.Sources.{Deals, split_home}
 
--- a race may begin with these passes and this front: there are no others, nothing was claimed, and the front has nothing in it
-pub record MayBegin (kind : Kind) (film : FilmData) (front : FrontData) (least : Least) (book : Book) (passes : HubParts) : Type 0 where
+-- a race may begin with these passes and this front: there are no others, nothing was claimed, and the front has
+-- nothing in it
+pub record MayBegin (kind : Kind) (film : FilmData) (front : FrontData) (least : Least) (book : Book)
+    (passes : HubParts) : Type 0 where
   pub are : ArePassesOf least book passes
   pub full : Weigh full_weight passes
-  pub search : IsSearchBy kind film (shown passes).search
+  pub search : IsSearchOf kind film (shown passes)
   pub some_lines : 1 ≤ (shown passes).search.cap
   pub unclaimed : (known passes.lines).entries ≡ []
   pub counter : passes.source ≡ Counter
   pub unended : (known_least passes.told).ended ≡ false
-  pub front_of : IsEmptyFront (search_rules (shown passes).search) front
-  pub tasks : (shown passes).search.tasks ≡ front.tasks
+  pub unfilled : IsUnfilled (shown passes).search front
 
 -- what a race begins with whose start path paid this, with room for so many lines
 pub record IsOpening (kind : Kind) (film : FilmData) (paid room : ℕ) (opening : Opening) : Type 0 where
@@ -39,17 +41,24 @@ pub record IsOpening (kind : Kind) (film : FilmData) (paid room : ℕ) (opening 
   pub start : (shown opening.passes).search.start ≡ paid
   pub cap : (shown opening.passes).search.cap ≡ room
 
--- the front was claimed and no other part, and gone down: nothing was found of any task yet, and it may have been cut short
-pub record HasBegun (front : FrontData) (least : Least) (book : Book) (before after : HubParts) (walked : Walked) : Type 0 where
+-- the front was claimed and no other part, and the counter has all others
+pub record HasOnlyFront (passes : HubParts) : Type 0 where
+  pub counter : passes.source ≡ Counter
+  pub claimed : (part : ℕ) → times part (known_least passes.told).claims ≡ once_below part 1
+
+-- the front was claimed and no other part, and gone down: nothing was found of any task yet, and it may have been cut
+-- short
+pub record HasBegun (front : FrontData) (least : Least) (book : Book) (before after : HubParts)
+    (walked : Walked) : Type 0 where
   pub passes : ArePassesOf least book after
   pub full : Weigh full_weight after
-  pub counter : after.source ≡ Counter
-  pub claimed : (part : ℕ) → times part (known_least after.told).claims ≡ once_below part 1
+  pub only : HasOnlyFront after
   pub search : (shown after).search ≡ (shown before).search
   pub worked : HasWorked (shown after) front walked.found.items walked.spent
 
 -- the front was closed up with this number, by all passes in one, whose best path paid the least cost told
-pub record HasClosed (kind : Kind) (film : FilmData) (least : Least) (book : Book) (before after : HubParts) (number : ℕ) (spent : Bool) : Type 0 where
+pub record HasClosed (kind : Kind) (film : FilmData) (least : Least) (book : Book) (before after : HubParts)
+    (number : ℕ) (spent : Bool) : Type 0 where
   pub passes : ArePassesOf least book after
   pub full : Weigh full_weight after
   pub search : (shown after).search ≡ (shown before).search

@@ -33,11 +33,13 @@ Bears weight Counter = ⊤
 Bears weight (Gathers gatherer) = IsPool weight gatherer.pool
 Bears weight (Takes taker) = weight ≡ 1
 
--- no part is left: the counter told so, or all queues were found empty, so that a pool of full weight has gathered all that was handed in
+-- no part is left: the counter told so, or all queues were found empty, so that a pool of full weight has gathered all
+-- that was handed in
 abbrev pub NoneLeft : Source → Bool → Type 0
 NoneLeft Counter told = told ≡ true
 NoneLeft (Gathers gatherer) told =
-    IsPool full_weight gatherer.pool → (part : ℕ) → times part (taken_in (pool_shares gatherer.pool)) ≡ times part (handed_in (pool_shares gatherer.pool))
+    IsPool full_weight gatherer.pool → (part : ℕ)
+    → times part (taken_in (pool_shares gatherer.pool)) ≡ times part (handed_in (pool_shares gatherer.pool))
 NoneLeft (Takes taker) told = have_ended (taker_shares taker) ≡ true
 
 -- a source was split: what it is now, and the source of a further worker, which has given nothing yet
@@ -55,10 +57,13 @@ pub record Splits (before part after : Source) : Type 0 where
 
 -- another worker's source was joined: what both gave is given, no part twice where none was claimed twice
 pub record JoinsSource (before other after : Source) : Type 0 where
-  pub given : (parts : ℕ) (claims more : List ℕ) → IsSource before parts claims → IsSource other parts more → IsSource after parts (claims ++ more)
-  pub taken : (number : ℕ) → times number (taken_by after) ≡ times number (taken_by before) + times number (taken_by other)
+  pub given : (parts : ℕ) (claims more : List ℕ) → IsSource before parts claims → IsSource other parts more
+      → IsSource after parts (claims ++ more)
+  pub taken : (number : ℕ) → times number (taken_by after) ≡ times number (taken_by before)
+      + times number (taken_by other)
   pub once : (parts : ℕ) (claims more : List ℕ) → IsSource before parts claims → IsSource other parts more
-      → ((number : ℕ) → times number (claims ++ more) ≤ 1) → (number : ℕ) → times number (claims ++ more) + times number (taken_by after) ≤ 1
+      → ((number : ℕ) → times number (claims ++ more) ≤ 1) → (number : ℕ)
+      → times number (claims ++ more) + times number (taken_by after) ≤ 1
   pub home : split_home after ≡ split_home before
   pub weight : (weight : ℕ) → Bears weight before → Bears (weight + 1) after
   pub left : (told other_told : Bool) → NoneLeft other other_told → NoneLeft after (told || other_told)

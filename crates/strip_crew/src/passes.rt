@@ -71,7 +71,8 @@ pub(crate) fn settle(least: &Least, book: &Book, passes: &mut HubParts)
     ensures same { (weight : ℕ) → Weigh weight passes.old → Weigh weight passes.new }
     ensures settled { AreSettled passes.old passes.new }
     ensures limits { IsHand (shown passes.new) }
-    ensures best { Weigh full_weight passes.old → (best_path passes.new.told).paid ≡ (known_least passes.new.told).told }
+    ensures best { Weigh full_weight passes.old
+        → (best_path passes.new.told).paid ≡ (known_least passes.new.told).told }
 {
     entries_are_records();
     lines_of_entries_are_counted();

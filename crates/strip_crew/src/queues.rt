@@ -1,11 +1,8 @@
 // The queues that workers take tasks from.
 ghost use Rattle.std.specs.Prelude.{◌≡◌, ◌≤◌, ◌++◌, ℕ, IfOk, length};
 ghost use Rattle.strip_front.specs.Shown.{front_data};
-ghost use Rattle.strip_hub.specs.declared.source.Source.TheVariants.{Counter};
-ghost use Rattle.strip_least.specs.Pass.{known as known_least};
-ghost use Rattle.strip_least.specs.Rule.{once_below, times};
 ghost use Rattle.strip_crew.specs.Crew.{ArePassesOf, shown};
-ghost use Rattle.strip_crew.specs.Race.{ArePartsOf, IsReady, part_if, parts_where};
+ghost use Rattle.strip_crew.specs.Race.{ArePartsOf, HasOnlyFront, IsReady, part_if, parts_where};
 
 use std::alloc::Global;
 use strip_book::Book;
@@ -28,8 +25,7 @@ pub(crate) fn with_source(
     passes: HubParts,
 ) -> Result<HubParts, Memory>
     requires passes { ArePassesOf least.now book.now passes }
-    requires counter { passes.source ≡ Counter }
-    requires claimed { (part : ℕ) → times part (known_least passes.told).claims ≡ once_below part 1 }
+    requires only { HasOnlyFront passes }
     requires tasks { (shown passes).search.tasks ≡ (front_data front.now).tasks }
     requires wanted { length (front_data front.now).wanted ≡ length (front_data front.now).tasks }
     requires workers { (1 ≤ workers) × (workers ≤ 64) }

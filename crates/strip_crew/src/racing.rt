@@ -14,10 +14,10 @@ ghost use Rattle.strip_book.specs.Pass.{table_of};
 ghost use Rattle.strip_worker.specs.Closed.{EndsFrom};
 ghost use Rattle.strip_worker.specs.Ended.{IsEnded};
 ghost use Rattle.strip_worker.specs.Shown.{ended_data};
-ghost use Rattle.strip_worker.specs.Team.{HasWorked, IsSearchBy};
+ghost use Rattle.strip_worker.specs.Team.{HasWorkedOn};
 ghost use Rattle.strip_crew.specs.Crew.{ArePassesOf, HaveWorked, NoPartLeft, Weigh, shown};
 ghost use Rattle.strip_hub.specs.declared.hub.HubParts.{HubParts};
-ghost use Rattle.strip_crew.specs.Race.{HasBegun, HasClosed, IsOpening, MayBegin};
+ghost use Rattle.strip_crew.specs.Race.{HasBegun, HasClosed, HasOnlyFront, IsOpening, MayBegin};
 
 use crate::passes::settle;
 use crate::queues::with_source;
@@ -78,7 +78,8 @@ pub fn race<R: Threads + Wait + Sync, F: Fn(u64, u64) -> u64 + Sync, G: Gate>(
     requires start { IsComplete kept.now.film.now (path_data start.now) }
     requires limits { AreLimits limits }
     ensures memo { IsMemo kept.now.kind kept.now.film.now memo.new }
-    ensures ended { IfOk result (λ ended. IsEnded kept.now.kind kept.now.film.now (path_data start.now) limits.cap (ended_data ended)) }
+    ensures ended { IfOk result (λ ended. IsEnded kept.now.kind kept.now.film.now (path_data start.now) limits.cap
+        (ended_data ended)) }
 {
     paths_are_few();
     kept.film().keeps_limits();
@@ -218,8 +219,10 @@ fn begin<R: Wait, N: Named, F: Fn(u64, u64) -> u64>(
 ) -> Result<(HubParts, Walked), Memory>
     requires keeps { Keeps (F.pre kept.now.f) (F.post kept.now.f) kept.now.kind kept.now.film.now }
     requires named { table_of tables.now.book ≡ N.table }
-    requires begin { MayBegin kept.now.kind kept.now.film.now (front_data front.old) tables.now.least tables.now.book passes }
-    ensures { IfOk result (λ begun. HasBegun (front_data front.new) tables.now.least tables.now.book passes begun.0 begun.1) }
+    requires begin { MayBegin kept.now.kind kept.now.film.now (front_data front.old)
+        tables.now.least tables.now.book passes }
+    ensures { IfOk result (λ begun. HasBegun (front_data front.new)
+        tables.now.least tables.now.book passes begun.0 begun.1) }
 {
     other_parts_have_no_record();
     let mut hub = Hub::of(rt, &tables.least, &tables.book, &tables.stripes, passes);
@@ -255,13 +258,13 @@ fn work_all<
     requires named { table_of tables.now.book ≡ N.table }
     requires passes { ArePassesOf tables.now.least tables.now.book passes }
     requires full { Weigh full_weight passes }
-    requires search { IsSearchBy kept.now.kind kept.now.film.now (shown passes).search }
-    requires worked { HasWorked (shown passes) (front_data front.now) walked.old.found.items walked.old.spent }
-    requires counter { passes.source ≡ Counter }
-    requires claimed { (part : ℕ) → times part (known_least passes.told).claims ≡ once_below part 1 }
+    requires worked { HasWorkedOn kept.now.kind kept.now.film.now (shown passes) (front_data front.now)
+        walked.old.found.items walked.old.spent }
+    requires only { HasOnlyFront passes }
     requires workers { (1 ≤ workers) × (workers ≤ 64) }
     ensures memo { IsMemo kept.now.kind kept.now.film.now memo.new }
-    ensures worked { IfOk result (λ after. HaveWorked full_weight (front_data front.now) tables.now.least tables.now.book passes after walked.new) }
+    ensures worked { IfOk result (λ after. HaveWorked full_weight (front_data front.now)
+        tables.now.least tables.now.book passes after walked.new) }
 {
     if walked.spent {
         let caller = Worker { gate, number: 0 };
@@ -305,8 +308,8 @@ fn close_front<R: Wait, N: Named, F: Fn(u64, u64) -> u64>(
     requires named { table_of tables.now.book ≡ N.table }
     requires passes { ArePassesOf tables.now.least tables.now.book passes }
     requires full { Weigh full_weight passes }
-    requires search { IsSearchBy kept.now.kind kept.now.film.now (shown passes).search }
-    requires worked { HasWorked (shown passes) (front_data front.old) walked.now.found.items walked.now.spent }
+    requires worked { HasWorkedOn kept.now.kind kept.now.film.now (shown passes) (front_data front.old)
+        walked.now.found.items walked.now.spent }
     requires left { NoPartLeft passes }
     ensures { IfOk result (λ closed. HasClosed kept.now.kind kept.now.film.now tables.now.least tables.now.book passes closed.0 closed.1 walked.now.spent) }
 {
@@ -330,7 +333,8 @@ fn end<N: Named, F: Fn(u64, u64) -> u64>(
 ) -> Result<Ended, Memory>
     requires keeps { Keeps (F.pre kept.now.f) (F.post kept.now.f) kept.now.kind kept.now.film.now }
     requires closed { (before : HubParts) × HasClosed kept.now.kind kept.now.film.now tables.least tables.book before passes number spent }
-    ensures { IfOk result (λ ended. EndsFrom kept.now.kind kept.now.film.now (shown passes).search.start (shown passes).search.cap (ended_data ended)) }
+    ensures { IfOk result (λ ended. EndsFrom kept.now.kind kept.now.film.now (shown passes).search.start
+        (shown passes).search.cap (ended_data ended)) }
 {
     lines_of_entries_are_counted();
     let Tables { book, .. } = tables;

@@ -1,13 +1,14 @@
 // Jobs that are dealt, done beside one another, and gathered.
 ghost use Rattle.std.specs.Prelude.{◌≡◌, ◌<◌, ◌≤◌, ◌+◌, ℕ, List, All, IfOk, false, length, vec_len};
 ghost use Rattle.strip_bound.specs.StoredBound.{Keeps};
+ghost use Rattle.strip_hand.specs.Hand.{IsSearchOf};
 ghost use Rattle.strip_front.specs.Shown.{front_data};
 ghost use Rattle.strip_memo.specs.Memo.{IsMemo};
 ghost use Rattle.strip_book.specs.Pass.{table_of};
-ghost use Rattle.strip_worker.specs.Team.{HasWorked, IsSearchBy};
+ghost use Rattle.strip_worker.specs.Team.{HasWorked, HasWorkedOn};
 ghost use Rattle.strip_hub.specs.Source.{source_home};
 ghost use Rattle.strip_crew.specs.Sources.{Deals, IsWorkers, split_home};
-ghost use Rattle.strip_crew.specs.Crew.{AreDealt, ArePassesOf, HasGathered, HaveWorked, IsDone, IsJob, Weigh, shown};
+ghost use Rattle.strip_crew.specs.Crew.{AreDealt, ArePassesOf, CanSplit, HasGathered, HaveWorked, IsDone, IsJob, Weigh, shown};
 
 use crate::job::Job;
 use crate::passes::{join, split};
@@ -36,12 +37,13 @@ fn deal<N: Named, F: Fn(u64, u64) -> u64>(
 ) -> Result<Vec<Job>, Memory>
     requires keeps { Keeps (F.pre kept.now.f) (F.post kept.now.f) kept.now.kind kept.now.film.now }
     requires passes { ArePassesOf tables.now.least tables.now.book passes.old }
-    requires search { IsSearchBy kept.now.kind kept.now.film.now (shown passes.old).search }
+    requires search { IsSearchOf kept.now.kind kept.now.film.now (shown passes.old) }
     requires worked { (found : List ℕ) × HasWorked (shown passes.old) (front_data front.now) found false }
     requires weight { (rest : ℕ) × Weigh (1 + rest + workers) passes.old }
     requires deals { (desk : ℕ) → desk < workers → Deals desk (split_home passes.old.source) }
     requires workers { workers ≤ 64 }
-    ensures { IfOk result (λ jobs. AreDealt kept.now.kind kept.now.film.now (front_data front.now) tables.now.least tables.now.book
+    ensures { IfOk result (λ jobs. AreDealt kept.now.kind kept.now.film.now (front_data front.now)
+        tables.now.least tables.now.book
         passes.old passes.new jobs.items workers) }
 {
     let mut jobs = Vec::new(alloc);
@@ -74,13 +76,14 @@ pub(crate) fn work_alone<R: Wait, N: Named, F: Fn(u64, u64) -> u64, G: Gate>(
     requires memo { IsMemo kept.now.kind kept.now.film.now memo.old }
     requires named { table_of tables.now.book ≡ N.table }
     requires passes { ArePassesOf tables.now.least tables.now.book passes }
-    requires search { IsSearchBy kept.now.kind kept.now.film.now (shown passes).search }
     requires worker { IsWorkers passes.source }
-    requires worked { HasWorked (shown passes) (front_data front.now) walked.old.found.items walked.old.spent }
+    requires worked { HasWorkedOn kept.now.kind kept.now.film.now (shown passes) (front_data front.now)
+        walked.old.found.items walked.old.spent }
     ensures memo { IsMemo kept.now.kind kept.now.film.now memo.new }
     ensures home { IfOk result (λ after. source_home after.source ≡ source_home passes.source) }
     ensures worker { IfOk result (λ after. IsWorkers after.source) }
-    ensures worked { (weight : ℕ) → IfOk result (λ after. HaveWorked weight (front_data front.now) tables.now.least tables.now.book passes after walked.new) }
+    ensures worked { (weight : ℕ) → IfOk result
+        (λ after. HaveWorked weight (front_data front.now) tables.now.least tables.now.book passes after walked.new) }
 {
     let mut hub = Hub::of(rt, &tables.least, &tables.book, &tables.stripes, passes);
     work(kept, &mut hub, front, worker, memo, walked)?;
@@ -98,8 +101,10 @@ fn do_job<R: Wait, N: Named, F: Fn(u64, u64) -> u64, G: Gate, S: Rooted>(
 ) -> Result<Job, Memory>
     requires keeps { Keeps (F.pre kept.now.f) (F.post kept.now.f) kept.now.kind kept.now.film.now }
     requires named { table_of tables.now.book ≡ N.table }
-    requires job { IsJob kept.now.kind kept.now.film.now (front_data front.now) tables.now.least tables.now.book S.home job }
-    ensures { IfOk result (IsDone kept.now.kind kept.now.film.now (front_data front.now) tables.now.least tables.now.book S.home) }
+    requires job { IsJob kept.now.kind kept.now.film.now (front_data front.now)
+        tables.now.least tables.now.book S.home job }
+    ensures { IfOk result (IsDone kept.now.kind kept.now.film.now (front_data front.now)
+        tables.now.least tables.now.book S.home) }
 {
     let Job {
         number,
@@ -143,17 +148,23 @@ fn do_jobs<
 ) -> Result<Vec<Result<Job, Memory>>, Memory>
     requires keeps { Keeps (F.pre kept.now.f) (F.post kept.now.f) kept.now.kind kept.now.film.now }
     requires named { table_of tables.now.book ≡ N.table }
-    requires jobs { All (IsJob kept.now.kind kept.now.film.now (front_data front.now) tables.now.least tables.now.book S.home) jobs.items }
+    requires jobs { All (IsJob kept.now.kind kept.now.film.now (front_data front.now)
+        tables.now.least tables.now.book S.home) jobs.items }
     ensures count { IfOk result (λ all. vec_len all ≡ vec_len jobs) }
-    ensures each { IfOk result (λ all. All (λ one. IfOk one (IsDone kept.now.kind kept.now.film.now (front_data front.now) tables.now.least tables.now.book S.home)) all.items) }
+    ensures each { IfOk result (λ all. All (λ one. IfOk one
+        (IsDone kept.now.kind kept.now.film.now (front_data front.now) tables.now.least tables.now.book S.home))
+        all.items) }
 {
     let all = thread::map_vec(
         rt,
         jobs,
         &|job: Job| -> Result<Job, Memory>
-            requires { Keeps (F.pre kept.now.f) (F.post kept.now.f) kept.now.kind kept.now.film.now × (table_of tables.now.book ≡ N.table)
-                × IsJob kept.now.kind kept.now.film.now (front_data front.now) tables.now.least tables.now.book S.home job }
-            ensures { IfOk result (IsDone kept.entry.now.kind kept.entry.now.film.now (front_data front.entry.now) tables.entry.now.least tables.entry.now.book S.home) }
+            requires { Keeps (F.pre kept.now.f) (F.post kept.now.f) kept.now.kind kept.now.film.now
+                × (table_of tables.now.book ≡ N.table)
+                × IsJob kept.now.kind kept.now.film.now (front_data front.now)
+                tables.now.least tables.now.book S.home job }
+            ensures { IfOk result (IsDone kept.entry.now.kind kept.entry.now.film.now (front_data front.entry.now)
+                tables.entry.now.least tables.entry.now.book S.home) }
         { do_job::<R, N, F, G, S>(rt, kept, tables, front, gate, job) },
     )?;
     Ok(all)
@@ -209,16 +220,14 @@ pub(crate) fn work_beside<
     requires memo { IsMemo kept.now.kind kept.now.film.now memo.old }
     requires named { table_of tables.now.book ≡ N.table }
     requires passes { ArePassesOf tables.now.least tables.now.book passes.old }
-    requires search { IsSearchBy kept.now.kind kept.now.film.now (shown passes.old).search }
-    requires worked { HasWorked (shown passes.old) (front_data front.now) walked.old.found.items walked.old.spent }
+    requires worked { HasWorkedOn kept.now.kind kept.now.film.now (shown passes.old) (front_data front.now)
+        walked.old.found.items walked.old.spent }
     requires whole { walked.old.spent ≡ false }
-    requires weight { (rest : ℕ) × Weigh (1 + rest + workers) passes.old }
-    requires deals { (desk : ℕ) → desk < workers → Deals desk (split_home passes.old.source) }
-    requires home { split_home passes.old.source ≡ S.home }
-    requires some { 1 ≤ workers }
-    requires few { workers ≤ 64 }
+    requires split { CanSplit workers S.home passes.old }
+    requires workers { (1 ≤ workers) × (workers ≤ 64) }
     ensures memo { IsMemo kept.now.kind kept.now.film.now memo.new }
-    ensures worked { (weight : ℕ) → IfOk result (λ _. HaveWorked weight (front_data front.now) tables.now.least tables.now.book passes.old passes.new walked.new) }
+    ensures worked { (weight : ℕ) → IfOk result
+        (λ _. HaveWorked weight (front_data front.now) tables.now.least tables.now.book passes.old passes.new walked.new) }
 {
     let jobs = deal(alloc, kept, tables, front, passes, workers)?;
     let mut all = do_jobs::<R, N, F, G, S>(rt, kept, tables, front, gate, jobs)?;

@@ -15,9 +15,9 @@ use Rattle.strip_lines.proofs.Grown.{grow_self, grow_trans, known-grows, known-l
 use Rattle.strip_lines.proofs.Justified.{known_is_true}
 use Rattle.strip_hand.specs.Hand.{HandData, IsHand}
 use Rattle.strip_hand.specs.Search.{SearchData, search_rules}
-use Rattle.strip_front.specs.Calls.{AreFound, Learns}
+use Rattle.strip_front.specs.Calls.{AreFound, IsWalked, Learns}
 use Rattle.strip_front.specs.Filled.{HasLine, IsFilled}
-use Rattle.strip_front.specs.Front.{FrontData, path_at, task_at}
+use Rattle.strip_front.specs.Front.{FrontData, IsFrontOf, path_at, task_at}
 use Rattle.strip_front.proofs.Grown.{line_grows}
 
 -- what is known of a set is at most the cost of finishing it
@@ -76,6 +76,14 @@ module _ (before after : HandData) (learns : Learns before after) where
   found_still front found are =
       subst (λ (search : SearchData). AreFound (record after { search = search }) front found) (sym same_search)
       (found_grows before after front learns.grow found are)
+
+  pub walked_still : (front : FrontData) (found : List ℕ) → IsWalked before front found → IsWalked after front found
+  walked_still front found walked = record {
+    front_of = subst (λ (search : SearchData). IsFrontOf (search_rules search) front) (sym same_search) walked.front_of;
+    filled = filled_still front walked.filled;
+    count = walked.count;
+    known_of = found_still front found walked.known_of;
+  }
 
 -- a line that has a bound makes it known of its set
 pub line_makes_known : (search : SearchData) (before after : List Line) (line set number : ℕ) → HasLine before line set → GrowTo before after → number ≤ (line_at after line).bound

@@ -19,7 +19,7 @@ use Rattle.strip_front.specs.declared.down.Tried.TheVariants.{Line, Passed, Spen
 use Rattle.strip_front.specs.Calls.{IsCutShort}
 use Rattle.strip_front.specs.Filled.{HasLine, HasLines}
 use Rattle.strip_front.specs.Front.{FrontData, line_of, path_at, root_of}
-use Rattle.strip_front.specs.Tried.{AreTried, IsEnlisted, Tries, has_spent, line_from, reach}
+use Rattle.strip_front.specs.Tried.{AreTried, IsEnlisted, MayTry, Tries, has_spent, line_from, reach}
 use Rattle.strip_front.proofs.FrontFacts.{FrontFacts}
 use Rattle.strip_front.proofs.Grown.{line_grows}
 
@@ -40,6 +40,10 @@ never_both o a some none = (let e : Some a ≡ None = sym some ∙ none in cc)
 pub some_is : {X : Type 0} (o : Option X) (x : X) → o ≡ Some x → IsSome o
 some_is o x is = ap is_some is
 
+pub none_is : {X : Type 0} (o : Option X) → is_some o ≡ false → o ≡ None
+none_is None is = refl
+none_is (Some x) is = absurd (let both : true ≡ false = is in cc)
+
 pub none_isnt : {X : Type 0} (o : Option X) → o ≡ None → IsSome o → ⊥
 none_isnt o none some = (let e : is_some o ≡ false = ap is_some none in cc)
 
@@ -48,13 +52,6 @@ cut_at : (hand : HandData) (cursor : CursorData) (path : PathData) → length ha
     → lies_in (depth_of hand.search) hand.search.tasks cursor.task path ≡ true → ComesAfter (search_rules hand.search) cursor.last path → path.rest ≢ 0
     → path.paid + (search_rules hand.search).bound path.rest < hand.search.start → IsCutShort hand cursor
 cut_at hand cursor path full is_open lies later some below = record { full = full; later = (path, is_open, lies, later, some, below) }
-
--- what a path that may be tried is
-pub record MayTry (search : SearchData) (cursor : CursorData) (path : PathData) : Type 0 where
-  pub is_open : IsOpen (search_rules search) path
-  pub lies : lies_in (depth_of search) search.tasks cursor.task path ≡ true
-  pub later : ComesAfter (search_rules search) cursor.last path
-  pub some : path.rest ≢ 0
 
 module _ (search : SearchData) (cursor : CursorData) (front : FrontData) (facts : FrontFacts search.kind search.film front) (tasks : search.tasks ≡ front.tasks)
     (task : cursor.task ≡ 0) (place : ℕ) (within : place < length front.paths) where

@@ -20,12 +20,15 @@ pub record HasLine (lines : List Line) (line set : ℕ) : Type 0 where
 abbrev pub Follows : FilmData → ℕ → ℕ → Type 0
 Follows film from set = (scene : ℕ) × (has (open_firsts film from) scene ≡ true) × (set ≡ without from scene)
 
--- the task is asked for: what remains after it follows from what remains after a path that has a line, whichever path that is
+-- the task is asked for: what remains after it follows from what remains after a path that has a line, whichever path
+-- that is
 abbrev pub IsWanted : FilmData → FrontData → ℕ → Type 0
 IsWanted film front task =
-    (place : ℕ) × (place < length front.paths) × IsSome (line_of front place) × Follows film (path_at front place).rest (task_at front task).rest
+    (place : ℕ) × (place < length front.paths) × IsSome (line_of front place)
+    × Follows film (path_at front place).rest (task_at front task).rest
 
--- the front's lines are known to the hand, with what remains after their paths; a path has one only where the empty path has one
+-- the front's lines are known to the hand, with what remains after their paths; a path has one only where the empty
+-- path has one
 abbrev pub HasLines : HandData → FrontData → Type 0
 HasLines hand front =
     (place line : ℕ) → place < length front.paths → line_of front place ≡ Some line
@@ -34,10 +37,11 @@ HasLines hand front =
 -- and just the tasks that follow are asked for
 pub record IsFilled (hand : HandData) (front : FrontData) : Type 0 where
   pub lines : HasLines hand front
-  pub wanted : (task : ℕ) → task < length front.tasks → (is_wanted front task ≡ true) ↔ IsWanted hand.search.film front task
+  pub wanted : (task : ℕ) → task < length front.tasks → (is_wanted front task ≡ true)
+      ↔ IsWanted hand.search.film front task
 
--- the front leaves out nothing that is below the value: without a line of the empty path the static bound of all scenes reaches it, and
--- each path without a line reaches it by what it paid and the static bound of what remains
+-- the front leaves out nothing that is below the value: without a line of the empty path the static bound of all scenes
+-- reaches it, and each path without a line reaches it by what it paid and the static bound of what remains
 pub record IsWhole (search : SearchData) (front : FrontData) (value : ℕ) : Type 0 where
   pub none : root_of front ≡ None → value ≤ bound search.kind search.film (all_scenes search.film)
   pub paths : IsSome (root_of front) → (place : ℕ) → place < length front.paths → line_of front place ≡ None

@@ -40,9 +40,11 @@ pub record IsDepth (film : FilmData) (depth : ℕ) : Type 0 where
   pub one : depth ≡ 1 → length film.casts ≡ 1
   pub few : depth ≤ 4
 
--- the paths that are shorter than the tasks: those of each layer before theirs, where an earlier one stands before a later one
+-- the paths that are shorter than the tasks: those of each layer before theirs, where an earlier one stands before a
+-- later one
 pub record AreShorter (rules : Rules) (depth : ℕ) (paths : List PathData) : Type 0 where
-  pub same : (path : PathData) → Contains paths path ↔ ((length path.scenes < depth) × Contains (layer rules.film (length path.scenes)) path)
+  pub same : (path : PathData) → Contains paths path
+      ↔ ((length path.scenes < depth) × Contains (layer rules.film (length path.scenes)) path)
   pub rise : AllPairs (λ a b. IsEarlier rules (all_scenes rules.film) a.scenes b.scenes) paths
 
 -- the front of a search by these rules

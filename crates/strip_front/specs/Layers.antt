@@ -1,4 +1,5 @@
--- The layers of a search: for each set that can remain after so many scenes, a path that leaves it. The tasks are the last one.
+-- The layers of a search: for each set that can remain after so many scenes, a path that leaves it. The tasks are the
+-- last one.
 use Rattle.std.specs.Prelude.{ℕ, zero, suc, ◌≤◌, ◌==◌, nat_lt, if◌then◌else◌, List, [], ◌∷◌, ◌++◌, map, fold}
 use Rattle.std.specs.List.{AllPairs, flat_map}
 use Rattle.std.specs.List.Sorted.{IsPermutation, IsStableByKey}
@@ -12,15 +13,18 @@ use Rattle.strip_count.specs.Paths.{path_along}
 
 -- the open paths that go on from a path with one scene more, by rising scenes
 abbrev pub paths_after : FilmData → PathData → List PathData
-paths_after film path = map (λ scene. path_along film (path.scenes ++ scene ∷ [])) (members (open_firsts film path.rest))
+paths_after film path = map (λ scene. path_along film (path.scenes ++ scene ∷ []))
+    (members (open_firsts film path.rest))
 
--- the paths and another one: it stands behind them where none leaves what it leaves; else it takes that one's place where it pays less
+-- the paths and another one: it stands behind them where none leaves what it leaves; else it takes that one's place
+-- where it pays less
 abbrev pub with_path : List PathData → PathData → List PathData
 with_path [] path = path ∷ []
 with_path (other ∷ paths) path =
     if other.rest == path.rest then (if nat_lt path.paid other.paid then path else other) ∷ paths else other ∷ with_path paths path
 
--- the paths of so many scenes: of those that go on from the layer before, for each set that can remain the first one that paid the least
+-- the paths of so many scenes: of those that go on from the layer before, for each set that can remain the first one
+-- that paid the least
 abbrev pub layer : FilmData → ℕ → List PathData
 layer film zero = path_along film [] ∷ []
 layer film (suc depth) = fold with_path [] (flat_map (paths_after film) (layer film depth))

@@ -6,4 +6,5 @@ use Rattle.strip_front.specs.Front.{FrontData, is_wanted}
 pub record MarksMore (before after : FrontData) (Holds : ℕ → Type 0) : Type 0 where
   pub only : after ≡ record before { wanted = after.wanted }
   pub count : length after.wanted ≡ length before.wanted
-  pub marked : (task : ℕ) → task < length before.tasks → (is_wanted after task ≡ true) ↔ ((is_wanted before task ≡ true) ⊎ Holds task)
+  pub marked : (task : ℕ) → task < length before.tasks → (is_wanted after task ≡ true)
+      ↔ ((is_wanted before task ≡ true) ⊎ Holds task)

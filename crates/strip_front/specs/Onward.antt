@@ -11,7 +11,8 @@ use Rattle.strip_count.specs.Paths.{path_along}
 -- the path is one of the layer, and goes on from the shorter one with a first of what remains
 pub record GoesOn (rules : Rules) (layer : List PathData) (shorter path : PathData) : Type 0 where
   pub among : Contains layer path
-  pub by_first : (scene : ℕ) × (has (rules.firsts shorter.rest) scene ≡ true) × (path ≡ path_along rules.film (shorter.scenes ++ scene ∷ []))
+  pub by_first : (scene : ℕ) × (has (rules.firsts shorter.rest) scene ≡ true)
+      × (path ≡ path_along rules.film (shorter.scenes ++ scene ∷ []))
 
 -- all that go on from it, an earlier one before a later one
 pub record AreOnward (rules : Rules) (layer : List PathData) (shorter : PathData) (paths : List PathData) : Type 0 where

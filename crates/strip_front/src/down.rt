@@ -1,20 +1,13 @@
 // Going down the front of a search: its paths are enlisted, and the tasks that follow are asked for.
-ghost use Rattle.std.specs.Prelude.{◌≡◌, ◌≢◌, ◌↔◌, ◌+◌, ◌<◌, ◌≤◌, ℕ, Bool, true, false, length, IsSome, IfOk, IfErr, Ok, Err, OnErr, OnOk, None, [], slice_index_or};
+ghost use Rattle.std.specs.Prelude.{◌≡◌, IfOk, IfErr};
 ghost use Rattle.strip_io.specs.Counts.{Rose};
-ghost use Rattle.strip_film.specs.Path.{PathData};
-ghost use Rattle.strip_film.specs.Rules.{IsOpen};
 ghost use Rattle.strip_film.specs.Shown.{cursor_data, path_data};
 ghost use Rattle.strip_bound.specs.StoredBound.{Keeps};
-ghost use Rattle.strip_count.specs.Parts.{lies_in};
-ghost use Rattle.strip_count.specs.Paths.{ComesAfter};
-ghost use Rattle.strip_hand.specs.Calls.{StandsAt};
-ghost use Rattle.strip_hand.specs.Hand.{IsHand};
-ghost use Rattle.strip_hand.specs.Search.{depth_of, search_rules};
-ghost use Rattle.strip_front.specs.Calls.{GoesDown, IsCutShort, count_in};
-ghost use Rattle.strip_front.specs.Filled.{IsFilled, IsWhole};
-ghost use Rattle.strip_front.specs.Front.{IsEmptyFront, IsFrontOf, root_of};
+ghost use Rattle.strip_hand.specs.Hand.{IsHand, IsSearchOf};
+ghost use Rattle.strip_hand.specs.Search.{search_rules};
+ghost use Rattle.strip_front.specs.Calls.{GoesDown, IsDown, KeepsTasks, MayGoDown};
 ghost use Rattle.strip_front.specs.Shown.{front_data};
-ghost use Rattle.strip_front.specs.Tried.{AreTried, IsEnlisted, Tries};
+ghost use Rattle.strip_front.specs.Tried.{IsBegun, IsEnlisted, ListsLines, MayTry, StandsInFront, Tries};
 
 use crate::front::Front;
 use crate::marks::mark_wanted;
@@ -39,23 +32,14 @@ pub fn go_down<H: Hand, F: Fn(u64, u64) -> u64>(
 ) -> Result<bool, Memory>
     requires sound { H.is_sound hand.old }
     requires keeps { Keeps (F.pre kept.now.f) (F.post kept.now.f) kept.now.kind kept.now.film.now }
-    requires film { (H.shows hand.old).search.film ≡ kept.now.film.now }
-    requires kind { (H.shows hand.old).search.kind ≡ kept.now.kind }
-    requires tasks { (H.shows hand.old).search.tasks ≡ (front_data front.old).tasks }
-    requires front { IsEmptyFront (search_rules (H.shows hand.old).search) (front_data front.old) }
-    requires stands { StandsAt (H.shows hand.old) (cursor_data cursor.old) }
-    requires cursor { cursor_data cursor.old ≡ record { task = 0; last = None } }
+    requires search { IsSearchOf kept.now.kind kept.now.film.now (H.shows hand.old) }
+    requires may { MayGoDown (H.shows hand.old) (cursor_data cursor.old) (front_data front.old) }
     ensures sound { H.is_sound hand.new }
     ensures home { H.home hand.new ≡ H.home hand.old }
     ensures stays { GoesDown (H.shows hand.old) (H.shows hand.new) (cursor_data cursor.new) }
-    ensures front { IsFrontOf (search_rules (H.shows hand.old).search) (front_data front.new) }
-    ensures tasks { (front_data front.new).tasks ≡ (front_data front.old).tasks }
-    ensures root { IfOk result (λ _. IsSome (root_of (front_data front.new)) ↔ IsSome (cursor_data cursor.new).last) }
-    ensures filled { IfOk result (λ _. IsFilled (H.shows hand.new) (front_data front.new)) }
-    ensures whole { IfOk result (λ spent. spent ≡ false → IsWhole (H.shows hand.new).search (front_data front.new) (H.shows hand.new).told) }
-    ensures spent { IfOk result (λ spent. spent ≡ true → IsCutShort (H.shows hand.new) (cursor_data cursor.new)) }
-    ensures own { IfOk result (λ spent. spent ≡ true → 1 ≤ (H.shows hand.new).search.cap
-        → length (H.shows hand.new).lines ≤ count_in (H.shows hand.new) 0 → IsSome (root_of (front_data front.new))) }
+    ensures front { KeepsTasks (search_rules (H.shows hand.old).search) (front_data front.old) (front_data front.new) }
+    ensures down { IfOk result (λ spent. IsDown (H.shows hand.new) (cursor_data cursor.new)
+        (front_data front.new) spent) }
     ensures memory { IfErr result (λ _. Rose (H.shows hand.old).refusals (H.shows hand.new).refusals) }
 {
     let spent = enlist_paths(kept, hand, cursor, front)?;
@@ -107,18 +91,14 @@ fn try_path<H: Hand, F: Fn(u64, u64) -> u64>(
 ) -> Result<Tried, Memory>
     requires sound { H.is_sound hand.old }
     requires keeps { Keeps (F.pre kept.now.f) (F.post kept.now.f) kept.now.kind kept.now.film.now }
-    requires film { (H.shows hand.old).search.film ≡ kept.now.film.now }
-    requires kind { (H.shows hand.old).search.kind ≡ kept.now.kind }
-    requires stands { StandsAt (H.shows hand.old) (cursor_data cursor.old) }
-    requires front { (cursor_data cursor.old).task ≡ 0 }
-    requires path { IsOpen (search_rules (H.shows hand.old).search) (path_data path.now) }
-    requires lies { lies_in (depth_of (H.shows hand.old).search) (H.shows hand.old).search.tasks 0 (path_data path.now) ≡ true }
-    requires later { ComesAfter (search_rules (H.shows hand.old).search) (cursor_data cursor.old).last (path_data path.now) }
-    requires some { (path_data path.now).rest ≢ 0 }
+    requires search { IsSearchOf kept.now.kind kept.now.film.now (H.shows hand.old) }
+    requires stands { StandsInFront (H.shows hand.old) (cursor_data cursor.old) }
+    requires may { MayTry (H.shows hand.old).search (cursor_data cursor.old) (path_data path.now) }
     ensures sound { H.is_sound hand.new }
     ensures home { H.home hand.new ≡ H.home hand.old }
     ensures limits { IsHand (H.shows hand.new) }
-    ensures tried { Tries (H.shows hand.old) (cursor_data cursor.old) (path_data path.now) result (H.shows hand.new) (cursor_data cursor.new) }
+    ensures tried { Tries (H.shows hand.old) (cursor_data cursor.old) (path_data path.now) result (H.shows hand.new)
+        (cursor_data cursor.new) }
 {
     let bound = kept.at(path.rest());
     let least = hand.look();
@@ -143,18 +123,14 @@ fn enlist_paths<H: Hand, F: Fn(u64, u64) -> u64>(
 ) -> Result<bool, Memory>
     requires sound { H.is_sound hand.old }
     requires keeps { Keeps (F.pre kept.now.f) (F.post kept.now.f) kept.now.kind kept.now.film.now }
-    requires film { (H.shows hand.old).search.film ≡ kept.now.film.now }
-    requires kind { (H.shows hand.old).search.kind ≡ kept.now.kind }
-    requires tasks { (H.shows hand.old).search.tasks ≡ (front_data front.old).tasks }
-    requires front { IsEmptyFront (search_rules (H.shows hand.old).search) (front_data front.old) }
-    requires stands { StandsAt (H.shows hand.old) (cursor_data cursor.old) }
-    requires cursor { cursor_data cursor.old ≡ record { task = 0; last = None } }
+    requires search { IsSearchOf kept.now.kind kept.now.film.now (H.shows hand.old) }
+    requires may { MayGoDown (H.shows hand.old) (cursor_data cursor.old) (front_data front.old) }
     ensures sound { H.is_sound hand.new }
     ensures home { H.home hand.new ≡ H.home hand.old }
     ensures down { GoesDown (H.shows hand.old) (H.shows hand.new) (cursor_data cursor.new) }
-    ensures lines { front_data front.new ≡ record (front_data front.old) { lines = front.new.lines.items } }
-    ensures count { length front.new.lines.items ≡ length front.old.lines.items }
-    ensures enlisted { IfOk result (λ spent. IsEnlisted (H.shows hand.new) (cursor_data cursor.new) (front_data front.new) spent) }
+    ensures lines { ListsLines (front_data front.old) (front_data front.new) }
+    ensures enlisted { IfOk result (λ spent. IsEnlisted (H.shows hand.new) (cursor_data cursor.new)
+        (front_data front.new) spent) }
     ensures memory { IfErr result (λ _. Rose (H.shows hand.old).refusals (H.shows hand.new).refusals) }
 {
     hand.keeps_limits();
@@ -177,19 +153,14 @@ fn enlist_longer<H: Hand, F: Fn(u64, u64) -> u64>(
 ) -> Result<bool, Memory>
     requires sound { H.is_sound hand.old }
     requires keeps { Keeps (F.pre kept.now.f) (F.post kept.now.f) kept.now.kind kept.now.film.now }
-    requires film { (H.shows hand.old).search.film ≡ kept.now.film.now }
-    requires kind { (H.shows hand.old).search.kind ≡ kept.now.kind }
-    requires tasks { (H.shows hand.old).search.tasks ≡ (front_data front.old).tasks }
-    requires front { IsFrontOf (search_rules (H.shows hand.old).search) (front_data front.old) }
-    requires stands { StandsAt (H.shows hand.old) (cursor_data cursor.old) }
-    requires task { (cursor_data cursor.old).task ≡ 0 }
-    requires tried { AreTried (H.shows hand.old) (cursor_data cursor.old) (front_data front.old) 1 false }
+    requires search { IsSearchOf kept.now.kind kept.now.film.now (H.shows hand.old) }
+    requires begun { IsBegun (H.shows hand.old) (cursor_data cursor.old) (front_data front.old) }
     ensures sound { H.is_sound hand.new }
     ensures home { H.home hand.new ≡ H.home hand.old }
     ensures down { GoesDown (H.shows hand.old) (H.shows hand.new) (cursor_data cursor.new) }
-    ensures lines { front_data front.new ≡ record (front_data front.old) { lines = front.new.lines.items } }
-    ensures count { length front.new.lines.items ≡ length front.old.lines.items }
-    ensures enlisted { IfOk result (λ spent. IsEnlisted (H.shows hand.new) (cursor_data cursor.new) (front_data front.new) spent) }
+    ensures lines { ListsLines (front_data front.old) (front_data front.new) }
+    ensures enlisted { IfOk result (λ spent. IsEnlisted (H.shows hand.new) (cursor_data cursor.new)
+        (front_data front.new) spent) }
     ensures memory { IfErr result (λ _. Rose (H.shows hand.old).refusals (H.shows hand.new).refusals) }
 {
     hand.keeps_limits();

@@ -26,7 +26,8 @@ pub fn layers_are_open()
 /// For each open path there is one in the layer of as many scenes that leaves the same and pays no more.
 pub fn layers_pay_the_least()
     ensures { (kind : Kind) (film : FilmData) (path : PathData) → IsFilm film → IsOpen (rules_of kind film) path
-        → (other : PathData) × Contains (layer film (length path.scenes)) other × (other.rest ≡ path.rest) × (other.paid ≤ path.paid) }
+        → (other : PathData) × Contains (layer film (length path.scenes)) other × (other.rest ≡ path.rest)
+        × (other.paid ≤ path.paid) }
 {}
 
 /// The tasks stand in the order in which they arise, where all promise the same.

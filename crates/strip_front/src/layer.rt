@@ -28,7 +28,8 @@ pub(crate) fn layer_after(
     before: &PathsBySet,
 ) -> Result<PathsBySet, Memory>
     requires paths { All (IsPath film.now) (paths_of before.now) }
-    ensures { IfOk result (λ after. paths_of after ≡ fold with_path [] (flat_map (paths_after film.now) (paths_of before.now))) }
+    ensures { IfOk result (λ after. paths_of after ≡ fold with_path []
+        (flat_map (paths_after film.now) (paths_of before.now))) }
 {
     let mut after = PathsBySet::new(alloc);
     for path in before.paths() {
@@ -40,7 +41,8 @@ pub(crate) fn layer_after(
 /// Puts the open paths that go on from this one with one scene more to the others.
 fn put_paths_after(film: &Film, path: &Path, paths: &mut PathsBySet) -> Result<(), Memory>
     requires path { IsPath film.now (path_data path.now) }
-    ensures { IfOk result (λ _. paths_of paths.new ≡ fold with_path (paths_of paths.old) (paths_after film.now (path_data path.now))) }
+    ensures { IfOk result (λ _. paths_of paths.new ≡ fold with_path (paths_of paths.old)
+        (paths_after film.now (path_data path.now))) }
 {
     film.keeps_limits();
     for scene in open_firsts(film, path.rest()).iter() {

@@ -59,7 +59,8 @@ fn mark_after(film: &Film, rest: Mask, front: &mut Front)
 fn ask_for(front: &mut Front, rest: Mask)
     requires wanted { length (front_data front.old).wanted ≡ length (front_data front.old).tasks }
     requires apart { AllPairs (λ a b. a.rest ≢ b.rest) (front_data front.old).tasks }
-    ensures { MarksMore (front_data front.old) (front_data front.new) (λ task. (task_at (front_data front.old) task).rest ≡ rest.0) }
+    ensures { MarksMore (front_data front.old) (front_data front.new)
+        (λ task. (task_at (front_data front.old) task).rest ≡ rest.0) }
 {
     if let Some(task) = front.tasks.place_of(rest) {
         front.wanted[task] = true;

@@ -33,8 +33,10 @@ pub(crate) fn shorter_paths<F: Fn(u64, u64) -> u64>(
 ) -> Result<(Vec<Path>, PathsBySet), Memory>
     requires keeps { Keeps (F.pre kept.now.f) (F.post kept.now.f) kept.now.kind kept.now.film.now }
     requires depth { IsDepth kept.now.film.now depth }
-    ensures shorter { IfOk result (λ both. AreShorter (rules_of kept.now.kind kept.now.film.now) depth (map path_data both.0.items)) }
-    ensures last { IfOk result (λ both. (before : ℕ) → depth ≡ before + 1 → paths_of both.1 ≡ layer kept.now.film.now before) }
+    ensures shorter { IfOk result (λ both. AreShorter (rules_of kept.now.kind kept.now.film.now) depth
+        (map path_data both.0.items)) }
+    ensures last { IfOk result (λ both. (before : ℕ) → depth ≡ before + 1
+        → paths_of both.1 ≡ layer kept.now.film.now before) }
 {
     let film = kept.film();
     film.keeps_limits();
@@ -61,7 +63,8 @@ fn with_layer<F: Fn(u64, u64) -> u64>(
     requires most { count < length kept.now.film.now.casts }
     requires shorter { AreShorter (rules_of kept.now.kind kept.now.film.now) count (map path_data shorter.now) }
     requires layer { paths_of next.now ≡ layer kept.now.film.now count }
-    ensures { IfOk result (λ paths. AreShorter (rules_of kept.now.kind kept.now.film.now) (count + 1) (map path_data paths.items)) }
+    ensures { IfOk result (λ paths. AreShorter (rules_of kept.now.kind kept.now.film.now) (count + 1)
+        (map path_data paths.items)) }
 {
     kept.film().keeps_limits();
     let mut paths = Vec::new(alloc);
@@ -85,7 +88,8 @@ fn push_kept<F: Fn(u64, u64) -> u64>(
     requires path { IsPath kept.now.film.now (path_data path.now) }
     requires layer { All (IsPath kept.now.film.now) (paths_of layer.now) }
     requires apart { AllPairs (λ a b. a.rest ≢ b.rest) (paths_of layer.now) }
-    ensures { IfOk result (λ _. (more : List PathData) × (map path_data paths.new.items ≡ map path_data paths.old.items ++ more)
+    ensures { IfOk result (λ _. (more : List PathData)
+        × (map path_data paths.new.items ≡ map path_data paths.old.items ++ more)
         × AreOnward (rules_of kept.now.kind kept.now.film.now) (paths_of layer.now) (path_data path.now) more) }
 {
     let film = kept.film();
@@ -102,7 +106,8 @@ fn push_kept<F: Fn(u64, u64) -> u64>(
 
 /// Whether one of the paths is along these scenes.
 fn has(paths: &PathsBySet, path: &Path) -> bool
-    ensures { (film : FilmData) → All (IsPath film) (paths_of paths.now) → AllPairs (λ a b. a.rest ≢ b.rest) (paths_of paths.now)
+    ensures { (film : FilmData) → All (IsPath film) (paths_of paths.now)
+        → AllPairs (λ a b. a.rest ≢ b.rest) (paths_of paths.now)
         → IsPath film (path_data path.now) → IsTrue result ↔ Contains (paths_of paths.now) (path_data path.now) }
 {
     match paths.place_of(path.rest()) {

@@ -1,19 +1,17 @@
 // Closing the front of a search up: its lines are raised by what was found of its tasks.
-ghost use Rattle.std.specs.Prelude.{◌≡◌, ◌+◌, ◌<◌, ◌≤◌, ◌^◌, ℕ, true, length, Some, IsSome, IfOk, IfErr};
+ghost use Rattle.std.specs.Prelude.{◌≡◌, ◌+◌, ◌<◌, ◌≤◌, ◌^◌, ℕ, true, length, IfOk, IfErr};
 ghost use Rattle.strip_io.specs.Counts.{Rose};
 ghost use Rattle.strip_mask.specs.Set.{has};
 ghost use Rattle.strip_kind.specs.declared.kind.Kind.{Kind};
 ghost use Rattle.strip_pay.specs.Film.{FilmData};
-ghost use Rattle.strip_film.specs.Film.{IsFilm, LiesIn, all_scenes};
-ghost use Rattle.strip_bound.specs.Bounds.{bound};
+ghost use Rattle.strip_film.specs.Film.{IsFilm, LiesIn};
 ghost use Rattle.strip_bound.specs.StoredBound.{Keeps};
 ghost use Rattle.strip_rule.specs.Rule.{open_firsts};
-ghost use Rattle.strip_lines.specs.Lines.{ahead, known, line_at, rules_of};
-ghost use Rattle.strip_hand.specs.Search.{search_rules};
-ghost use Rattle.strip_front.specs.Calls.{AllReach, AreFound, Learns};
-ghost use Rattle.strip_front.specs.Filled.{IsFilled, IsWhole};
-ghost use Rattle.strip_front.specs.Front.{IsFrontOf, path_at, root_of};
-ghost use Rattle.strip_front.specs.Raised.{AreRaised, IsNumberOf, ReachesBy, ReachesFrom};
+ghost use Rattle.strip_lines.specs.Lines.{rules_of};
+ghost use Rattle.strip_hand.specs.Hand.{IsSearchOf};
+ghost use Rattle.strip_front.specs.Calls.{IsClosedUp, IsWalked, Learns};
+ghost use Rattle.strip_front.specs.Front.{IsFrontOf, path_at};
+ghost use Rattle.strip_front.specs.Raised.{AreRaised, IsNumberOf, IsRaisedTo, ReachesBy, ReachesFrom};
 ghost use Rattle.strip_front.specs.Shown.{front_data};
 
 use crate::front::Front;
@@ -40,22 +38,13 @@ pub fn close_up<H: Hand, F: Fn(u64, u64) -> u64>(
 ) -> Result<u64, Memory>
     requires sound { H.is_sound hand.old }
     requires keeps { Keeps (F.pre kept.now.f) (F.post kept.now.f) kept.now.kind kept.now.film.now }
-    requires film { (H.shows hand.old).search.film ≡ kept.now.film.now }
-    requires kind { (H.shows hand.old).search.kind ≡ kept.now.kind }
-    requires front { IsFrontOf (search_rules (H.shows hand.old).search) (front_data front.old) }
-    requires filled { IsFilled (H.shows hand.old) (front_data front.old) }
-    requires count { length found.now ≡ length (front_data front.old).tasks }
-    requires found { AreFound (H.shows hand.old) (front_data front.old) found.now }
+    requires search { IsSearchOf kept.now.kind kept.now.film.now (H.shows hand.old) }
+    requires walked { IsWalked (H.shows hand.old) (front_data front.old) found.now }
     ensures sound { H.is_sound hand.new }
     ensures home { H.home hand.new ≡ H.home hand.old }
     ensures front { front_data front.new ≡ front_data front.old }
     ensures stays { Learns (H.shows hand.old) (H.shows hand.new) }
-    ensures known { IfOk result (λ number. number ≤ known (search_rules (H.shows hand.new).search) (H.shows hand.new).lines (all_scenes (H.shows hand.new).search.film)) }
-    ensures static_bound { IfOk result (λ number. bound kept.now.kind kept.now.film.now (all_scenes kept.now.film.now) ≤ number) }
-    ensures root { IfOk result (λ number. (line : ℕ) → root_of (front_data front.old) ≡ Some line
-        → (number ≤ (line_at (H.shows hand.new).lines line).bound) × (ahead (search_rules (H.shows hand.new).search) (all_scenes kept.now.film.now) ≤ number)) }
-    ensures reaches { IfOk result (λ number. IsWhole (H.shows hand.new).search (front_data front.old) (H.shows hand.new).told
-        → AllReach (front_data front.old) found.now (H.shows hand.new).told → (H.shows hand.new).told ≤ number) }
+    ensures closed { IfOk result (λ number. IsClosedUp (H.shows hand.new) (front_data front.old) found.now number) }
     ensures memory { IfErr result (λ _. Rose (H.shows hand.old).refusals (H.shows hand.new).refusals) }
 {
     hand.keeps_limits();
@@ -78,19 +67,15 @@ fn raise_layer<H: Hand, F: Fn(u64, u64) -> u64>(
 ) -> Result<(), Memory>
     requires sound { H.is_sound hand.old }
     requires keeps { Keeps (F.pre kept.now.f) (F.post kept.now.f) kept.now.kind kept.now.film.now }
-    requires film { (H.shows hand.old).search.film ≡ kept.now.film.now }
-    requires kind { (H.shows hand.old).search.kind ≡ kept.now.kind }
-    requires front { IsFrontOf (search_rules (H.shows hand.old).search) (front_data front.old) }
-    requires filled { IsFilled (H.shows hand.old) (front_data front.old) }
-    requires count { length found.now ≡ length (front_data front.old).tasks }
-    requires found { AreFound (H.shows hand.old) (front_data front.old) found.now }
-    requires root { IsSome (root_of (front_data front.old)) }
-    requires raised { AreRaised (H.shows hand.old) (front_data front.old) found.now front.old.numbers.items (scene_count + 1) }
+    requires search { IsSearchOf kept.now.kind kept.now.film.now (H.shows hand.old) }
+    requires raised { IsRaisedTo (H.shows hand.old) (front_data front.old) found.now front.old.numbers.items
+        (scene_count + 1) }
     ensures sound { H.is_sound hand.new }
     ensures home { H.home hand.new ≡ H.home hand.old }
     ensures front { front_data front.new ≡ front_data front.old }
     ensures learns { Learns (H.shows hand.old) (H.shows hand.new) }
-    ensures raised { IfOk result (λ _. AreRaised (H.shows hand.new) (front_data front.old) found.now front.new.numbers.items scene_count) }
+    ensures raised { IfOk result (λ _. AreRaised (H.shows hand.new) (front_data front.old)
+        found.now front.new.numbers.items scene_count) }
     ensures memory { IfErr result (λ _. Rose (H.shows hand.old).refusals (H.shows hand.new).refusals) }
 {
     for place in 0..front.lines.len() {
@@ -114,19 +99,15 @@ fn raise_path<H: Hand, F: Fn(u64, u64) -> u64>(
 ) -> Result<u64, Memory>
     requires sound { H.is_sound hand.old }
     requires keeps { Keeps (F.pre kept.now.f) (F.post kept.now.f) kept.now.kind kept.now.film.now }
-    requires film { (H.shows hand.old).search.film ≡ kept.now.film.now }
-    requires kind { (H.shows hand.old).search.kind ≡ kept.now.kind }
-    requires front { IsFrontOf (search_rules (H.shows hand.old).search) (front_data front.now) }
-    requires filled { IsFilled (H.shows hand.old) (front_data front.now) }
-    requires count { length found.now ≡ length (front_data front.now).tasks }
-    requires found { AreFound (H.shows hand.old) (front_data front.now) found.now }
-    requires root { IsSome (root_of (front_data front.now)) }
+    requires search { IsSearchOf kept.now.kind kept.now.film.now (H.shows hand.old) }
     requires place { place < length (front_data front.now).paths }
-    requires raised { AreRaised (H.shows hand.old) (front_data front.now) found.now front.now.numbers.items (length (path_at (front_data front.now) place).scenes + 1) }
+    requires raised { IsRaisedTo (H.shows hand.old) (front_data front.now) found.now front.now.numbers.items
+        (length (path_at (front_data front.now) place).scenes + 1) }
     ensures sound { H.is_sound hand.new }
     ensures home { H.home hand.new ≡ H.home hand.old }
     ensures learns { Learns (H.shows hand.old) (H.shows hand.new) }
-    ensures reached { IfOk result (λ number. ReachesFrom (H.shows hand.new) (front_data front.now) found.now place number) }
+    ensures reached { IfOk result (λ number. ReachesFrom (H.shows hand.new) (front_data front.now)
+        found.now place number) }
     ensures memory { IfErr result (λ _. Rose (H.shows hand.old).refusals (H.shows hand.new).refusals) }
 {
     let film = kept.film();
@@ -152,9 +133,11 @@ fn least_over(film: &Film, front: &Front, found: &[u64], rest: Mask) -> u64
     requires there { (scene : ℕ) → has (open_firsts film.now rest.0) scene ≡ true
         → (reach : ℕ) × ReachesBy film.now (front_data front.now) found.now front.now.numbers.items rest.0 scene reach × (reach < 2 ^ 64) }
     ensures most { (scene reach : ℕ) → has (open_firsts film.now rest.0) scene ≡ true
-        → ReachesBy film.now (front_data front.now) found.now front.now.numbers.items rest.0 scene reach → result ≤ reach }
+        → ReachesBy film.now (front_data front.now) found.now front.now.numbers.items rest.0 scene reach
+        → result ≤ reach }
     ensures least { (value : ℕ) → value < 2 ^ 64 → ((scene reach : ℕ) → has (open_firsts film.now rest.0) scene ≡ true
-        → ReachesBy film.now (front_data front.now) found.now front.now.numbers.items rest.0 scene reach → value ≤ reach) → value ≤ result }
+        → ReachesBy film.now (front_data front.now) found.now front.now.numbers.items rest.0 scene reach
+        → value ≤ reach) → value ≤ result }
 {
     film.keeps_limits();
     let mut least = u64::MAX;
@@ -169,7 +152,8 @@ fn least_over(film: &Film, front: &Front, found: &[u64], rest: Mask) -> u64
 /// there is neither.
 fn number_of(front: &Front, found: &[u64], rest: Mask) -> u64
     requires count { length found.now ≡ length (front_data front.now).tasks }
-    ensures { (kind : Kind) (film : FilmData) (number : ℕ) → IsFilm film → IsFrontOf (rules_of kind film) (front_data front.now)
+    ensures { (kind : Kind) (film : FilmData) (number : ℕ) → IsFilm film
+        → IsFrontOf (rules_of kind film) (front_data front.now)
         → IsNumberOf (front_data front.now) found.now front.now.numbers.items rest.0 number → result ≡ number }
 {
     if let Some(task) = front.tasks.place_of(rest) {

@@ -1,5 +1,7 @@
 -- What a worker knows of a search, was told, and did.
 use Rattle.std.specs.Prelude.{◌≡◌, ℕ, suc, ◌+◌, ◌<◌, ◌≤◌, Bool, true, Option, Some, None, List, length, ⊤}
+use Rattle.strip_kind.specs.declared.kind.Kind.{Kind}
+use Rattle.strip_pay.specs.Film.{FilmData}
 use Rattle.strip_film.specs.declared.shared.Known.{Known}
 use Rattle.strip_film.specs.declared.shared.Line.{Line}
 use Rattle.strip_film.specs.declared.shared.Probe.{Probe}
@@ -8,7 +10,7 @@ use Rattle.strip_film.specs.Film.{IsFilm}
 use Rattle.strip_film.specs.Path.{PathData}
 use Rattle.strip_lines.specs.Lines.{AreJustified, line_at}
 use Rattle.strip_count.specs.Parts.{IsShare, lies_in}
-use Rattle.strip_hand.specs.Search.{AreStarts, SearchData, depth_of, search_rules}
+use Rattle.strip_hand.specs.Search.{AreStarts, GoesBy, SearchData, depth_of, search_rules}
 
 -- a probe of the table: the set that was asked for, and the answer
 pub record ProbeData : Type 0 where
@@ -35,6 +37,10 @@ pub record HandData : Type 0 where
   pub note : Option Known
   pub refusals : ℕ
   pub ended : Bool
+
+-- the hand is one of a search over this film with static bounds of this kind
+abbrev pub IsSearchOf : Kind → FilmData → HandData → Type 0
+IsSearchOf kind film hand = GoesBy kind film hand.search
 
 -- a line of this number and set, whose bound is at least as great, stands in the list
 pub record Knows (lines : List Line) (known : Known) : Type 0 where

@@ -1,8 +1,6 @@
 -- What a walk of a path asks for, and what it finds.
 use Rattle.std.specs.Prelude.{◌≡◌, ◌≢◌, ℕ, ◌+◌, ◌<◌, ◌≤◌, ◌⊎◌, nat_eq, true, false, Option, Some, None, length}
 use Rattle.std.specs.List.{starts_with}
-use Rattle.strip_kind.specs.declared.kind.Kind.{Kind}
-use Rattle.strip_pay.specs.Film.{FilmData}
 use Rattle.strip_film.specs.declared.shared.Known.{Known}
 use Rattle.strip_film.specs.Finish.{IsAtMostFinish}
 use Rattle.strip_film.specs.Path.{PathData}
@@ -11,14 +9,10 @@ use Rattle.strip_film.specs.Shown.{CursorData}
 use Rattle.strip_lines.specs.Lines.{ahead}
 use Rattle.strip_count.specs.Parts.{lies_in}
 use Rattle.strip_count.specs.Paths.{ComesAfter}
-use Rattle.strip_hand.specs.Search.{GoesBy, depth_of, search_rules}
+use Rattle.strip_hand.specs.Search.{depth_of, search_rules}
 use Rattle.strip_hand.specs.Hand.{HandData, Knows}
 use Rattle.strip_hand.specs.Calls.{StandsAt}
 use Rattle.strip_walk.specs.declared.found.Found.{Found}
-
--- the hand is one of a search over this film with static bounds of this kind
-abbrev pub IsSearchOf : Kind → FilmData → HandData → Type 0
-IsSearchOf kind film hand = GoesBy kind film hand.search
 
 -- the walk may begin: the hand stands in a task at the cursor; the path is open, lies in the task, and comes after its last one
 pub record MayExplore (hand : HandData) (cursor : CursorData) (path : PathData) : Type 0 where

@@ -4,7 +4,8 @@ ghost use Rattle.strip_film.specs.Film.{LiesIn};
 ghost use Rattle.strip_film.specs.Path.{IsComplete};
 ghost use Rattle.strip_film.specs.Shown.{cursor_data, path_data};
 ghost use Rattle.strip_bound.specs.StoredBound.{Keeps};
-ghost use Rattle.strip_walk.specs.Found.{IsSearchOf, MayExplore};
+ghost use Rattle.strip_hand.specs.Hand.{IsSearchOf};
+ghost use Rattle.strip_walk.specs.Found.{MayExplore};
 ghost use Rattle.strip_walk.specs.Begun.{Asks, Begins, IsBest, IsThrough, IsWeighed, Meets, Offers};
 ghost use Rattle.strip_memo.specs.Memo.{IsMemo};
 

@@ -3,7 +3,8 @@ ghost use Rattle.std.specs.Prelude.{◌≡◌, IfOk};
 ghost use Rattle.strip_film.specs.Running.{IsRunning};
 ghost use Rattle.strip_film.specs.Shown.{cursor_data, running_data};
 ghost use Rattle.strip_bound.specs.StoredBound.{Keeps};
-ghost use Rattle.strip_walk.specs.Found.{IsSearchOf, MayExplore};
+ghost use Rattle.strip_hand.specs.Hand.{IsSearchOf};
+ghost use Rattle.strip_walk.specs.Found.{MayExplore};
 ghost use Rattle.strip_walk.specs.Walked.{Explores};
 ghost use Rattle.strip_memo.specs.Memo.{IsMemo};
 

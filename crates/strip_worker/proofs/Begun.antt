@@ -6,9 +6,8 @@ use Rattle.strip_film.specs.Shown.{CursorData}
 use Rattle.strip_lines.proofs.Grown.{grow_self}
 use Rattle.strip_hand.specs.Hand.{HandData, RecordData}
 use Rattle.strip_hand.specs.Search.{SearchData, search_rules}
-use Rattle.strip_front.specs.Calls.{GoesDown, IsCutShort, count_in}
-use Rattle.strip_front.specs.Front.{FrontData, IsFrontOf, root_of}
-use Rattle.strip_front.specs.Filled.{IsFilled, IsWhole}
+use Rattle.strip_front.specs.Calls.{GoesDown, IsCutShort, IsDown}
+use Rattle.strip_front.specs.Front.{FrontData, IsFrontOf}
 use Rattle.strip_worker.specs.Team.{GoesOn, HasFront, HasWorked, IsCut, IsFresh, OwnsFront, beginning}
 use Rattle.strip_worker.proofs.Moved.{carried, found_still}
 
@@ -38,20 +37,19 @@ not_yet_down hand claimed = record {
 
 -- the front was gone down, and nothing was found of any task
 module _ (before after : HandData) (cursor : CursorData) (front : FrontData) (found : List ℕ) (spent : Bool) (claimed : HasFront before)
-    (down : GoesDown before after cursor) (front_of : IsFrontOf (search_rules before.search) front)
+    (goes : GoesDown before after cursor) (front_of : IsFrontOf (search_rules before.search) front)
     (same_tasks : before.search.tasks ≡ front.tasks)
     (none : (length found ≡ length front.tasks) × ((task : ℕ) → task < length front.tasks → slice_index found task ≡ 0))
-    (filled : IsFilled after front) (whole : spent ≡ false → IsWhole after.search front after.told) (short : spent ≡ true → IsCutShort after cursor)
-    (root : spent ≡ true → 1 ≤ after.search.cap → length after.lines ≤ count_in after 0 → IsSome (root_of front)) (some_lines : 1 ≤ before.search.cap) where
+    (down : IsDown after cursor front spent) (some_lines : 1 ≤ before.search.cap) where
   same_search : after.search ≡ before.search
-  same_search = ap (λ (h : HandData). h.search) down.only
+  same_search = ap (λ (h : HandData). h.search) goes.only
 
   cut : IsCutShort after cursor → IsCut after
   cut is = record {
     full = is.full;
     part = cursor.task;
-    entry = record { last = cursor.last; number = down.stands.0 };
-    recorded = down.stands.1;
+    entry = record { last = cursor.last; number = goes.stands.0 };
+    recorded = goes.stands.1;
     path = is.later.0;
     is_open = is.later.1;
     lies = is.later.2;
@@ -64,14 +62,14 @@ module _ (before after : HandData) (cursor : CursorData) (front : FrontData) (fo
   begins owns = record {
     front_of = subst (λ (search : SearchData). IsFrontOf (search_rules search) front) (sym same_search) front_of;
     tasks = ap (λ (search : SearchData). search.tasks) same_search ∙ same_tasks;
-    filled = filled;
+    filled = down.filled;
     long = none.0;
     known = λ task within wanted. omega (arith, none.1 task within);
-    whole = whole;
+    whole = down.whole;
     reach = λ not task within wanted recorded.
-        absurd (no_record (after.records (suc task)) (down.others (suc task) (λ zero_is. omega (arith, zero_is)) ∙ claimed.others (suc task) (λ zero_is. omega (arith, zero_is))) recorded);
-    root = λ is. root is (omega (arith, some_lines, ap (λ (search : SearchData). search.cap) same_search)) owns;
-    cut = λ is. cut (short is);
+        absurd (no_record (after.records (suc task)) (goes.others (suc task) (λ zero_is. omega (arith, zero_is)) ∙ claimed.others (suc task) (λ zero_is. omega (arith, zero_is))) recorded);
+    root = λ is. down.own is (omega (arith, some_lines, ap (λ (search : SearchData). search.cap) same_search)) owns;
+    cut = λ is. cut (down.spent is);
   }
 
 -- a hand that has claimed nothing has found nothing, by a front that another hand went down

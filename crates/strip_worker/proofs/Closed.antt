@@ -20,17 +20,17 @@ use Rattle.strip_lines.proofs.Grown.{known-grows}
 use Rattle.strip_lines.proofs.Justified.{known_is_true}
 use Rattle.strip_count.specs.Paths.{candidate_count, leaving_count}
 use Rattle.strip_count.proofs.Shares.{lines_few, lines_ways}
-use Rattle.strip_hand.specs.Hand.{HandData, IsHand}
-use Rattle.strip_hand.specs.Search.{SearchData, depth_of, search_rules}
+use Rattle.strip_hand.specs.Hand.{HandData, IsHand, IsSearchOf}
+use Rattle.strip_hand.specs.Search.{GoesBy, SearchData, depth_of, search_rules}
 use Rattle.strip_world.proofs.True.{tasks_apart}
-use Rattle.strip_front.specs.Calls.{AllReach, GoesDown, Learns}
+use Rattle.strip_front.specs.Calls.{AllReach, GoesDown, IsClosedUp, Learns}
 use Rattle.strip_front.specs.Front.{FrontData, root_of}
 use Rattle.strip_front.specs.Filled.{IsWhole}
 use Rattle.strip_worker.specs.Closed.{EndsFrom, HasAll, IsClosed, IsSettled, known_of_all, record_in}
 use Rattle.strip_worker.specs.declared.ended.Ended.{Ended}
 use Rattle.strip_worker.specs.Ended.{EndedData, IsEnded}
 use Rattle.strip_worker.specs.Shown.{ended_data}
-use Rattle.strip_worker.specs.Team.{GoesOn, HasWorked, IsSearchBy}
+use Rattle.strip_worker.specs.Team.{GoesOn, HasWorked}
 use Rattle.strip_worker.proofs.Counted.{cut_has_more}
 use Rattle.strip_worker.proofs.Moved.{moved_same}
 use Rattle.strip_worker.proofs.Settled.{some_of}
@@ -47,15 +47,15 @@ goes_learning before after learns = record {
 }
 
 module _ (kind : Kind) (film : FilmData) (before after : HandData) (front : FrontData) (found : List ℕ) (spent : Bool) (bound : ℕ)
-    (by : IsSearchBy kind film before.search) (was : HasWorked before front found spent) (all : HasAll before) (learns : Learns before after) (limits : IsHand after) where
+    (by : IsSearchOf kind film before) (was : HasWorked before front found spent) (all : HasAll before) (learns : Learns before after) (limits : IsHand after) where
   on : GoesOn before after
   on = goes_learning before after learns
 
   held : HasWorked after front found spent
   held = moved_same before after on front found spent was (λ so. limits.few) (λ part i. (learns.only i).records part)
 
-  by_then : IsSearchBy kind film after.search
-  by_then = subst (IsSearchBy kind film) (sym on.search) by
+  by_then : IsSearchOf kind film after
+  by_then = subst (GoesBy kind film) (sym on.search) by
 
   -- each task that is asked for reaches, as each part has a record
   reach : spent ≡ false → AllReach front found after.told
@@ -66,19 +66,14 @@ module _ (kind : Kind) (film : FilmData) (before after : HandData) (front : Fron
       omega (arith, most, on.told)
 
   -- what closing up answered is known of all scenes
-  pub closed : bound ≤ known_of_all after after.lines
-      → ((line : ℕ) → root_of front ≡ Some line → (bound ≤ (line_at after.lines line).bound) × (ahead (search_rules after.search) (all_scenes film) ≤ bound))
-      → (IsWhole after.search front after.told → AllReach front found after.told → after.told ≤ bound)
-      → IsClosed kind film after spent bound
-  closed most root reaches = record {
+  pub closed : IsClosedUp after front found bound → IsClosed kind film after spent bound
+  closed up = record {
     search = by_then;
     limits = limits;
-    most = most;
-    whole = λ not. reaches (held.whole not) (reach not);
+    most = up.known_of;
+    whole = λ not. up.reaches (held.whole not) (reach not);
     cut = held.cut;
-    reaches = λ so. (
-        let line = some_of (root_of front) (held.root so) in
-        subst (λ (f : FilmData). ahead (search_rules after.search) (all_scenes f) ≤ bound) (sym by_then.same_film) (root line.0 line.1).1);
+    reaches = λ so. (let line = some_of (root_of front) (held.root so) in (up.root line.0 line.1).1);
   }
 
 -- the search stays from the way down the front to the end
@@ -107,9 +102,9 @@ module _ (film : FilmData) (is : IsFilm film) where
       ∙ steps_are_pay film is path.scenes (AllOnce-from_order (length film.casts) path.scenes is.scene_count.1 (complete_kept path complete).is_order)
 
 -- what is known of all scenes, by the rules of the film and the kind
-known_by : (kind : Kind) (film : FilmData) (hand : HandData) (lines : List Line) → IsSearchBy kind film hand.search
+known_by : (kind : Kind) (film : FilmData) (hand : HandData) (lines : List Line) → IsSearchOf kind film hand
     → known (rules_of kind film) lines (all_scenes film) ≡ known_of_all hand lines
-known_by kind film hand lines by = λ i. known (rules_of (sym by.same_kind i) (sym by.same_film i)) lines (all_scenes (sym by.same_film i))
+known_by kind film hand lines by = λ i. known (rules_of (sym by.1 i) (sym by.0 i)) lines (all_scenes (sym by.0 i))
 
 -- what is told of a path and lines, with this bound
 abbrev pub end_of : PathData → List Line → ℕ → Bool → EndedData
@@ -197,8 +192,8 @@ module _ (kind : Kind) (film : FilmData) (hand : HandData) (best : PathData) (li
 
   pub tells : EndsFrom kind film hand.search.start hand.search.cap (end_of best lines bound spent)
   tells =
-      subst (λ (k : Kind). EndsFrom k film hand.search.start hand.search.cap (end_of best lines bound spent)) shut.search.same_kind
-      (subst (λ (f : FilmData). EndsFrom hand.search.kind f hand.search.start hand.search.cap (end_of best lines bound spent)) shut.search.same_film ends)
+      subst (λ (k : Kind). EndsFrom k film hand.search.start hand.search.cap (end_of best lines bound spent)) shut.search.1
+      (subst (λ (f : FilmData). EndsFrom hand.search.kind f hand.search.start hand.search.cap (end_of best lines bound spent)) shut.search.0 ends)
 
 -- the end that was told is one of this hand
 pub told_by : (kind : Kind) (film : FilmData) (hand : HandData) (best : PathData) (lines : List Line) (spent : Bool) (number : ℕ) (result : Result Ended Memory)

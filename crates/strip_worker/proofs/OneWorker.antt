@@ -11,7 +11,7 @@ use Rattle.strip_lines.proofs.Grown.{grow_self}
 use Rattle.strip_count.specs.Parts.{AreCounted}
 use Rattle.strip_hand.specs.Calls.{Claims}
 use Rattle.strip_hand.specs.Hand.{RecordData, no_path_yet}
-use Rattle.strip_hand.specs.Search.{SearchData, depth_of, search_rules}
+use Rattle.strip_hand.specs.Search.{GoesBy, SearchData, depth_of, search_rules}
 use Rattle.strip_world.specs.declared.event.Limits.{Limits}
 use Rattle.strip_world.specs.declared.event.Reply.TheVariants.{Task}
 use Rattle.strip_world.specs.Hand.{IsOwned, hand_data, own_record, record_by}
@@ -20,7 +20,7 @@ use Rattle.strip_world.specs.Sound.{IsWorker}
 use Rattle.strip_world.specs.Steps.{claim_reply, claimed}
 use Rattle.strip_world.specs.World.{PartData, WorldData, no_part, no_worker, part_at, worker_at}
 use Rattle.strip_worker.specs.Closed.{AreCountedBy, HasAll, IsSettled, record_in}
-use Rattle.strip_worker.specs.Team.{HasFront, IsSearchBy}
+use Rattle.strip_worker.specs.Team.{HasFront}
 
 -- ---- records
 
@@ -121,8 +121,5 @@ front_claimed film kind start tasks limits world after reply is step claims =
 
 -- its search is one of the film
 pub search_by : (film : FilmData) (kind : Kind) (search : SearchData) (cap start : ℕ) (tasks : List PathData)
-    → search ≡ record { film = film; kind = kind; cap = cap; start = start; tasks = tasks } → IsSearchBy kind film search
-search_by film kind search cap start tasks is = record {
-  same_film = ap (λ (s : SearchData). s.film) is;
-  same_kind = ap (λ (s : SearchData). s.kind) is;
-}
+    → search ≡ record { film = film; kind = kind; cap = cap; start = start; tasks = tasks } → GoesBy kind film search
+search_by film kind search cap start tasks is = (ap (λ (s : SearchData). s.film) is, ap (λ (s : SearchData). s.kind) is)

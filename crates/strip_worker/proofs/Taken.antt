@@ -13,7 +13,7 @@ use Rattle.strip_lines.proofs.Grown.{grow_self}
 use Rattle.strip_count.specs.Parts.{no_task}
 use Rattle.strip_hand.specs.Calls.{Claims}
 use Rattle.strip_hand.specs.Hand.{HandData, IsHand, no_path_yet}
-use Rattle.strip_hand.specs.Search.{SearchData, search_rules}
+use Rattle.strip_hand.specs.Search.{GoesBy, SearchData, search_rules}
 use Rattle.strip_front.specs.declared.front.Front.{Front}
 use Rattle.strip_front.specs.Shown.{front_data}
 use Rattle.strip_front.specs.Front.{FrontData, is_wanted, task_at, IsFrontOf}
@@ -21,7 +21,7 @@ use Rattle.strip_front.proofs.FrontFacts.{front_open}
 use Rattle.strip_walk.specs.declared.found.Found.{Found}
 use Rattle.strip_walk.specs.Found.{MayExplore}
 use Rattle.strip_walk.specs.Walked.{Explores}
-use Rattle.strip_worker.specs.Team.{HasClaimed, HasWorked, IsSearchBy, WalksPart, WalksTask, beginning}
+use Rattle.strip_worker.specs.Team.{HasClaimed, HasWorked, WalksPart, WalksTask, beginning}
 use Rattle.strip_worker.proofs.Settled.{passed, settled}
 use Rattle.strip_worker.proofs.Tasks.{may_walk_task}
 
@@ -68,20 +68,23 @@ wanted_read front task flag within read = get_or_default front.wanted.items task
 
 -- a part that was claimed, and its task
 module _ (kind : Kind) (film : FilmData) (hand : HandData) (front : FrontData) (found : List ℕ) (spent : Bool) (part task : ℕ) (is : part ≡ suc task)
-    (by : IsSearchBy kind film hand.search) (limits : IsHand hand) (taken : HasClaimed hand front found spent part) where
+    (limits : IsHand hand) (taken : HasClaimed kind film hand front found spent part) where
   abbrev claims : Claims taken.0 (Some (suc task)) hand
   claims = subst (λ (p : ℕ). Claims taken.0 (Some p) hand) is taken.2
 
   same_search : hand.search ≡ taken.0.search
   same_search = ap (λ (h : HandData). h.search) claims.0
 
+  pub by : GoesBy kind film hand.search
+  by = subst (GoesBy kind film) (sym same_search) taken.1.search
+
   -- the tasks are open paths
   all_open : All (IsOpen (rules_of kind film)) front.tasks
   all_open =
-      subst (λ (k : Kind). All (IsOpen (rules_of k film)) front.tasks) by.same_kind
-      (subst (λ (f : FilmData). All (IsOpen (rules_of hand.search.kind f)) front.tasks) by.same_film
+      subst (λ (k : Kind). All (IsOpen (rules_of k film)) front.tasks) by.1
+      (subst (λ (f : FilmData). All (IsOpen (rules_of hand.search.kind f)) front.tasks) by.0
       (front_open hand.search.kind hand.search.film front limits.film
-      (subst (λ (s : SearchData). IsFrontOf (search_rules s) front) (sym same_search) taken.1.front_of)))
+      (subst (λ (s : SearchData). IsFrontOf (search_rules s) front) (sym same_search) taken.1.worked.front_of)))
 
   pub within : task < length front.tasks
   within =
@@ -89,23 +92,23 @@ module _ (kind : Kind) (film : FilmData) (hand : HandData) (front : FrontData) (
         arith,
         claims.1,
         ap (λ (search : SearchData). length search.tasks) same_search,
-        ap (λ (tasks : List PathData). length tasks) taken.1.tasks,
+        ap (λ (tasks : List PathData). length tasks) taken.1.worked.tasks,
       )
 
   pub may_walk : MayExplore hand (beginning part) (task_at front task)
   may_walk =
       subst (λ (p : ℕ). MayExplore hand (beginning p) (task_at front task)) (sym is)
-      (may_walk_task kind film front task within all_open hand (by.same_film, by.same_kind)
-      (ap (λ (search : SearchData). search.tasks) same_search ∙ taken.1.tasks) claims.3)
+      (may_walk_task kind film front task within all_open hand by
+      (ap (λ (search : SearchData). search.tasks) same_search ∙ taken.1.worked.tasks) claims.3)
 
   pub walked_task : (answer : Found) (after : HandData) (short : Bool) → is_wanted front task ≡ true → IsHand after
       → WalksTask hand part (task_at front task) (Ok answer) after → short ≡ (spent || answer.spent)
       → HasWorked after front (slice_set found task answer.bound) short
   walked_task answer after short wanted limits_after walks =
-      settled taken.0 hand after front found task spent answer taken.1 claims
+      settled taken.0 hand after front found task spent answer taken.1.worked claims
       (subst (λ (p : ℕ). WalksTask hand p (task_at front task) (Ok answer) after) is walks) limits_after.few within wanted short
 
 -- a part that is the front, or whose task isn't asked for
-pub passed_part : (hand : HandData) (front : FrontData) (found : List ℕ) (spent : Bool) (part : ℕ) → IsHand hand → HasClaimed hand front found spent part
-    → ((task : ℕ) → part ≡ suc task → is_wanted front task ≡ false) → HasWorked hand front found spent
-passed_part hand front found spent part limits taken unwanted = passed taken.0 hand front found part spent taken.1 taken.2 limits.few unwanted
+pub passed_part : (kind : Kind) (film : FilmData) (hand : HandData) (front : FrontData) (found : List ℕ) (spent : Bool) (part : ℕ) → IsHand hand
+    → HasClaimed kind film hand front found spent part → ((task : ℕ) → part ≡ suc task → is_wanted front task ≡ false) → HasWorked hand front found spent
+passed_part kind film hand front found spent part limits taken unwanted = passed taken.0 hand front found part spent taken.1.worked taken.2 limits.few unwanted

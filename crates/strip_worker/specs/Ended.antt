@@ -10,7 +10,8 @@ use Rattle.strip_film.specs.Path.{PathData}
 use Rattle.strip_lines.specs.Lines.{AreJustified, ahead, known, rules_of}
 use Rattle.strip_count.specs.Paths.{candidate_count, leaving_count}
 
--- an order and what it costs; a bound on what any order pays; the lines and their number; and whether there would have been more
+-- an order and what it costs; a bound on what any order pays; the lines and their number; and whether there would have
+-- been more
 pub record EndedData : Type 0 where
   pub order : List ℕ
   pub cost : ℕ
@@ -19,16 +20,16 @@ pub record EndedData : Type 0 where
   pub lines : List Line
   pub spent : Bool
 
--- the search was cut short: there are as many lines as there may be, and fewer than candidates of the start; and the bound is at least
--- the look-ahead of all scenes
+-- the search was cut short: there are as many lines as there may be, and fewer than candidates of the start; and the
+-- bound is at least the look-ahead of all scenes
 pub record RanOut (kind : Kind) (film : FilmData) (start : PathData) (cap : ℕ) (ended : EndedData) : Type 0 where
   pub full : ended.held ≡ cap
   pub fewer : cap < candidate_count (rules_of kind film) start.paid
   pub reaches : ahead (rules_of kind film) (all_scenes film) ≤ ended.bound
 
--- the order keeps the pairs, pays the cost, and is no dearer than the start; the lines are justified, and the bound is what they make
--- known of all scenes, which no order pays less than; the lines are at most as many as there may be and as candidates of the start, in
--- all and of each set; and unless the search was cut short, the bound is the cost
+-- the order keeps the pairs, pays the cost, and is no dearer than the start; the lines are justified, and the bound is
+-- what they make known of all scenes, which no order pays less than; the lines are at most as many as there may be and
+-- as candidates of the start, in all and of each set; and unless the search was cut short, the bound is the cost
 pub record IsEnded (kind : Kind) (film : FilmData) (start : PathData) (cap : ℕ) (ended : EndedData) : Type 0 where
   pub order : IsKeptOrder film ended.order
   pub cost : ended.cost ≡ pay_of film ended.order
@@ -39,6 +40,7 @@ pub record IsEnded (kind : Kind) (film : FilmData) (start : PathData) (cap : ℕ
   pub held : ended.held ≡ length ended.lines
   pub most : ended.held ≤ cap
   pub candidates : ended.held ≤ candidate_count (rules_of kind film) start.paid
-  pub sets : (set : ℕ) → count_by (λ line. line.set == set) ended.lines ≤ leaving_count (rules_of kind film) start.paid set
+  pub sets : (set : ℕ) → count_by (λ line. line.set == set) ended.lines
+      ≤ leaving_count (rules_of kind film) start.paid set
   pub spent : ended.spent ≡ true → RanOut kind film start cap ended
   pub closed : ended.spent ≡ false → ended.bound ≡ ended.cost

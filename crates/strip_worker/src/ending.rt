@@ -10,7 +10,7 @@ ghost use Rattle.strip_front.specs.Calls.{Learns};
 ghost use Rattle.strip_front.specs.Shown.{front_data};
 ghost use Rattle.strip_worker.specs.Closed.{EndsFrom, HasAll, IsClosed, IsSettled};
 ghost use Rattle.strip_worker.specs.Shown.{ended_data};
-ghost use Rattle.strip_worker.specs.Team.{HasWorked, IsSearchBy};
+ghost use Rattle.strip_worker.specs.Team.{HasWorkedOn};
 
 use crate::ended::Ended;
 use crate::walked::Walked;
@@ -32,13 +32,14 @@ pub fn close<H: Hand, F: Fn(u64, u64) -> u64>(
 ) -> Result<u64, Memory>
     requires sound { H.is_sound hand.old }
     requires keeps { Keeps (F.pre kept.now.f) (F.post kept.now.f) kept.now.kind kept.now.film.now }
-    requires search { IsSearchBy kept.now.kind kept.now.film.now (H.shows hand.old).search }
-    requires worked { HasWorked (H.shows hand.old) (front_data front.old) walked.now.found.items walked.now.spent }
+    requires worked { HasWorkedOn kept.now.kind kept.now.film.now (H.shows hand.old) (front_data front.old)
+        walked.now.found.items walked.now.spent }
     requires all { HasAll (H.shows hand.old) }
     ensures sound { H.is_sound hand.new }
     ensures home { H.home hand.new ≡ H.home hand.old }
     ensures learns { Learns (H.shows hand.old) (H.shows hand.new) }
-    ensures closed { IfOk result (λ number. IsClosed kept.now.kind kept.now.film.now (H.shows hand.new) walked.now.spent number) }
+    ensures closed { IfOk result (λ number. IsClosed kept.now.kind kept.now.film.now (H.shows hand.new)
+        walked.now.spent number) }
     ensures memory { IfErr result (λ _. Rose (H.shows hand.old).refusals (H.shows hand.new).refusals) }
 {
     let number = close_up(kept, hand, front, &walked.found)?;
@@ -62,7 +63,8 @@ pub fn tell<F: Fn(u64, u64) -> u64>(
     ensures ended { IfOk result (λ ended. (hand : HandData) → IsClosed kept.now.kind kept.now.film.now hand spent number
         → IsSettled hand (path_data best.now) lines.items
         → EndsFrom kept.now.kind kept.now.film.now hand.search.start hand.search.cap (ended_data ended)) }
-    ensures cost { IfOk result (λ ended. (hand : HandData) → IsSettled hand (path_data best.now) lines.items → ended.cost ≤ hand.told) }
+    ensures cost { IfOk result (λ ended. (hand : HandData) → IsSettled hand (path_data best.now) lines.items
+        → ended.cost ≤ hand.told) }
 {
     the_rules_are_true();
     let order = best.scenes().to_vec(alloc)?;
@@ -87,7 +89,8 @@ fn whole_bound<F: Fn(u64, u64) -> u64>(
 ) -> u64
     requires keeps { Keeps (F.pre kept.now.f) (F.post kept.now.f) kept.now.kind kept.now.film.now }
     ensures whole { spent ≡ false → result ≡ number }
-    ensures spent { spent ≡ true → result ≡ known (rules_of kept.now.kind kept.now.film.now) lines.now (all_scenes kept.now.film.now) }
+    ensures spent { spent ≡ true → result ≡ known (rules_of kept.now.kind kept.now.film.now) lines.now
+        (all_scenes kept.now.film.now) }
 {
     if spent {
         known_of_all(kept, lines)

@@ -51,7 +51,8 @@ pub fn alone<F: Fn(u64, u64) -> u64>(
     requires some_entries { 64 ≤ entries }
     requires few_entries { entries ≤ 4194304 }
     ensures memo { IsMemo kept.now.kind kept.now.film.now memo.new }
-    ensures ended { IfOk result (λ ended. IsEnded kept.now.kind kept.now.film.now (path_data start.now) cap (ended_data ended)) }
+    ensures ended { IfOk result (λ ended. IsEnded kept.now.kind kept.now.film.now (path_data start.now) cap
+        (ended_data ended)) }
 {
     alone_through(alloc, kept, memo, start, cap, entries, &OpenGate)
 }
@@ -74,7 +75,8 @@ pub fn alone_through<F: Fn(u64, u64) -> u64, G: Gate>(
     requires some_entries { 64 ≤ entries }
     requires few_entries { entries ≤ 4194304 }
     ensures memo { IsMemo kept.now.kind kept.now.film.now memo.new }
-    ensures ended { IfOk result (λ ended. IsEnded kept.now.kind kept.now.film.now (path_data start.now) cap (ended_data ended)) }
+    ensures ended { IfOk result (λ ended. IsEnded kept.now.kind kept.now.film.now (path_data start.now) cap
+        (ended_data ended)) }
 {
     let mut front = make_front(alloc, kept, TASK_SCENES)?;
     let limits = Limits {

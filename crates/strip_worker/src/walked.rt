@@ -43,10 +43,12 @@ pub fn merge(into: &mut Walked, from: &Walked)
     requires { length into.old.found.items ≡ length from.now.found.items }
     ensures long { length into.new.found.items ≡ length into.old.found.items }
     ensures greater { (task : ℕ) → task < length into.old.found.items
-        → slice_index into.new.found.items task ≡ max (slice_index into.old.found.items task) (slice_index from.now.found.items task) }
+        → slice_index into.new.found.items task
+        ≡ max (slice_index into.old.found.items task) (slice_index from.now.found.items task) }
     ensures spent { into.new.spent ≡ (into.old.spent || from.now.spent) }
     ensures worked { (one other both : HandData) (front : FrontData)
-        → HasWorked one front into.old.found.items into.old.spent → HasWorked other front from.now.found.items from.now.spent
+        → HasWorked one front into.old.found.items into.old.spent
+        → HasWorked other front from.now.found.items from.now.spent
         → TakesOver one other both → HasWorked both front into.new.found.items into.new.spent }
 {
     for task in 0..into.found.len() {

@@ -1,15 +1,15 @@
 // What a worker does in a search: the way down the front, and the tasks.
-ghost use Rattle.std.specs.Prelude.{◌≡◌, ◌≤◌, true, IfErr, IfOk};
+ghost use Rattle.std.specs.Prelude.{◌≡◌, IfErr, IfOk};
 ghost use Rattle.strip_io.specs.Counts.{Rose};
 ghost use Rattle.strip_bound.specs.StoredBound.{Keeps};
 ghost use Rattle.strip_film.specs.Shown.{CursorData, path_data};
-ghost use Rattle.strip_hand.specs.Search.{search_rules};
+ghost use Rattle.strip_hand.specs.Hand.{IsSearchOf};
 ghost use Rattle.strip_memo.specs.Memo.{IsMemo};
 ghost use Rattle.strip_front.specs.Calls.{GoesDown};
-ghost use Rattle.strip_front.specs.Front.{IsEmptyFront};
 ghost use Rattle.strip_front.specs.Shown.{front_data};
-ghost use Rattle.strip_walk.specs.Found.{IsSearchOf, MayExplore};
-ghost use Rattle.strip_worker.specs.Team.{GoesOn, HasClaimed, HasFront, HasWorked, IsSearchBy, OwnsFront, WalksPart, WalksTask, beginning};
+ghost use Rattle.strip_walk.specs.Found.{MayExplore};
+ghost use Rattle.strip_worker.specs.Team.{HasClaimed, HasEnded, HasWorked, HasWorkedOn, MayStart, OwnsFront, WorksOn};
+ghost use Rattle.strip_worker.specs.Team.{WalksPart, WalksTask, beginning};
 
 use crate::gate::{Gate, Worker};
 use crate::walked::Walked;
@@ -33,11 +33,8 @@ pub fn go_down_front<H: Hand, F: Fn(u64, u64) -> u64>(
 ) -> Result<Walked, Memory>
     requires sound { H.is_sound hand.old }
     requires keeps { Keeps (F.pre kept.now.f) (F.post kept.now.f) kept.now.kind kept.now.film.now }
-    requires search { IsSearchBy kept.now.kind kept.now.film.now (H.shows hand.old).search }
-    requires some_lines { 1 ≤ (H.shows hand.old).search.cap }
-    requires claimed { HasFront (H.shows hand.old) }
-    requires tasks { (H.shows hand.old).search.tasks ≡ (front_data front.old).tasks }
-    requires front { IsEmptyFront (search_rules (H.shows hand.old).search) (front_data front.old) }
+    requires search { IsSearchOf kept.now.kind kept.now.film.now (H.shows hand.old) }
+    requires may { MayStart (H.shows hand.old) (front_data front.old) }
     ensures sound { H.is_sound hand.new }
     ensures home { H.home hand.new ≡ H.home hand.old }
     ensures tasks { (front_data front.new).tasks ≡ (front_data front.old).tasks }
@@ -52,9 +49,9 @@ pub fn go_down_front<H: Hand, F: Fn(u64, u64) -> u64>(
 }
 
 /// Claims parts until none is left, and walks each task that is asked for, which the worker's gate is told
-/// of; with the front, which the caller went down, it does nothing. `walked` is what the hand found before, and then what it has found. It
-/// answers `Memory` only where the hand was refused it. The time may grow with the number of open paths
-/// that the start leaves.
+/// of; with the front, which the caller went down, it does nothing. `walked` is what the hand found before,
+/// and then what it has found. It answers `Memory` only where the hand was refused it. The time may grow
+/// with the number of open paths that the start leaves.
 pub fn work<H: Hand, F: Fn(u64, u64) -> u64, G: Gate>(
     kept: &StoredBound<F>,
     hand: &mut H,
@@ -65,16 +62,15 @@ pub fn work<H: Hand, F: Fn(u64, u64) -> u64, G: Gate>(
 ) -> Result<(), Memory>
     requires sound { H.is_sound hand.old }
     requires keeps { Keeps (F.pre kept.now.f) (F.post kept.now.f) kept.now.kind kept.now.film.now }
-    requires search { IsSearchBy kept.now.kind kept.now.film.now (H.shows hand.old).search }
     requires memo { IsMemo kept.now.kind kept.now.film.now memo.old }
-    requires worked { HasWorked (H.shows hand.old) (front_data front.now) walked.old.found.items walked.old.spent }
+    requires worked { HasWorkedOn kept.now.kind kept.now.film.now (H.shows hand.old) (front_data front.now)
+        walked.old.found.items walked.old.spent }
     ensures sound { H.is_sound hand.new }
     ensures home { H.home hand.new ≡ H.home hand.old }
     ensures memo { IsMemo kept.now.kind kept.now.film.now memo.new }
-    ensures goes_on { GoesOn (H.shows hand.old) (H.shows hand.new) }
-    ensures no_fewer { (H.shows hand.old).refusals ≤ (H.shows hand.new).refusals }
-    ensures worked { IfOk result (λ _. HasWorked (H.shows hand.new) (front_data front.now) walked.new.found.items walked.new.spent) }
-    ensures ended { IfOk result (λ _. (H.shows hand.new).ended ≡ true) }
+    ensures works_on { WorksOn (H.shows hand.old) (H.shows hand.new) }
+    ensures ended { IfOk result (λ _. HasEnded (H.shows hand.new) (front_data front.now)
+        walked.new.found.items walked.new.spent) }
     ensures memory { IfErr result (λ _. Rose (H.shows hand.old).refusals (H.shows hand.new).refusals) }
 {
     while let Some(part) = hand.claim() {
@@ -95,14 +91,15 @@ fn walk_part<H: Hand, F: Fn(u64, u64) -> u64, G: Gate>(
 ) -> Result<(), Memory>
     requires sound { H.is_sound hand.old }
     requires keeps { Keeps (F.pre kept.now.f) (F.post kept.now.f) kept.now.kind kept.now.film.now }
-    requires search { IsSearchBy kept.now.kind kept.now.film.now (H.shows hand.old).search }
     requires memo { IsMemo kept.now.kind kept.now.film.now memo.old }
-    requires claimed { HasClaimed (H.shows hand.old) (front_data front.now) walked.old.found.items walked.old.spent part }
+    requires claimed { HasClaimed kept.now.kind kept.now.film.now (H.shows hand.old) (front_data front.now)
+        walked.old.found.items walked.old.spent part }
     ensures sound { H.is_sound hand.new }
     ensures home { H.home hand.new ≡ H.home hand.old }
     ensures memo { IsMemo kept.now.kind kept.now.film.now memo.new }
     ensures walks { WalksPart (H.shows hand.old) part (H.shows hand.new) }
-    ensures worked { IfOk result (λ _. HasWorked (H.shows hand.new) (front_data front.now) walked.new.found.items walked.new.spent) }
+    ensures worked { IfOk result (λ _. HasWorked (H.shows hand.new) (front_data front.now)
+        walked.new.found.items walked.new.spent) }
     ensures memory { IfErr result (λ _. Rose (H.shows hand.old).refusals (H.shows hand.new).refusals) }
 {
     hand.keeps_limits();

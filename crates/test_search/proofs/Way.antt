@@ -62,7 +62,7 @@ module _ (kind : Kind) (film : FilmData) (before after : HandData) (front : Fron
 
   pub may_walk : IsFilm film → MayExplore after (beginning (suc task)) (task_at front task)
   may_walk is =
-      may_walk_task kind film front task within (front_open kind film front is was.front_of) after (way_claimed.search.same_film, way_claimed.search.same_kind)
+      may_walk_task kind film front task within (front_open kind film front is was.front_of) after way_claimed.search
       way_claimed.tasks claims.3
 
 -- ---- a task is walked

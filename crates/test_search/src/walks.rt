@@ -5,8 +5,8 @@ ghost use Rattle.strip_lines.specs.Lines.{rules_of};
 ghost use Rattle.strip_front.specs.Front.{IsEmptyFront};
 ghost use Rattle.strip_front.specs.Shown.{front_data};
 ghost use Rattle.strip_hand.specs.Calls.{Claims};
+ghost use Rattle.strip_hand.specs.Hand.{IsSearchOf};
 ghost use Rattle.test_search.specs.Way.{IsOnItsWay};
-ghost use Rattle.strip_worker.specs.Team.{IsSearchBy};
 ghost use Rattle.strip_memo.specs.Memo.{IsMemo};
 
 use std::alloc::Global;
@@ -27,7 +27,7 @@ pub(crate) fn search<H: Hand, F: Fn(u64, u64) -> u64>(
 ) -> Result<u64, Fail>
     requires sound { H.is_sound hand.old }
     requires keeps { Keeps (F.pre kept.now.f) (F.post kept.now.f) kept.now.kind kept.now.film.now }
-    requires search { IsSearchBy kept.now.kind kept.now.film.now (H.shows hand.old).search }
+    requires search { IsSearchOf kept.now.kind kept.now.film.now (H.shows hand.old) }
     requires tasks { (H.shows hand.old).search.tasks ≡ (front_data front.old).tasks }
     requires front { IsEmptyFront (rules_of kept.now.kind kept.now.film.now) (front_data front.old) }
     ensures sound { H.is_sound hand.new }
@@ -48,7 +48,7 @@ fn begin<H: Hand, F: Fn(u64, u64) -> u64>(
 ) -> Result<Vec<u64>, Fail>
     requires sound { H.is_sound hand.old }
     requires keeps { Keeps (F.pre kept.now.f) (F.post kept.now.f) kept.now.kind kept.now.film.now }
-    requires search { IsSearchBy kept.now.kind kept.now.film.now (H.shows hand.old).search }
+    requires search { IsSearchOf kept.now.kind kept.now.film.now (H.shows hand.old) }
     requires tasks { (H.shows hand.old).search.tasks ≡ (front_data front.old).tasks }
     requires front { IsEmptyFront (rules_of kept.now.kind kept.now.film.now) (front_data front.old) }
     ensures sound { H.is_sound hand.new }

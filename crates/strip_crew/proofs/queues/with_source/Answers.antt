@@ -22,5 +22,5 @@ returns c =
     = subst (λ (tasks : ℕ). ArePartsOf tasks c.deref-2.result.now) (ap length c.deref.ensures.value ∙ c.requires.wanted)
     (subst (ArePartsOf (length c.deref.result.now)) (sym c.deref-2.ensures.value) c.in_ok-numbers.ensures) in
     has_queues c.args.least.now c.args.book.now c.args.passes c.in_ok-pool.pool front c.deref-2.result.now c.args.workers
-    c.requires.passes c.requires.counter c.requires.claimed c.requires.tasks parts
+    c.requires.passes c.requires.only.counter c.requires.only.claimed c.requires.tasks parts
     c.in_ok-pool.ensures.pool c.in_ok-pool.ensures.dealt c.in_ok-pool.ensures.handed c.in_ok-pool.ensures.untaken

@@ -1,7 +1,9 @@
-use Rattle.std.proofs.Common.{◌≡◌, ◌∙◌, ℕ, Option, Some, [], ap, sym, subst, arith}
+use Rattle.std.proofs.Common.{◌≡◌, ◌≤◌, ◌∙◌, ℕ, Option, Some, [], ap, sym, subst, arith}
+use Rattle.strip_front.specs.Calls.{IsUnfilled}
 use Rattle.strip_front.specs.Front.{FrontData}
 use Rattle.strip_front.specs.Shown.{front_data}
 use Rattle.strip_hand.specs.Hand.{HandData, RecordData}
+use Rattle.strip_hand.specs.Search.{SearchData}
 use Rattle.strip_least.specs.declared.pass.LeastPass.{LeastPass}
 use Rattle.strip_least.specs.Pass.{known as known_least}
 use Rattle.strip_least.specs.Rule.{full_weight}
@@ -23,22 +25,30 @@ use Rattle.strip_crew.proofs.Done.{unasked}
 use Rattle.strip_crew.proofs.racing.begin.Goals as goal
 
 -- the first claim of the only passes that there are is the front
-pub go_down_front-requires-clause-claimed : goal.go_down_front-requires-clause-claimed
-go_down_front-requires-clause-claimed g c =
+pub go_down_front-requires-clause-may : goal.go_down_front-requires-clause-may
+go_down_front-requires-clause-may g c =
     let first = c.of-hub.result in
     let claimed = c.claim.new.self in
     let begin = c.requires.begin in
     let counter : first.source ≡ Counter = c.of-hub.ensures.passes.2 ∙ begin.counter in
     let unclaimed : (known_least c.args.passes.told).claims ≡ []
     = nothing_claimed c.args.passes.source (known_least c.args.passes.told) (known c.args.passes.lines) begin.are.together begin.unclaimed in
-    claimed_front (known_least first.told) (known_least claimed.told) c.claim.result (hand_of first.source (known_least first.told) (known first.lines) first.asked first.noted)
-    (hand_of claimed.source (known_least claimed.told) (known claimed.lines) claimed.asked claimed.noted) (c.claim.ensures.next counter)
-    (ap (λ (p : LeastPass). (known_least p).ended) c.of-hub.ensures.passes.0 ∙ begin.unended)
-    (ap (λ (p : LeastPass). (known_least p).weight) c.of-hub.ensures.passes.0 ∙ begin.full.told)
-    (ap (λ (p : LeastPass). (known_least p).claims) c.of-hub.ensures.passes.0 ∙ unclaimed)
-    (omega (arith, ap (λ (p : LeastPass). (known_least p).parts) c.of-hub.ensures.passes.0, begin.are.together.parts))
-    c.claim.ensures.claimed
-    (λ part. ap (λ (p : BookPass). record_at part (known p).entries) c.of-hub.ensures.passes.1 ∙ ap (record_at part) begin.unclaimed)
+    let search : (hand_of claimed.source (known_least claimed.told) (known claimed.lines) claimed.asked claimed.noted).search ≡ (shown c.args.passes).search
+    = claim_stays c.claim.result (hand_of first.source (known_least first.told) (known first.lines) first.asked first.noted)
+    (hand_of claimed.source (known_least claimed.told) (known claimed.lines) claimed.asked claimed.noted) c.claim.ensures.claimed
+    ∙ ap (λ (p : BookPass). (known p).search) c.of-hub.ensures.passes.1 in
+    record {
+      some_lines = subst (λ (s : SearchData). 1 ≤ s.cap) (sym search) begin.some_lines;
+      claimed = claimed_front (known_least first.told) (known_least claimed.told) c.claim.result (hand_of first.source (known_least first.told) (known first.lines) first.asked first.noted)
+          (hand_of claimed.source (known_least claimed.told) (known claimed.lines) claimed.asked claimed.noted) (c.claim.ensures.next counter)
+          (ap (λ (p : LeastPass). (known_least p).ended) c.of-hub.ensures.passes.0 ∙ begin.unended)
+          (ap (λ (p : LeastPass). (known_least p).weight) c.of-hub.ensures.passes.0 ∙ begin.full.told)
+          (ap (λ (p : LeastPass). (known_least p).claims) c.of-hub.ensures.passes.0 ∙ unclaimed)
+          (omega (arith, ap (λ (p : LeastPass). (known_least p).parts) c.of-hub.ensures.passes.0, begin.are.together.parts))
+          c.claim.ensures.claimed
+          (λ part. ap (λ (p : BookPass). record_at part (known p).entries) c.of-hub.ensures.passes.1 ∙ ap (record_at part) begin.unclaimed);
+      unfilled = subst (λ (s : SearchData). IsUnfilled s (front_data c.args.front.now)) (sym search) begin.unfilled;
+    }
 
 pub returns : goal.returns
 returns g c =
@@ -84,10 +94,12 @@ returns g c =
     record {
       passes = c.settle.ensures.passes;
       full = c.settle.ensures.same full_weight full;
-      counter = settled_counter;
-      claimed = front_alone c.other_parts_have_no_record.ensures settled.source (known_least settled.told) (known settled.lines) c.settle.ensures.passes.together settled_counter
-          (later 0 ∙ subst (λ (task : ℕ). hub_record task ≡ Some (record { last = cursor.last; number = down.stands.0 })) down.task down.stands.1)
-          (λ part apart. later part ∙ down.others part apart ∙ has_front.others part apart);
+      only = record {
+        counter = settled_counter;
+        claimed = front_alone c.other_parts_have_no_record.ensures settled.source (known_least settled.told) (known settled.lines) c.settle.ensures.passes.together settled_counter
+            (later 0 ∙ subst (λ (task : ℕ). hub_record task ≡ Some (record { last = cursor.last; number = down.stands.0 })) down.task down.stands.1)
+            (λ part apart. later part ∙ down.others part apart ∙ has_front.others part apart);
+      };
       search = c.settle.ensures.settled.goes_on.search ∙ ap (λ (p : BookPass). (known p).search) c.parts-passes.ensures.1 ∙ ap (λ (h : HandData). h.search) down.only
           ∙ claim_stays c.claim.result (hand_of first.source (known_least first.told) (known first.lines) first.asked first.noted)
           (hand_of claimed.source (known_least claimed.told) (known claimed.lines) claimed.asked claimed.noted) c.claim.ensures.claimed

@@ -1,6 +1,7 @@
 use Rattle.std.proofs.Common.{◌≡◌, ◌∙◌, ap, sym, subst}
 use Rattle.strip_front.specs.Shown.{front_data}
 use Rattle.strip_hand.specs.Hand.{HandData}
+use Rattle.strip_hand.specs.Search.{GoesBy}
 use Rattle.strip_least.specs.declared.pass.LeastPass.{LeastPass}
 use Rattle.strip_least.specs.Pass.{known as known_least}
 use Rattle.strip_least.specs.Rule.{full_weight}
@@ -9,7 +10,7 @@ use Rattle.strip_book.specs.Pass.{known}
 use Rattle.strip_hub.specs.declared.hub.HubParts.{HubParts}
 use Rattle.strip_hub.specs.Source.{source_home}
 use Rattle.strip_hub.specs.Hub.{HubHome, hand_of}
-use Rattle.strip_worker.specs.Team.{GoesOn, HasWorked}
+use Rattle.strip_worker.specs.Team.{GoesOn, HasWorkedOn}
 use Rattle.strip_worker.proofs.Moved.{moved_same}
 use Rattle.strip_crew.specs.Crew.{Weigh, shown}
 use Rattle.strip_crew.proofs.Done.{goes_from_unasked}
@@ -21,11 +22,14 @@ pub close-requires-clause-worked : goal.close-requires-clause-worked
 close-requires-clause-worked g c =
     let settled : HubParts = c.settle.new.passes in
     let hub = c.of-hub.result in
+    let on = c.settle.ensures.settled.goes_on in
     let same : shown settled ≡ hand_of hub.source (known_least hub.told) (known hub.lines) hub.asked hub.noted
     = (λ i. hand_of (sym c.of-hub.ensures.passes.2 i) (known_least (sym c.of-hub.ensures.passes.0 i)) (known (sym c.of-hub.ensures.passes.1 i)) (sym c.of-hub.ensures.unasked.0 i) (sym c.of-hub.ensures.unasked.1 i)) in
-    subst (λ (h : HandData). HasWorked h (front_data c.args.front.now) c.args.walked.now.found.items c.args.walked.now.spent) same
-    (moved_same (shown c.args.passes) (shown settled) c.settle.ensures.settled.goes_on (front_data c.args.front.now) c.args.walked.now.found.items c.args.walked.now.spent
-    c.requires.worked (λ _. c.settle.ensures.passes.book_pass.few) c.settle.ensures.settled.records)
+    subst (λ (h : HandData). HasWorkedOn c.args.kept.now.kind c.args.kept.now.film.now h (front_data c.args.front.now) c.args.walked.now.found.items c.args.walked.now.spent) same (record {
+      search = subst (GoesBy c.args.kept.now.kind c.args.kept.now.film.now) (sym on.search) c.requires.worked.search;
+      worked = moved_same (shown c.args.passes) (shown settled) on (front_data c.args.front.now) c.args.walked.now.found.items c.args.walked.now.spent
+          c.requires.worked.worked (λ _. c.settle.ensures.passes.book_pass.few) c.settle.ensures.settled.records;
+    })
 
 pub returns : goal.returns
 returns g c =

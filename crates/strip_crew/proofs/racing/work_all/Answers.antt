@@ -1,22 +1,30 @@
-use Rattle.std.proofs.Common.{ℕ, ◌-◌, subst, arith}
+use Rattle.std.proofs.Common.{ℕ, ◌-◌, refl, sym, subst, arith}
 use Rattle.strip_front.specs.Shown.{front_data}
+use Rattle.strip_hand.specs.Search.{GoesBy}
 use Rattle.strip_least.specs.Rule.{full_weight}
 use Rattle.strip_worker.proofs.Moved.{moved_same}
 use Rattle.strip_crew.specs.Crew.{Weigh, shown}
 use Rattle.strip_crew.proofs.Done.{goes_after}
 use Rattle.strip_crew.proofs.racing.work_all.Goals as goal
 
-pub work_beside-requires-clause-weight : goal.work_beside-requires-clause-weight
-work_beside-requires-clause-weight g c = λ κs outlives. (
-  4294967295 - c.args.workers,
-  subst (λ (w : ℕ). Weigh w c.in_ok-passes.passes) (omega (arith, c.requires.workers.1)) (c.in_ok-passes.ensures.full c.requires.full),
-)
+pub work_beside-requires-clause-split : goal.work_beside-requires-clause-split
+work_beside-requires-clause-split g c = λ κs outlives. record {
+  weight = (
+    4294967295 - c.args.workers,
+    subst (λ (w : ℕ). Weigh w c.in_ok-passes.passes) (omega (arith, c.requires.workers.1)) (c.in_ok-passes.ensures.full c.requires.full),
+  );
+  deals = c.in_ok-passes.ensures.deals;
+  home_is = refl;
+}
 
 pub work_beside-requires-clause-worked : goal.work_beside-requires-clause-worked
 work_beside-requires-clause-worked g c κs within =
     let ready = c.in_ok-passes.ensures in
-    moved_same (shown c.args.passes) (shown c.in_ok-passes.passes) ready.goes_on (front_data c.args.front.now) c.args.walked.now.found.items c.args.walked.now.spent
-    c.requires.worked (λ _. ready.passes.book_pass.few) ready.records
+    record {
+      search = subst (GoesBy c.args.kept.now.kind c.args.kept.now.film.now) (sym ready.goes_on.search) c.requires.worked.search;
+      worked = moved_same (shown c.args.passes) (shown c.in_ok-passes.passes) ready.goes_on (front_data c.args.front.now) c.args.walked.now.found.items c.args.walked.now.spent
+          c.requires.worked.worked (λ _. ready.passes.book_pass.few) ready.records;
+    }
 
 pub returns-then-walked-clause-worked : goal.returns-then-walked-clause-worked
 returns-then-walked-clause-worked g c = c.work_alone.ensures.worked full_weight

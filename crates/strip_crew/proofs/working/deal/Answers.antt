@@ -2,7 +2,8 @@ use Rattle.std.proofs.Common.{◌∙◌, ℕ, suc, ◌+◌, ◌-◌, ap, arith, 
 use Rattle.std.proofs.lemmas.List.Elements.{All-push}
 use Rattle.strip_front.specs.Shown.{front_data}
 use Rattle.strip_hand.specs.Hand.{HandData}
-use Rattle.strip_worker.specs.Team.{IsFresh, IsSearchBy}
+use Rattle.strip_hand.specs.Search.{GoesBy}
+use Rattle.strip_worker.specs.Team.{IsFresh}
 use Rattle.strip_crew.specs.Crew.{AreDealt, IsJob, Weigh, shown}
 use Rattle.strip_crew.specs.Sources.{Deals, split_home}
 use Rattle.strip_crew.proofs.working.deal.Goals as goal
@@ -40,7 +41,7 @@ loop-desk-preserved g c =
             light = split.light;
             worker = split.worker;
             from = split.from ∙ was.home;
-            search = subst (IsSearchBy kind film) (sym (split.fresh.search ∙ ap (λ (h : HandData). h.search) was.same)) c.requires.search;
+            search = subst (GoesBy kind film) (sym (split.fresh.search ∙ ap (λ (h : HandData). h.search) was.same)) c.requires.search;
             worked = c.in_ok-walked.ensures.worked (shown c.args.passes.now) (shown c.in_ok-split.field-0) c.requires.worked.0 c.requires.worked.1
                 (subst (λ (h : HandData). IsFresh h (shown c.in_ok-split.field-0)) was.same split.fresh);
             memo = c.in_ok-memo.ensures.memo;

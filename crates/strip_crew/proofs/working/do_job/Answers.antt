@@ -1,5 +1,5 @@
 use Rattle.std.proofs.Common.{◌∙◌, sym, subst}
-use Rattle.strip_worker.specs.Team.{IsSearchBy}
+use Rattle.strip_hand.specs.Search.{GoesBy}
 use Rattle.strip_crew.proofs.working.do_job.Goals as goal
 
 pub returns : goal.returns
@@ -11,7 +11,7 @@ returns g c =
         light = done.weight c.requires.job.light;
         worker = c.in_ok-passes.ensures.worker;
         from = c.in_ok-passes.ensures.home ∙ c.requires.job.from;
-        search = subst (IsSearchBy c.args.kept.now.kind c.args.kept.now.film.now) (sym done.goes_on.search) c.requires.job.search;
+        search = subst (GoesBy c.args.kept.now.kind c.args.kept.now.film.now) (sym done.goes_on.search) c.requires.job.search;
         worked = done.worked;
         memo = c.work_alone.ensures.memo;
       };

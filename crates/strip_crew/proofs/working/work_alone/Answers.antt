@@ -40,7 +40,7 @@ returns-clause-worked g c = λ weight. (
           c.parts.ensures.2 c.parts.ensures.0 c.parts.ensures.1 c.requires.named c.work.ensures.sound;
       goes_on = subst (λ (p : HubParts). GoesOn (shown given) (shown p)) (sym back)
           (goes_unasked (shown given) hub.source (known_least hub.told) (known hub.lines) hub.asked hub.noted
-          (subst (λ (h : HandData). GoesOn h (hand_of hub.source (known_least hub.told) (known hub.lines) hub.asked hub.noted)) same c.work.ensures.goes_on));
+          (subst (λ (h : HandData). GoesOn h (hand_of hub.source (known_least hub.told) (known hub.lines) hub.asked hub.noted)) same c.work.ensures.works_on.goes_on));
       weight = λ weigh. record {
         told = ap (λ (p : LeastPass). (known_least p).weight) c.parts.ensures.0 ∙ ap (λ (h : HubHome). h.told_weight) c.work.ensures.home
             ∙ ap (λ (p : LeastPass). (known_least p).weight) given_told ∙ weigh.told;
@@ -50,8 +50,8 @@ returns-clause-worked g c = λ weight. (
       };
       worked = subst (λ (p : HubParts). HasWorked (shown p) (front_data c.args.front.now) c.work.new.walked.found.items c.work.new.walked.spent) (sym back)
           (unasked hub.source (known_least hub.told) (known hub.lines) hub.asked hub.noted (front_data c.args.front.now) c.work.new.walked.found.items
-          c.work.new.walked.spent c.work.ensures.sound.book_pass.few c.in_ok-work.ensures.worked);
+          c.work.new.walked.spent c.work.ensures.sound.book_pass.few c.in_ok-work.ensures.ended.worked);
       left = subst NoPartLeft (sym back)
           (none_left given.source hub.source (ap (λ (h : HubHome). h.source) c.work.ensures.home ∙ ap source_home given_source) c.requires.worker
-          (known_least hub.told).ended c.in_ok-work.ensures.ended);
+          (known_least hub.told).ended c.in_ok-work.ensures.ended.ended);
     })

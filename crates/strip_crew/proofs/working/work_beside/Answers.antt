@@ -10,6 +10,12 @@ use Rattle.strip_crew.specs.Crew.{IsDone, IsJob, Weigh, shown}
 use Rattle.strip_crew.proofs.Done.{all_before, all_last, goes_after, goes_self}
 use Rattle.strip_crew.proofs.working.work_beside.Goals as goal
 
+pub deal-requires-clause-worked : goal.deal-requires-clause-worked
+deal-requires-clause-worked g c = (
+  c.args.walked.now.found.items,
+  subst (HasWorked (shown c.args.passes.now) (front_data c.args.front.now) c.args.walked.now.found.items) c.requires.whole c.requires.worked.worked,
+)
+
 pub loop-one-init : goal.loop-one-init
 loop-one-init g c =
     let dealt = c.in_ok-jobs.ensures in
@@ -18,13 +24,13 @@ loop-one-init g c =
       passes = dealt.passes;
       goes_on = subst (GoesOn (shown c.args.passes.now)) (sym dealt.same) (goes_self (shown c.args.passes.now));
       weight = λ total weigh. (
-        1 + c.requires.weight.0,
-        omega (arith, weigh.told, c.requires.weight.1.told, c.in_ok-all.ensures.count, dealt.count),
-        dealt.weight (1 + c.requires.weight.0) c.requires.weight.1,
+        1 + c.requires.split.weight.0,
+        omega (arith, weigh.told, c.requires.split.weight.1.told, c.in_ok-all.ensures.count, dealt.count),
+        dealt.weight (1 + c.requires.split.weight.0) c.requires.split.weight.1,
       );
-      worked = subst (λ (h : HandData). HasWorked h (front_data c.args.front.now) c.args.walked.now.found.items c.args.walked.now.spent) (sym dealt.same) c.requires.worked;
+      worked = subst (λ (h : HandData). HasWorked h (front_data c.args.front.now) c.args.walked.now.found.items c.args.walked.now.spent) (sym dealt.same) c.requires.worked.worked;
       all = c.in_ok-all.ensures.each;
-      home = dealt.home ∙ c.requires.home;
+      home = dealt.home ∙ c.requires.split.home_is;
       left = inl (omega (arith, c.in_ok-all.ensures.count, dealt.count));
     }
 
@@ -52,7 +58,7 @@ gather-requires-clause-from g c =
 pub do_jobs-requires-clause-jobs : goal.do_jobs-requires-clause-jobs
 do_jobs-requires-clause-jobs g c = λ κs outlives.
     subst (λ (home : SourceHome). All (IsJob c.args.kept.now.kind c.args.kept.now.film.now (front_data c.args.front.now) c.args.tables.now.least c.args.tables.now.book home) c.in_ok-jobs.jobs.items)
-    c.requires.home c.in_ok-jobs.ensures.jobs_are
+    c.requires.split.home_is c.in_ok-jobs.ensures.jobs_are
 
 pub loop-one-preserved : goal.loop-one-preserved
 loop-one-preserved g c =
@@ -84,7 +90,7 @@ returns-clause-worked g c = λ so_much. (
       weight = λ weigh. (let got = was.weight so_much weigh in subst (λ (n : ℕ). Weigh n c.loop-one.passes) (omega (arith, got.1, empty)) got.2);
       worked = was.worked;
       left = elim was.left [
-        | inl all ↦ absurd (omega (arith, all, empty, c.requires.some))
+        | inl all ↦ absurd (omega (arith, all, empty, c.requires.workers.0))
         | inr is ↦ is
       ];
     })

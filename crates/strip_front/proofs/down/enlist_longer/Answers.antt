@@ -1,19 +1,18 @@
-use Rattle.std.proofs.Common.{◌≡◌, ℕ, None, slice_set, true, Result, ◌<◌, ◌∙◌, Ok, ap, sym, subst, arith, length}
+use Rattle.std.proofs.Common.{◌≡◌, None, slice_set, Result, ◌<◌, ◌∙◌, Ok, ap, sym, subst, arith, length}
 use Rattle.std.proofs.lemmas.List.{get_or-set_other, get_or-set_same, length-map, length-set}
 use Rattle.strip_io.specs.declared.files.Memory.{Memory}
-use Rattle.strip_count.specs.Parts.{lies_in}
 use Rattle.strip_film.specs.Path.{PathData}
 use Rattle.strip_film.specs.Shown.{cursor_data, path_data}
 use Rattle.strip_hand.specs.Hand.{HandData}
-use Rattle.strip_hand.specs.Search.{SearchData, depth_of}
+use Rattle.strip_hand.specs.Search.{SearchData}
 use Rattle.strip_front.specs.declared.down.Tried.{Tried}
 use Rattle.strip_front.specs.Calls.{GoesDown}
 use Rattle.strip_front.specs.Front.{FrontData, path_at}
 use Rattle.strip_front.specs.Shown.{front_data}
-use Rattle.strip_front.specs.Tried.{IsEnlisted, Tries, has_spent}
+use Rattle.strip_front.specs.Tried.{IsEnlisted, MayTry, Tries, has_spent}
 use Rattle.strip_front.proofs.FrontFacts.{FrontFacts, front_facts}
 use Rattle.strip_front.proofs.GoneDown.{down_then, tries_down}
-use Rattle.strip_front.proofs.Tried.{MayTry, all_tried, may_try, path_read, tried_at, tried_more}
+use Rattle.strip_front.proofs.Tried.{all_tried, may_try, path_read, tried_at, tried_more}
 use Rattle.strip_front.proofs.down.enlist_longer.Given.{Over}
 use Rattle.strip_front.proofs.down.enlist_longer.Goals as goal
 use Rattle.strip_front.proofs.down.enlist_longer.Goals.{After-index-paths-place, After-try_path, In-loop-place}
@@ -24,10 +23,10 @@ same_search g c = ap (λ (h : HandData). h.search) c.loop-place.invariant.down.o
 facts : (g : Over) (c : goal.In-loop-place g)
     → FrontFacts (g.H.Hand.shows c.args.hand.now).search.kind (g.H.Hand.shows c.args.hand.now).search.film (front_data c.args.front.now)
 facts g c =
-    front_facts (g.H.Hand.shows c.args.hand.now).search.kind (g.H.Hand.shows c.args.hand.now).search.film (front_data c.args.front.now) c.keeps_limits.ensures.film c.requires.front
+    front_facts (g.H.Hand.shows c.args.hand.now).search.kind (g.H.Hand.shows c.args.hand.now).search.film (front_data c.args.front.now) c.keeps_limits.ensures.film c.requires.begun.front_of
 
 within : (g : Over) (c : goal.In-loop-place g) → c.loop-place.place < length (front_data c.args.front.now).paths
-within g c = omega (arith, c.loop-place-test.true, c.len-place-end.ensures, c.requires.front.lines)
+within g c = omega (arith, c.loop-place-test.true, c.len-place-end.ensures, c.requires.begun.front_of.lines)
 
 path_is : (g : Over) (c : goal.After-index-paths-place g) → path_data c.index-paths-place.result ≡ path_at (front_data c.args.front.now) c.loop-place.place
 path_is g c =
@@ -43,22 +42,14 @@ may g c =
     let at = (goal.at.After-index-paths-place g c).In-loop-place in
     subst (MayTry (g.H.Hand.shows c.loop-place.hand).search (cursor_data c.loop-place.cursor)) (sym (path_is g c))
     (subst (λ (s : SearchData). MayTry s (cursor_data c.loop-place.cursor) (path_at (front_data c.args.front.now) c.loop-place.place)) (sym (same_search g at))
-    (may_try (g.H.Hand.shows c.args.hand.now).search (cursor_data c.loop-place.cursor) (front_data c.args.front.now) (facts g at) c.requires.tasks
+    (may_try (g.H.Hand.shows c.args.hand.now).search (cursor_data c.loop-place.cursor) (front_data c.args.front.now) (facts g at) c.requires.begun.tasks
     c.loop-place.invariant.down.task c.loop-place.place (within g at) (g.H.Hand.shows c.loop-place.hand) c.loop-place.front.lines.items c.loop-place.spent c.loop-place.invariant.tried))
 
-pub try_path-requires-clause-path : goal.try_path-requires-clause-path
-try_path-requires-clause-path g c = (may g (goal.at.try_path-requires-clause-path g c).After-index-paths-place).is_open
+pub try_path-requires-clause-stands : goal.try_path-requires-clause-stands
+try_path-requires-clause-stands g c = record { stands = c.loop-place.invariant.down.stands; task = c.loop-place.invariant.down.task }
 
-pub try_path-requires-clause-lies : goal.try_path-requires-clause-lies
-try_path-requires-clause-lies g c =
-    subst (λ (part : ℕ). lies_in (depth_of (g.H.Hand.shows c.loop-place.hand).search) (g.H.Hand.shows c.loop-place.hand).search.tasks part (path_data c.index-paths-place.result) ≡ true)
-    c.loop-place.invariant.down.task (may g (goal.at.try_path-requires-clause-lies g c).After-index-paths-place).lies
-
-pub try_path-requires-clause-later : goal.try_path-requires-clause-later
-try_path-requires-clause-later g c = (may g (goal.at.try_path-requires-clause-later g c).After-index-paths-place).later
-
-pub try_path-requires-clause-some : goal.try_path-requires-clause-some
-try_path-requires-clause-some g c = (may g (goal.at.try_path-requires-clause-some g c).After-index-paths-place).some
+pub try_path-requires-clause-may : goal.try_path-requires-clause-may
+try_path-requires-clause-may g c = may g (goal.at.try_path-requires-clause-may g c).After-index-paths-place
 
 down : (g : Over) (c : goal.After-try_path g) → GoesDown (g.H.Hand.shows c.args.hand.now) (g.H.Hand.shows c.try_path.new.hand) (cursor_data c.try_path.new.cursor)
 down g c =
@@ -80,14 +71,14 @@ pub returns-clause-enlisted : goal.returns-clause-enlisted
 returns-clause-enlisted g c =
     subst (λ (f : FrontData). IsEnlisted (g.H.Hand.shows c.loop-place.hand) (cursor_data c.loop-place.cursor) f c.loop-place.spent) (sym c.loop-place.invariant.only)
     (all_tried (g.H.Hand.shows c.loop-place.hand) (cursor_data c.loop-place.cursor) (record (front_data c.args.front.now) { lines = c.loop-place.front.lines.items }) c.loop-place.spent
-    c.loop-place.place (omega (arith, c.loop-place-test.false, c.len-place-end.ensures, c.requires.front.lines)) c.loop-place.invariant.tried)
+    c.loop-place.place (omega (arith, c.loop-place-test.false, c.len-place-end.ensures, c.requires.begun.front_of.lines)) c.loop-place.invariant.tried)
 
 pub loop-place-preserved : goal.loop-place-preserved
 loop-place-preserved g c =
     let at = (goal.at.loop-place-preserved g c).After-try_path in
     let here = (goal.at.After-try_path g at).After-index-paths-place in
     let room : c.loop-place.place < length c.loop-place.front.lines.items
-    = omega (arith, within g (goal.at.After-index-paths-place g here).In-loop-place, c.loop-place.invariant.room, c.requires.front.lines) in
+    = omega (arith, within g (goal.at.After-index-paths-place g here).In-loop-place, c.loop-place.invariant.room, c.requires.begun.front_of.lines) in
     record {
       sound = c.try_path.ensures.sound;
       home = c.try_path.ensures.home ∙ c.loop-place.invariant.home;

@@ -1,33 +1,25 @@
-use Rattle.std.proofs.Common.{◌≡◌, ◌<◌, ◌∙◌, ℕ, List, length, sym, ap, subst, arith}
+use Rattle.std.proofs.Common.{◌≡◌, ◌+◌, ◌<◌, ◌∙◌, ℕ, List, length, sym, ap, subst, arith}
 use Rattle.std.proofs.lemmas.List.{length-map}
 use Rattle.strip_film.specs.Path.{PathData}
 use Rattle.strip_film.specs.Shown.{path_data}
-use Rattle.strip_front.specs.Calls.{AreFound}
-use Rattle.strip_front.specs.Filled.{IsFilled}
+use Rattle.strip_front.specs.Calls.{IsWalked}
 use Rattle.strip_front.specs.Front.{FrontData, path_at}
-use Rattle.strip_front.specs.Raised.{ReachesFrom}
+use Rattle.strip_front.specs.Raised.{IsRaisedTo, ReachesFrom}
 use Rattle.strip_front.specs.Shown.{front_data}
 use Rattle.strip_front.proofs.Raised.{longer_still, one_more_passed, one_more_raised}
-use Rattle.strip_front.proofs.Small.{filled_still, found_still, learns_then}
+use Rattle.strip_front.proofs.Small.{learns_then, walked_still}
 use Rattle.strip_front.proofs.Tried.{path_read}
 use Rattle.strip_front.proofs.up.raise_layer.Given.{Over}
 use Rattle.strip_front.proofs.up.raise_layer.Goals as goal
 use Rattle.strip_front.proofs.up.raise_layer.Goals.{After-scenes, In-loop-place}
 
 within : (g : Over) (c : goal.In-loop-place g) → c.loop-place.place < length (front_data c.args.front.now).paths
-within g c = omega (arith, c.loop-place-test.true, c.len-place-end.ensures, c.requires.front.lines)
+within g c = omega (arith, c.loop-place-test.true, c.len-place-end.ensures, c.requires.raised.walked.front_of.lines)
 
-still_filled : (g : Over) (c : goal.In-loop-place g) → IsFilled (g.H.Hand.shows c.loop-place.hand) (front_data c.args.front.now)
-still_filled g c = filled_still (g.H.Hand.shows c.args.hand.now) (g.H.Hand.shows c.loop-place.hand) c.loop-place.invariant.learns (front_data c.args.front.now) c.requires.filled
-
-pub raise_path-requires-clause-filled : goal.raise_path-requires-clause-filled
-raise_path-requires-clause-filled g c =
-    subst (IsFilled (g.H.Hand.shows c.loop-place.hand)) (sym c.loop-place.invariant.front) (still_filled g (goal.at.raise_path-requires-clause-filled g c).In-loop-place)
-
-pub raise_path-requires-clause-found : goal.raise_path-requires-clause-found
-raise_path-requires-clause-found g c =
-    subst (λ (f : FrontData). AreFound (g.H.Hand.shows c.loop-place.hand) f c.args.found.now) (sym c.loop-place.invariant.front)
-    (found_still (g.H.Hand.shows c.args.hand.now) (g.H.Hand.shows c.loop-place.hand) c.loop-place.invariant.learns (front_data c.args.front.now) c.args.found.now c.requires.found)
+still_walked : (g : Over) (c : goal.In-loop-place g) → IsWalked (g.H.Hand.shows c.loop-place.hand) (front_data c.args.front.now) c.args.found.now
+still_walked g c =
+    walked_still (g.H.Hand.shows c.args.hand.now) (g.H.Hand.shows c.loop-place.hand) c.loop-place.invariant.learns (front_data c.args.front.now) c.args.found.now
+    c.requires.raised.walked
 
 same_paths : (g : Over) (c : goal.In-loop-place g) → length c.loop-place.front.paths.paths.items ≡ length c.args.front.now.paths.paths.items
 same_paths g c =
@@ -43,6 +35,18 @@ count_is g c =
     (path_read c.paths.result.now c.loop-place.front.paths.paths.items c.loop-place.place c.index-paths-place.result c.paths.ensures
     (omega (arith, within g at, same_paths g at, length-map c.args.front.now.paths.paths.items path_data)) c.index-paths-place.is
     ∙ ap (λ (f : FrontData). path_at f c.loop-place.place) c.loop-place.invariant.front)
+
+pub raise_path-requires-clause-raised : goal.raise_path-requires-clause-raised
+raise_path-requires-clause-raised g c =
+    let here = (goal.at.raise_path-requires-clause-raised g c).After-scenes in
+    let at = (goal.at.After-scenes g here).In-loop-place in
+    let hand = g.H.Hand.shows c.loop-place.hand in
+    let place = c.loop-place.place in
+    subst (λ (f : FrontData). IsRaisedTo hand f c.args.found.now c.loop-place.front.numbers.items (length (path_at f place).scenes + 1)) (sym c.loop-place.invariant.front) (record {
+      walked = still_walked g at;
+      root = c.requires.raised.root;
+      raised = λ other there long. c.loop-place.invariant.longer other there (omega (arith, long, count_is g here, c.if-scenes-scene_count.false));
+    })
 
 pub loop-place-preserved-then-scenes-scene_count : goal.loop-place-preserved-then-scenes-scene_count
 loop-place-preserved-then-scenes-scene_count g c =
@@ -74,8 +78,8 @@ loop-place-preserved g c =
       home = c.raise_path.ensures.home ∙ c.loop-place.invariant.home;
       learns = learns_then (g.H.Hand.shows c.args.hand.now) hand after c.loop-place.invariant.learns c.raise_path.ensures.learns;
       front = c.loop-place.invariant.front;
-      longer = longer_still hand after c.raise_path.ensures.learns front (still_filled g at) c.args.found.now c.loop-place.front.numbers.items c.loop-place.place c.in_ok-number.number
+      longer = longer_still hand after c.raise_path.ensures.learns front (still_walked g at).filled c.args.found.now c.loop-place.front.numbers.items c.loop-place.place c.in_ok-number.number
           c.args.scene_count (within g at) room count reached c.loop-place.invariant.longer;
-      before = one_more_raised hand after c.raise_path.ensures.learns front (still_filled g at) c.args.found.now c.loop-place.front.numbers.items c.loop-place.place c.in_ok-number.number
+      before = one_more_raised hand after c.raise_path.ensures.learns front (still_walked g at).filled c.args.found.now c.loop-place.front.numbers.items c.loop-place.place c.in_ok-number.number
           c.args.scene_count (within g at) room count reached c.loop-place.invariant.before;
     }

@@ -19,7 +19,7 @@ use Rattle.strip_front.proofs.up.raise_path.Goals.{After-index, After-least_over
 facts : (g : Over) (c : goal.After-index g)
     → FrontFacts (g.H.Hand.shows c.args.hand.now).search.kind (g.H.Hand.shows c.args.hand.now).search.film (front_data c.args.front.now)
 facts g c =
-    front_facts (g.H.Hand.shows c.args.hand.now).search.kind (g.H.Hand.shows c.args.hand.now).search.film (front_data c.args.front.now) c.keeps_limits-2.ensures.film c.requires.front
+    front_facts (g.H.Hand.shows c.args.hand.now).search.kind (g.H.Hand.shows c.args.hand.now).search.film (front_data c.args.front.now) c.keeps_limits-2.ensures.film c.requires.raised.walked.front_of
 
 rest_is : (g : Over) (c : goal.After-index g) → c.rest-rest.result.0 ≡ (path_at (front_data c.args.front.now) c.args.place).rest
 rest_is g c =
@@ -30,40 +30,40 @@ rest_is g c =
 deeper : (g : Over) (c : goal.After-index g)
     → AreRaised (g.H.Hand.shows c.args.hand.now) (front_data c.args.front.now) c.args.found.now c.args.front.now.numbers.items
     (suc (length (path_at (front_data c.args.front.now) c.args.place).scenes))
-deeper g c = λ other there long. c.requires.raised other there (omega (arith, long))
+deeper g c = λ other there long. c.requires.raised.raised other there (omega (arith, long))
 
 own_lies : (g : Over) (c : goal.After-index g) → LiesIn (g.H.Hand.shows c.args.hand.now).search.film c.rest-rest.result.0
 own_lies g c =
     subst (LiesIn (g.H.Hand.shows c.args.hand.now).search.film) (sym (rest_is g c))
-    (rest_in (g.H.Hand.shows c.args.hand.now) c.keeps_limits-2.ensures (front_data c.args.front.now) c.requires.front (facts g c) c.requires.filled c.args.found.now
-    c.requires.found c.args.front.now.numbers.items c.args.place c.requires.place (deeper g c))
+    (rest_in (g.H.Hand.shows c.args.hand.now) c.keeps_limits-2.ensures (front_data c.args.front.now) c.requires.raised.walked.front_of (facts g c) c.requires.raised.walked.filled c.args.found.now
+    c.requires.raised.walked.known_of c.args.front.now.numbers.items c.args.place c.requires.place (deeper g c))
 
 static_is : (g : Over) (c : goal.After-index g) (x : ℕ) → x ≡ bound c.args.kept.now.kind c.args.kept.now.film.now c.rest-rest.result.0
     → x ≡ bound (g.H.Hand.shows c.args.hand.now).search.kind (g.H.Hand.shows c.args.hand.now).search.film (path_at (front_data c.args.front.now) c.args.place).rest
 static_is g c x is =
-    is ∙ ap (λ (k : Kind). bound k c.args.kept.now.film.now c.rest-rest.result.0) (sym c.requires.kind)
-    ∙ ap (λ (f : FilmData). bound (g.H.Hand.shows c.args.hand.now).search.kind f c.rest-rest.result.0) (sym c.requires.film)
+    is ∙ ap (λ (k : Kind). bound k c.args.kept.now.film.now c.rest-rest.result.0) (sym c.requires.search.1)
+    ∙ ap (λ (f : FilmData). bound (g.H.Hand.shows c.args.hand.now).search.kind f c.rest-rest.result.0) (sym c.requires.search.0)
     ∙ ap (bound (g.H.Hand.shows c.args.hand.now).search.kind (g.H.Hand.shows c.args.hand.now).search.film) (rest_is g c)
 
 pub at-requires-clause-lies : goal.at-requires-clause-lies
-at-requires-clause-lies g c = subst (λ (f : FilmData). LiesIn f c.rest-rest.result.0) c.requires.film (own_lies g (goal.at.at-requires-clause-lies g c).After-index)
+at-requires-clause-lies g c = subst (λ (f : FilmData). LiesIn f c.rest-rest.result.0) c.requires.search.0 (own_lies g (goal.at.at-requires-clause-lies g c).After-index)
 
 pub at-requires-in-Some-clause-lies : goal.at-requires-in-Some-clause-lies
 at-requires-in-Some-clause-lies g c =
-    subst (λ (f : FilmData). LiesIn f c.rest-rest.result.0) c.requires.film (own_lies g (goal.at.at-requires-in-Some-clause-lies g c).After-index)
+    subst (λ (f : FilmData). LiesIn f c.rest-rest.result.0) c.requires.search.0 (own_lies g (goal.at.at-requires-in-Some-clause-lies g c).After-index)
 
 line_is : (g : Over) (c : goal.After-index g) → line_of (front_data c.args.front.now) c.args.place ≡ c.index.result.now
-line_is g c = get_or_default c.args.front.now.lines.items c.args.place None c.index.result.now (omega (arith, c.requires.place, c.requires.front.lines)) ∙ sym c.index.ensures
+line_is g c = get_or_default c.args.front.now.lines.items c.args.place None c.index.result.now (omega (arith, c.requires.place, c.requires.raised.walked.front_of.lines)) ∙ sym c.index.ensures
 
 pub returns-in-None-clause-reached : goal.returns-in-None-clause-reached
 returns-in-None-clause-reached g c =
     let at = (goal.at.returns-in-None-clause-reached g c).After-index in
-    reached_static (g.H.Hand.shows c.args.hand.now) c.keeps_limits-2.ensures (front_data c.args.front.now) c.requires.front (facts g at) c.requires.filled c.args.found.now
-    c.requires.found c.args.front.now.numbers.items c.args.place c.requires.place (deeper g at) c.requires.root (line_is g at ∙ c.in-None.is) c.at.result
+    reached_static (g.H.Hand.shows c.args.hand.now) c.keeps_limits-2.ensures (front_data c.args.front.now) c.requires.raised.walked.front_of (facts g at) c.requires.raised.walked.filled c.args.found.now
+    c.requires.raised.walked.known_of c.args.front.now.numbers.items c.args.place c.requires.place (deeper g at) c.requires.raised.root (line_is g at ∙ c.in-None.is) c.at.result
     (static_is g at c.at.result c.at.ensures)
 
 film_is : (g : Over) (c : goal.After-index g) → (g.H.Hand.shows c.args.hand.now).search.film ≡ c.film-film.result.now
-film_is g c = c.requires.film ∙ sym c.film-film.ensures
+film_is g c = c.requires.search.0 ∙ sym c.film-film.ensures
 
 pub least_over-requires-clause-lies : goal.least_over-requires-clause-lies
 least_over-requires-clause-lies g c =
@@ -75,8 +75,8 @@ least_over-requires-clause-there g c =
     let at = (goal.at.least_over-requires-clause-there g c).After-index in
     subst (λ (q : ℕ). AllFor c.film-film.result.now (front_data c.args.front.now) c.args.found.now c.args.front.now.numbers.items q) (sym (rest_is g at))
     (subst (λ (f : FilmData). AllFor f (front_data c.args.front.now) c.args.found.now c.args.front.now.numbers.items (path_at (front_data c.args.front.now) c.args.place).rest) (film_is g at)
-    (all_for (g.H.Hand.shows c.args.hand.now) c.keeps_limits-2.ensures (front_data c.args.front.now) c.requires.front (facts g at) c.requires.filled c.args.found.now
-    c.requires.found c.args.front.now.numbers.items c.args.place c.requires.place (deeper g at) c.in-Some.line (line_is g at ∙ c.in-Some.is)))
+    (all_for (g.H.Hand.shows c.args.hand.now) c.keeps_limits-2.ensures (front_data c.args.front.now) c.requires.raised.walked.front_of (facts g at) c.requires.raised.walked.filled c.args.found.now
+    c.requires.raised.walked.known_of c.args.front.now.numbers.items c.args.place c.requires.place (deeper g at) c.in-Some.line (line_is g at ∙ c.in-Some.is)))
 
 most : (g : Over) (c : goal.After-least_over g) → MostFor (g.H.Hand.shows c.args.hand.now).search.film (front_data c.args.front.now) c.args.found.now c.args.front.now.numbers.items
     (path_at (front_data c.args.front.now) c.args.place).rest c.least_over.result
@@ -98,16 +98,16 @@ pub raise-requires-clause-may : goal.raise-requires-clause-may
 raise-requires-clause-may g c =
     let whole = (goal.at.raise-requires-clause-may g c).After-least_over in
     let at = (goal.at.After-least_over g whole).After-index in
-    may_raise (g.H.Hand.shows c.args.hand.now) c.keeps_limits-2.ensures (front_data c.args.front.now) c.requires.front (facts g at) c.requires.filled c.args.found.now
-    c.requires.found c.args.front.now.numbers.items c.args.place c.requires.place (deeper g at) c.in-Some.line (line_is g at ∙ c.in-Some.is)
+    may_raise (g.H.Hand.shows c.args.hand.now) c.keeps_limits-2.ensures (front_data c.args.front.now) c.requires.raised.walked.front_of (facts g at) c.requires.raised.walked.filled c.args.found.now
+    c.requires.raised.walked.known_of c.args.front.now.numbers.items c.args.place c.requires.place (deeper g at) c.in-Some.line (line_is g at ∙ c.in-Some.is)
     c.at-in-Some.result c.least_over.result (static_is g at c.at-in-Some.result c.at-in-Some.ensures) (most g whole) c.max-number.result c.max-number.ensures
 
 pub returns-in_ok-raise-in-Some-clause-reached : goal.returns-in_ok-raise-in-Some-clause-reached
 returns-in_ok-raise-in-Some-clause-reached g c =
     let whole = (goal.at.returns-in_ok-raise-in-Some-clause-reached g c).After-least_over in
     let at = (goal.at.After-least_over g whole).After-index in
-    reached_raised (g.H.Hand.shows c.args.hand.now) c.keeps_limits-2.ensures (front_data c.args.front.now) c.requires.front (facts g at) c.requires.filled c.args.found.now
-    c.requires.found c.args.front.now.numbers.items c.args.place c.requires.place (deeper g at) c.in-Some.line (line_is g at ∙ c.in-Some.is)
+    reached_raised (g.H.Hand.shows c.args.hand.now) c.keeps_limits-2.ensures (front_data c.args.front.now) c.requires.raised.walked.front_of (facts g at) c.requires.raised.walked.filled c.args.found.now
+    c.requires.raised.walked.known_of c.args.front.now.numbers.items c.args.place c.requires.place (deeper g at) c.in-Some.line (line_is g at ∙ c.in-Some.is)
     c.at-in-Some.result c.least_over.result (static_is g at c.at-in-Some.result c.at-in-Some.ensures) (most g whole) (least g whole) c.max-number.result c.max-number.ensures
     (g.H.Hand.shows c.raise.new.self)
     c.in_ok-raise-in-Some.ensures.raised.0 c.in_ok-raise-in-Some.ensures.raised.1 c.in_ok-raise-in-Some.ensures.raised.2

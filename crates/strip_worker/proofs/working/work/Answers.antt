@@ -1,6 +1,7 @@
-use Rattle.std.proofs.Common.{◌∙◌, ap, arith}
+use Rattle.std.proofs.Common.{◌∙◌, sym, ap, subst, arith}
 use Rattle.strip_front.specs.Shown.{front_data}
 use Rattle.strip_hand.specs.Hand.{HandData}
+use Rattle.strip_hand.specs.Search.{GoesBy}
 use Rattle.strip_worker.proofs.Moved.{goes_then, goes_walked, moved_ended}
 use Rattle.strip_worker.proofs.Unclaimed.{one_claimed}
 use Rattle.strip_worker.proofs.working.work.Goals as goal
@@ -19,10 +20,16 @@ loop-part-preserved g c = record {
       (goes_walked (g.H.Hand.shows c.loop-part.hand) (g.H.Hand.shows c.claim.new.self) (g.H.Hand.shows c.walk_part.new.hand) c.in-Some.part
       c.in-Some.ensures.claimed c.walk_part.ensures.walks);
   refusals = omega (arith, c.loop-part.invariant.refusals, ap (λ (h : HandData). h.refusals) c.in-Some.ensures.claimed.0, c.walk_part.ensures.walks.2.refusals);
-  worked = c.in_ok-walk_part.ensures.worked;
+  worked = record {
+    search = subst (GoesBy c.args.kept.now.kind c.args.kept.now.film.now)
+        (sym (c.walk_part.ensures.walks.2.search ∙ ap (λ (h : HandData). h.search) c.in-Some.ensures.claimed.0)) c.loop-part.invariant.worked.search;
+    worked = c.in_ok-walk_part.ensures.worked;
+  };
 }
 
-pub returns-clause-worked : goal.returns-clause-worked
-returns-clause-worked g c =
-    moved_ended (g.H.Hand.shows c.loop-part.hand) (g.H.Hand.shows c.claim.new.self) (front_data c.args.front.now) c.loop-part.walked.found.items
-    c.loop-part.walked.spent c.in_default.ensures.claimed c.loop-part.invariant.worked
+pub returns-clause-ended : goal.returns-clause-ended
+returns-clause-ended g c = record {
+  worked = moved_ended (g.H.Hand.shows c.loop-part.hand) (g.H.Hand.shows c.claim.new.self) (front_data c.args.front.now) c.loop-part.walked.found.items
+      c.loop-part.walked.spent c.in_default.ensures.claimed c.loop-part.invariant.worked.worked;
+  ended = ap (λ (h : HandData). h.ended) c.in_default.ensures.claimed;
+}

@@ -1,7 +1,7 @@
 use Rattle.std.proofs.Common.{◌≡◌, ◌≤◌}
 use Rattle.strip_front.specs.Shown.{front_data}
 use Rattle.strip_memo.specs.Memo.{IsMemo}
-use Rattle.strip_worker.specs.Team.{GoesOn, HasWorked}
+use Rattle.strip_worker.specs.Team.{GoesOn, HasWorkedOn}
 use Rattle.strip_worker.proofs.Unclaimed.{unclaimed}
 use Rattle.strip_worker.proofs.working.work.Given as goal
 
@@ -13,7 +13,7 @@ invariant-loop-part g l = record {
   memo : IsMemo l.kept.kind l.kept.film.now l.memo;
   on : GoesOn (g.H.Hand.shows l.fn.hand) (g.H.Hand.shows l.hand);
   refusals : (g.H.Hand.shows l.fn.hand).refusals ≤ (g.H.Hand.shows l.hand).refusals;
-  worked : HasWorked (g.H.Hand.shows l.hand) (front_data l.front) l.walked.found.items l.walked.spent;
+  worked : HasWorkedOn l.kept.kind l.kept.film.now (g.H.Hand.shows l.hand) (front_data l.front) l.walked.found.items l.walked.spent;
 }
 
 abbrev pub decreases-loop-part : goal.decreases-loop-part
