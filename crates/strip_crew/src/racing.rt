@@ -332,7 +332,8 @@ fn end<N: Named, F: Fn(u64, u64) -> u64>(
     spent: bool,
 ) -> Result<Ended, Memory>
     requires keeps { Keeps (F.pre kept.now.f) (F.post kept.now.f) kept.now.kind kept.now.film.now }
-    requires closed { (before : HubParts) × HasClosed kept.now.kind kept.now.film.now tables.least tables.book before passes number spent }
+    requires closed { (before : HubParts)
+        × HasClosed kept.now.kind kept.now.film.now tables.least tables.book before passes number spent }
     ensures { IfOk result (λ ended. EndsFrom kept.now.kind kept.now.film.now (shown passes).search.start
         (shown passes).search.cap (ended_data ended)) }
 {

@@ -227,7 +227,8 @@ pub(crate) fn work_beside<
     requires workers { (1 ≤ workers) × (workers ≤ 64) }
     ensures memo { IsMemo kept.now.kind kept.now.film.now memo.new }
     ensures worked { (weight : ℕ) → IfOk result
-        (λ _. HaveWorked weight (front_data front.now) tables.now.least tables.now.book passes.old passes.new walked.new) }
+        (λ _. HaveWorked weight
+        (front_data front.now) tables.now.least tables.now.book passes.old passes.new walked.new) }
 {
     let jobs = deal(alloc, kept, tables, front, passes, workers)?;
     let mut all = do_jobs::<R, N, F, G, S>(rt, kept, tables, front, gate, jobs)?;

@@ -21,7 +21,8 @@ paths_after film path = map (λ scene. path_along film (path.scenes ++ scene ∷
 abbrev pub with_path : List PathData → PathData → List PathData
 with_path [] path = path ∷ []
 with_path (other ∷ paths) path =
-    if other.rest == path.rest then (if nat_lt path.paid other.paid then path else other) ∷ paths else other ∷ with_path paths path
+    if other.rest == path.rest then
+    (if nat_lt path.paid other.paid then path else other) ∷ paths else other ∷ with_path paths path
 
 -- the paths of so many scenes: of those that go on from the layer before, for each set that can remain the first one
 -- that paid the least

@@ -131,7 +131,8 @@ fn least_over(film: &Film, front: &Front, found: &[u64], rest: Mask) -> u64
     requires count { length found.now ≡ length (front_data front.now).tasks }
     requires lies { LiesIn film.now rest.0 }
     requires there { (scene : ℕ) → has (open_firsts film.now rest.0) scene ≡ true
-        → (reach : ℕ) × ReachesBy film.now (front_data front.now) found.now front.now.numbers.items rest.0 scene reach × (reach < 2 ^ 64) }
+        → (reach : ℕ) × ReachesBy film.now (front_data front.now) found.now front.now.numbers.items rest.0 scene reach
+        × (reach < 2 ^ 64) }
     ensures most { (scene reach : ℕ) → has (open_firsts film.now rest.0) scene ≡ true
         → ReachesBy film.now (front_data front.now) found.now front.now.numbers.items rest.0 scene reach
         → result ≤ reach }

@@ -39,12 +39,13 @@ pub record Refuses (before after : HandData) : Type 0 where
   pub no_fewer : before.refusals ≤ after.refusals
   pub rose : Rose before.refusals after.refusals
 
--- the cursor stands where the hand is in its part: the part was claimed, and the cursor's last path is the last that was enlisted there
+-- the cursor stands where the hand is in its part: the part was claimed, and the cursor's last path is the last
+-- that was enlisted there
 abbrev pub StandsAt : HandData → CursorData → Type 0
 StandsAt hand cursor = (number : ℕ) × (hand.records cursor.task ≡ Some (record { last = cursor.last; number = number }))
 
--- the path may be enlisted: an open path of the part that comes after its last one, with something remaining, which neither the
--- static bound nor, outside the front, the last probe rules out
+-- the path may be enlisted: an open path of the part that comes after its last one, with something remaining, which
+-- neither the static bound nor, outside the front, the last probe rules out
 pub record MayEnlist (hand : HandData) (cursor : CursorData) (path : PathData) (bound : ℕ) : Type 0 where
   pub stands : StandsAt hand cursor
   pub is_open : IsOpen (search_rules hand.search) path
@@ -55,7 +56,8 @@ pub record MayEnlist (hand : HandData) (cursor : CursorData) (path : PathData) (
   pub below : path.paid + bound < hand.told
   pub through : cursor.task ≢ 0 → LetsThrough hand.probe path hand.told
 
--- a line is made: it wasn't known before, and now it is, with what remains and this bound; the path is the last of its part
+-- a line is made: it wasn't known before, and now it is, with what remains and this bound; the path is the last of
+-- its part
 pub record MakesLine (before : HandData) (cursor : CursorData) (path : PathData) (bound line : ℕ) (after : HandData)
     (cursor_after : CursorData) : Type 0 where
   pub only : after ≡ record before { lines = after.lines; records = after.records }
@@ -77,8 +79,10 @@ pub record IsSpent (before : HandData) (count : ℕ) (after : HandData) : Type 0
 
 -- enlist
 abbrev pub Enlists : HandData → CursorData → PathData → ℕ → Result Listed Memory → HandData → CursorData → Type 0
-Enlists before cursor path bound (Ok (Line line)) after cursor_after = MakesLine before cursor path bound line after cursor_after
-Enlists before cursor path bound (Ok (Spent count)) after cursor_after = IsSpent before count after × (cursor_after ≡ cursor)
+Enlists before cursor path bound (Ok
+    (Line line)) after cursor_after = MakesLine before cursor path bound line after cursor_after
+Enlists before cursor path bound (Ok (Spent count)) after cursor_after = IsSpent before count after
+    × (cursor_after ≡ cursor)
 Enlists before cursor path bound (Err _) after cursor_after = Refuses before after × (cursor_after ≡ cursor)
 
 -- raise asks for a known line, and a bound that what is known justifies for its set

@@ -25,9 +25,10 @@ pub record RecordData : Type 0 where
 abbrev pub no_path_yet : RecordData
 no_path_yet = record { last = None; number = 0 }
 
--- a hand: what the search goes by; the least cost that it was last told; the lines that it knows, by their numbers, with bounds that
--- they have at least; its records of the parts that it claimed, where part 0 is the front and part 1 the first task; its last probe and
--- its last note; how often it was refused memory; and whether it found that no part is left
+-- a hand: what the search goes by; the least cost that it was last told; the lines that it knows, by their numbers,
+-- with bounds that they have at least; its records of the parts that it claimed, where part 0 is the front and part
+-- 1 the first task; its last probe and its last note; how often it was refused memory; and whether it found that no
+-- part is left
 pub record HandData : Type 0 where
   pub search : SearchData
   pub told : ℕ
@@ -58,7 +59,8 @@ abbrev pub LetsThrough : Option ProbeData → PathData → ℕ → Type 0
 LetsThrough None path told = ⊥
 LetsThrough (Some probe) path told = (probe.set ≡ path.rest) × Lets probe.answer path told
 
--- a record of a part: its last path lies in the part, and no more paths were enlisted than candidates of the part come up to it
+-- a record of a part: its last path lies in the part, and no more paths were enlisted than candidates of the part
+-- come up to it
 pub record IsRecord (search : SearchData) (part : ℕ) (entry : RecordData) : Type 0 where
   pub known : part < suc (length search.tasks)
   pub lies : (path : PathData) → entry.last ≡ Some path → lies_in (depth_of search) search.tasks part path ≡ true

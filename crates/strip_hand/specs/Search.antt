@@ -8,8 +8,8 @@ use Rattle.strip_film.specs.Rules.{Rules}
 use Rattle.strip_lines.specs.Lines.{rules_of}
 use Rattle.strip_count.specs.Parts.{no_task}
 
--- the film, the kind of the static bounds, the most lines there may be, what the order that the search starts with costs, and its
--- tasks
+-- the film, the kind of the static bounds, the most lines there may be, what the order that the search starts with
+-- costs, and its tasks
 pub record SearchData : Type 0 where
   pub film : FilmData
   pub kind : Kind
@@ -28,8 +28,8 @@ GoesBy kind film search = (search.film ≡ film) × (search.kind ≡ kind)
 abbrev pub depth_of : SearchData → ℕ
 depth_of search = length (slice_index_or search.tasks 0 no_task).scenes
 
--- the tasks are paths of the film, each of as many scenes, and what remains after two of them differs; and they are no more than ways to
--- choose four of 64 scenes, one after the other
+-- the tasks are paths of the film, each of as many scenes, and what remains after two of them differs; and they are
+-- no more than ways to choose four of 64 scenes, one after the other
 pub record AreStarts (search : SearchData) : Type 0 where
   pub paths : All (IsPath search.film) search.tasks
   pub long : All (λ task. length task.scenes ≡ depth_of search) search.tasks

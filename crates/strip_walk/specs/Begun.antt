@@ -59,7 +59,8 @@ abbrev pub IsWeighed : Passed → ℕ → Met → Type 0
 IsWeighed passed room (Cut found) =
     (known : Known) × (passed.answer ≡ Hit known) × (room ≤ known.bound)
     × (found ≡ record { bound = known.bound; line = Some known.line; spent = false })
-IsWeighed passed room (Through same) = (same ≡ passed) × ((known : Known) → passed.answer ≡ Hit known → known.bound < room)
+IsWeighed passed room (Through same) = (same ≡ passed) × ((known : Known) → passed.answer ≡ Hit known
+    → known.bound < room)
 
 abbrev pub Meets : HandData → PathData → Met → HandData → Type 0
 Meets before path (Cut found) after = Stays before after × IsCut after path found

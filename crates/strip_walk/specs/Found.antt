@@ -14,7 +14,8 @@ use Rattle.strip_hand.specs.Hand.{HandData, Knows}
 use Rattle.strip_hand.specs.Calls.{StandsAt}
 use Rattle.strip_walk.specs.declared.found.Found.{Found}
 
--- the walk may begin: the hand stands in a task at the cursor; the path is open, lies in the task, and comes after its last one
+-- the walk may begin: the hand stands in a task at the cursor; the path is open, lies in the task, and comes after
+-- its last one
 pub record MayExplore (hand : HandData) (cursor : CursorData) (path : PathData) : Type 0 where
   pub stands : StandsAt hand cursor
   pub task : cursor.task ≢ 0
@@ -48,10 +49,10 @@ Reaches hand path bound = ((search_rules hand.search).bound path.rest ≤ bound)
 abbrev pub ReachesAhead : HandData → PathData → ℕ → Type 0
 ReachesAhead hand path bound = (ahead (search_rules hand.search) path.rest ≤ bound) ⊎ (hand.told ≤ path.paid + bound)
 
--- what was found of what remains after a path: its bound is at most the cost of finishing, and that of a known line, where it names
--- one, or at most the static one; the path with it is no cheaper than the least cost last told, unless the walk was cut short; where
--- the path was enlisted, the bound reaches the look-ahead or that cost, and its line is the last note; and it says that it was cut
--- short only where it was
+-- what was found of what remains after a path: its bound is at most the cost of finishing, and that of a known
+-- line, where it names one, or at most the static one; the path with it is no cheaper than the least cost last
+-- told, unless the walk was cut short; where the path was enlisted, the bound reaches the look-ahead or that cost,
+-- and its line is the last note; and it says that it was cut short only where it was
 pub record IsFound (after : HandData) (cursor_after : CursorData) (path : PathData) (found : Found) : Type 0 where
   pub finish : IsAtMostFinish after.search.film path.rest found.bound
   pub line : (line : ℕ) → found.line ≡ Some line

@@ -14,7 +14,8 @@ use Rattle.strip_rule.specs.Rule.{open_firsts}
 use Rattle.strip_walk.specs.declared.found.Sifted.{Sifted}
 use Rattle.strip_walk.specs.declared.found.Weighed.{Weighed}
 
--- of the scenes of a list: those to be walked are among them, the least reaches no further than any other, and takes all of the room
+-- of the scenes of a list: those to be walked are among them, the least reaches no further than any other, and
+-- takes all of the room
 pub record AreWeighed (kind : Kind) (film : FilmData) (set room : ℕ) (scenes : List ℕ) (weighed : Weighed) : Type 0 where
   pub within : (scene : ℕ) → has weighed.visit.0 scene ≡ true → Contains scenes scene
   pub passed : (scene : ℕ) → Contains scenes scene → has weighed.visit.0 scene ≡ false
@@ -29,8 +30,8 @@ to_walk sifted = (turns_data sifted.visit).left
 abbrev pub AreRanked : Kind → FilmData → ℕ → Sifted → Type 0
 AreRanked kind film set sifted = GoBy (rank (rules_of kind film) set) (turns_data sifted.visit)
 
--- those to be walked are open firsts, by their ranks; the least reaches no further than the step and the static bound of each other;
--- and the path with it is no cheaper than the least cost told
+-- those to be walked are open firsts, by their ranks; the least reaches no further than the step and the static
+-- bound of each other; and the path with it is no cheaper than the least cost told
 pub record AreSifted (kind : Kind) (film : FilmData) (path : PathData) (told : ℕ) (sifted : Sifted) : Type 0 where
   pub within : (scene : ℕ) → has (to_walk sifted) scene ≡ true → has (open_firsts film path.rest) scene ≡ true
   pub ranks : AreRanked kind film path.rest sifted

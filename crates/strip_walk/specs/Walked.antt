@@ -10,9 +10,9 @@ use Rattle.strip_hand.specs.Calls.{StandsAt}
 use Rattle.strip_walk.specs.declared.found.Found.{Found}
 use Rattle.strip_walk.specs.Found.{BegunBy, IsFound}
 
--- what stays whatever was met: the search, and the records of other parts; the least cost told falls, and lines and refusals grow; the
--- hand stands at the cursor, whose last path is the one it had or begins with the path that was walked; and where no line could be
--- made any more, the cursor didn't move
+-- what stays whatever was met: the search, and the records of other parts; the least cost told falls, and lines and
+-- refusals grow; the hand stands at the cursor, whose last path is the one it had or begins with the path that was
+-- walked; and where no line could be made any more, the cursor didn't move
 pub record Walks (before : HandData) (cursor : CursorData) (path : PathData) (after : HandData) (cursor_after : CursorData) : Type 0 where
   pub search : after.search ≡ before.search
   pub ended : after.ended ≡ before.ended
