@@ -5,4 +5,4 @@ use Rattle.strip_check_command.specs.Claims.{audit_claims}
 use Rattle.strip_check_program.proofs.outcome.run_report.Goals as goal
 
 pub returns : goal.returns
-returns g c = ran (IsHeadline audit_claims) _ _ _ c.report.result c.deref.ensures.value refl c.in_ok-words.ensures c.report.ensures.headline
+returns g c = ran (IsHeadline audit_claims) _ _ _ c.report.result c.deref.ensures.value refl c.in_ok-words.ensures.fresh c.report.ensures.headline

@@ -1,4 +1,4 @@
-use Rattle.strip_progress.proofs.Due.{at_most_forty, each_of_few, last_of_all}
+use Rattle.strip_progress.proofs.RowsDue.{at_most_forty, each_of_few, last_of_all}
 use Rattle.strip_progress.proofs.laws.rows_are_few.Goals as goal
 
 pub returns : goal.returns
