@@ -172,7 +172,7 @@ fn a_fault_of_a_disk_is_no_end_of_a_file(rt: HostRuntime) -> Result<(), Fail> {
     };
     let mut files = HostFiles::new(alloc, disk, &words)?;
     assert!(&rt; load(alloc, &mut files, "held", 8).err() == Some(LoadFault::Read));
-    assert!(&rt; load(alloc, &mut files, "held", 8)?.as_slice() == TEXT);
+    assert!(&rt; load(alloc, &mut files, "held", 8)?.as_slice() == TEXT.as_slice());
     assert!(&rt; load(alloc, &mut files, "other", 8).err() == Some(LoadFault::Read));
     Ok(())
 }
