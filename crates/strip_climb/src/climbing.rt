@@ -54,18 +54,32 @@ pub fn climb<F: Fn(u64, u64) -> u64>(
     let mut ascent = Ascent::new(alloc, start, cap);
     let mut running = Running::of(film, &Path::start(film));
     let mut limit = look_ahead(kept, &running);
+    let low = limit;
     let step = start.paid().saturating_sub(limit) / u64::from(steps).max(1);
     for _step in 1..steps {
         limit = limit.saturating_add(step).min(start.paid());
-        rise(kept, &mut ascent, &mut running, memo, limit)?;
+        let beyond = asked_beyond(low, limit, ascent.goal);
+        rise(kept, &mut ascent, &mut running, memo, limit, beyond)?;
     }
-    rise(kept, &mut ascent, &mut running, memo, start.paid())?;
+    rise(kept, &mut ascent, &mut running, memo, start.paid(), 0)?;
     let bound = known_of_all(kept, &ascent);
     Ok(Climbed {
         lines: ascent.sheet.into_lines(),
         bound,
         best: ascent.best,
     })
+}
+
+/// How far beyond what a limit needs bounds are asked at once, in a climb from `low` to `goal`, in units of money: in
+/// its last quarter as far as the goal needs, so that they aren't asked again for each limit; before, where lines may
+/// well run out, no further.
+fn asked_beyond(low: u64, limit: u64, goal: u64) -> u64 {
+    let left = goal.saturating_sub(limit);
+    if left <= goal.saturating_sub(low) / 4 {
+        left
+    } else {
+        0
+    }
 }
 
 /// Walks the film below the limit, where neither that nor what the best path pays is known to be reached already,
@@ -76,6 +90,7 @@ fn rise<F: Fn(u64, u64) -> u64>(
     running: &mut Running,
     memo: &mut Memo,
     limit: u64,
+    beyond: u64,
 ) -> Result<(), Memory>
     requires keeps { Keeps (F.pre kept.now.f) (F.post kept.now.f) kept.now.kind kept.now.film.now }
     requires memo { IsMemo kept.now.kind kept.now.film.now memo.old }
@@ -89,7 +104,7 @@ fn rise<F: Fn(u64, u64) -> u64>(
 {
     let least = limit.min(ascent.best.paid());
     if !ascent.spent && known_of_all(kept, ascent) < least {
-        walk(kept, ascent, running, memo, limit)?;
+        walk(kept, ascent, running, memo, limit, beyond)?;
     }
     Ok(())
 }

@@ -21,7 +21,7 @@ use strip_walk::sift;
 /// next, by rising rank, each walked in turn, and the line of what remains is raised to the least of the steps with
 /// what was found behind them. What is answered is a bound on what remains, in units of money, which reaches the
 /// limit or the best path, unless the climb is spent; `running` is then as it was. Where memory is refused,
-/// `running` may stand further on.
+/// `running` may stand further on. Bounds are asked so much beyond what the limit needs.
 ///
 /// Each path costs a static bound and a look at the lines; one that is walked on a step and a static bound for
 /// each open first.
@@ -31,6 +31,7 @@ pub(crate) fn walk<F: Fn(u64, u64) -> u64>(
     running: &mut Running,
     memo: &mut Memo,
     limit: u64,
+    beyond: u64,
 ) -> Result<u64, Memory>
     requires keeps { Keeps (F.pre kept.now.f) (F.post kept.now.f) kept.now.kind kept.now.film.now }
     requires memo { IsMemo kept.now.kind kept.now.film.now memo.old }
@@ -50,7 +51,6 @@ pub(crate) fn walk<F: Fn(u64, u64) -> u64>(
         ascent.meet(running.path());
         return Ok(0);
     }
-    let beyond = ascent.goal - limit;
     let place = match begin(kept, ascent, running.path(), memo, limit)? {
         Begun::Answered(bound) => return Ok(bound),
         Begun::Opened(place) => place,
@@ -60,7 +60,7 @@ pub(crate) fn walk<F: Fn(u64, u64) -> u64>(
         let paid = running.paid();
         running.take(film, s);
         let step = running.paid() - paid;
-        let found = walk(kept, ascent, running, memo, limit)?;
+        let found = walk(kept, ascent, running, memo, limit, beyond)?;
         running.back(film);
         sifted.least = sifted.least.min(step + found);
     }
@@ -88,7 +88,7 @@ fn begin<F: Fn(u64, u64) -> u64>(
 {
     kept.film().keeps_limits();
     let room = limit.saturating_sub(path.paid());
-    let bound = memo.reach_beyond(kept, path.rest(), room, ascent.goal - limit);
+    let bound = memo.reach(kept, path.rest(), room);
     if bound >= room {
         return Ok(Begun::Answered(bound));
     }
