@@ -1,5 +1,5 @@
 -- How a walk begins: it is over, or a line stands that has to be raised.
-use Rattle.std.proofs.Common.{◌≡◌, ◌≢◌, ℕ, ◌+◌, ◌-◌, ◌<◌, ◌≤◌, true, nat_lt, Bool, MatchBool, [], ◌∷◌, ◌++◌, length, Some, None, inl, inr, refl, sym, ap, ◌∙◌, subst, arith}
+use Rattle.std.proofs.Common.{◌≡◌, ◌≢◌, ℕ, ◌+◌, ◌-◌, ◌<◌, ◌≤◌, min, true, nat_lt, Bool, MatchBool, [], ◌∷◌, ◌++◌, length, Some, None, inl, inr, refl, sym, ap, ◌∙◌, subst, arith}
 use Rattle.std.specs.List.{position}
 use Rattle.std.proofs.lemmas.Bool.{cases_lt, lt-ltb, le-ltb, false≢true}
 use Rattle.std.proofs.lemmas.List.{length-append}
@@ -37,6 +37,18 @@ climbs_trans before now after first second = record {
   grow = grow_trans before.lines now.lines after.lines first.grow second.grow;
   cheaper = omega (arith, first.cheaper, second.cheaper);
   spent = λ is. second.spent (first.spent is);
+}
+
+-- below what the best path pays, a walk reaches any greater limit too
+pub below_best : (rules : Rules) (before : AscentData) (path : PathData) (limit below bound : ℕ) (after : AscentData) → below ≡ min limit before.best.paid
+    → Walks rules before path below bound after → Walks rules before path limit bound after
+below_best rules before path limit below bound after below_is walked = record {
+  ascent = walked.ascent;
+  climbs = walked.climbs;
+  reached = record {
+    known = walked.reached.known;
+    reaches = λ not_spent cost within cheaper. walked.reached.reaches not_spent cost (omega (arith, below_is, within, cheaper, walked.climbs.cheaper)) cheaper;
+  };
 }
 
 -- ---- a complete path

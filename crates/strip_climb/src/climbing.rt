@@ -7,7 +7,7 @@ ghost use Rattle.strip_film.specs.Shown.{path_data, running_data};
 ghost use Rattle.strip_bound.specs.StoredBound.{Keeps};
 ghost use Rattle.strip_lines.specs.Lines.{known, rules_of};
 ghost use Rattle.strip_memo.specs.Memo.{IsMemo};
-ghost use Rattle.strip_climb.specs.Ascent.{IsAscent};
+ghost use Rattle.strip_climb.specs.Ascent.{Climbs, IsAscent};
 ghost use Rattle.strip_climb.specs.Climbed.{HasRisen, IsAtStart, IsClimbed};
 ghost use Rattle.strip_climb.specs.Shown.{ascent_data, climbed_data};
 
@@ -25,9 +25,9 @@ use strip_memo::Memo;
 use strip_rule::open_firsts_with;
 
 /// Climbs from the look-ahead of all scenes to what a complete path pays, in so many steps, 1 at least: below each
-/// limit the film is walked from what is known already, and no line is forgotten. It ends where the bound of
-/// all scenes is what that path pays, or what a cheaper one pays that was met, or where a line is wanted and
-/// there are `cap`.
+/// limit the film is walked from what is known already, and no line is forgotten. Where the lines that there may
+/// be are likely to do, the steps that are left are taken at once. It ends where the bound of all scenes is what
+/// that path pays, or what a cheaper one pays that was met, or where a line is wanted and there are `cap`.
 ///
 /// No set has two lines, so that there are no more than sets, and each was left by a path that may be cheaper
 /// than the one at the start. It takes some 50 to 80 bytes a line, as they come.
@@ -53,15 +53,8 @@ pub fn climb<F: Fn(u64, u64) -> u64>(
     film.keeps_limits();
     let mut ascent = Ascent::new(alloc, start, cap);
     let mut running = Running::of(film, &Path::start(film));
-    let mut limit = look_ahead(kept, &running);
-    let low = limit;
-    let step = start.paid().saturating_sub(limit) / u64::from(steps).max(1);
-    for _step in 1..steps {
-        limit = limit.saturating_add(step).min(start.paid());
-        let beyond = asked_beyond(low, limit, ascent.goal);
-        rise(kept, &mut ascent, &mut running, memo, limit, beyond)?;
-    }
-    rise(kept, &mut ascent, &mut running, memo, start.paid(), 0)?;
+    rise_in_steps(kept, &mut ascent, &mut running, memo, steps)?;
+    rise(kept, &mut ascent, &mut running, memo, start.paid())?;
     let bound = known_of_all(kept, &ascent);
     Ok(Climbed {
         lines: ascent.sheet.into_lines(),
@@ -70,16 +63,45 @@ pub fn climb<F: Fn(u64, u64) -> u64>(
     })
 }
 
-/// How far beyond what a limit needs bounds are asked at once, in a climb from `low` to `goal`, in units of money: in
-/// its last quarter as far as the goal needs, so that they aren't asked again for each limit; before, where lines may
-/// well run out, no further.
-fn asked_beyond(low: u64, limit: u64, goal: u64) -> u64 {
-    let left = goal.saturating_sub(limit);
-    if left <= goal.saturating_sub(low) / 4 {
-        left
-    } else {
-        0
+/// Walks the film below limits that rise by equal steps from the look-ahead of all scenes, up to the one before the
+/// goal, or until the goal is likely to be reached at once.
+fn rise_in_steps<F: Fn(u64, u64) -> u64>(
+    kept: &StoredBound<F>,
+    ascent: &mut Ascent,
+    running: &mut Running,
+    memo: &mut Memo,
+    steps: u32,
+) -> Result<(), Memory>
+    requires keeps { Keeps (F.pre kept.now.f) (F.post kept.now.f) kept.now.kind kept.now.film.now }
+    requires memo { IsMemo kept.now.kind kept.now.film.now memo.old }
+    requires start { IsAtStart kept.now.film.now (running_data running.old) }
+    requires ascent { IsAscent (rules_of kept.now.kind kept.now.film.now) (ascent_data ascent.old) }
+    ensures memo { IsMemo kept.now.kind kept.now.film.now memo.new }
+    ensures start { OnOk result (IsAtStart kept.now.film.now (running_data running.new)) }
+    ensures climbed { OnOk result (IsAscent (rules_of kept.now.kind kept.now.film.now) (ascent_data ascent.new)
+        × Climbs (ascent_data ascent.old) (ascent_data ascent.new)) }
+{
+    let goal = ascent.goal;
+    let mut limit = look_ahead(kept, running);
+    let step = goal.saturating_sub(limit) / u64::from(steps).max(1);
+    for gone in 1..steps {
+        limit = limit.saturating_add(step).min(goal);
+        rise(kept, ascent, running, memo, limit)?;
+        if will_do(ascent, gone, steps) {
+            return Ok(());
+        }
     }
+    Ok(())
+}
+
+/// Whether the limits that are left can be passed over, after so many of the steps, a quarter of them at least: if the
+/// lines grow by the same factor at each step, on average, as so far, there will be no more than there may be at
+/// the goal. They grow by less and less, so that it is a cautious guess; nothing is claimed of it.
+fn will_do(ascent: &Ascent, gone: u32, steps: u32) -> bool {
+    let (gone, steps) = (u64::from(gone), u64::from(steps));
+    let digits = u64::from(ascent.sheet.len().max(1).ilog2()) + 1;
+    let most_digits = u64::from(ascent.cap.max(1).ilog2());
+    gone * 4 >= steps && digits * steps <= most_digits * gone
 }
 
 /// Walks the film below the limit, where neither that nor what the best path pays is known to be reached already,
@@ -90,7 +112,6 @@ fn rise<F: Fn(u64, u64) -> u64>(
     running: &mut Running,
     memo: &mut Memo,
     limit: u64,
-    beyond: u64,
 ) -> Result<(), Memory>
     requires keeps { Keeps (F.pre kept.now.f) (F.post kept.now.f) kept.now.kind kept.now.film.now }
     requires memo { IsMemo kept.now.kind kept.now.film.now memo.old }
@@ -104,7 +125,7 @@ fn rise<F: Fn(u64, u64) -> u64>(
 {
     let least = limit.min(ascent.best.paid());
     if !ascent.spent && known_of_all(kept, ascent) < least {
-        walk(kept, ascent, running, memo, limit, beyond)?;
+        walk(kept, ascent, running, memo, limit)?;
     }
     Ok(())
 }

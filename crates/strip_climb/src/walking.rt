@@ -17,11 +17,11 @@ use strip_io::Memory;
 use strip_memo::Memo;
 use strip_walk::sift;
 
-/// Walks on from the path of `running`, where a path has to pay less than the limit: its open firsts are shot
-/// next, by rising rank, each walked in turn, and the line of what remains is raised to the least of the steps with
+/// Walks on from the path of `running`, where a path has to pay less than the limit and than the best one: its open
+/// firsts are shot next, by rising rank, each walked in turn, and the line of what remains is raised to the least of the steps with
 /// what was found behind them. What is answered is a bound on what remains, in units of money, which reaches the
 /// limit or the best path, unless the climb is spent; `running` is then as it was. Where memory is refused,
-/// `running` may stand further on. Bounds are asked so much beyond what the limit needs.
+/// `running` may stand further on.
 ///
 /// Each path costs a static bound and a look at the lines; one that is walked on a step and a static bound for
 /// each open first.
@@ -31,7 +31,6 @@ pub(crate) fn walk<F: Fn(u64, u64) -> u64>(
     running: &mut Running,
     memo: &mut Memo,
     limit: u64,
-    beyond: u64,
 ) -> Result<u64, Memory>
     requires keeps { Keeps (F.pre kept.now.f) (F.post kept.now.f) kept.now.kind kept.now.film.now }
     requires memo { IsMemo kept.now.kind kept.now.film.now memo.old }
@@ -51,16 +50,19 @@ pub(crate) fn walk<F: Fn(u64, u64) -> u64>(
         ascent.meet(running.path());
         return Ok(0);
     }
-    let place = match begin(kept, ascent, running.path(), memo, limit)? {
+    // A path that is as dear as the best one gains nothing.
+    let best = ascent.best.paid();
+    let below = limit.min(best);
+    let place = match begin(kept, ascent, running.path(), memo, below)? {
         Begun::Answered(bound) => return Ok(bound),
         Begun::Opened(place) => place,
     };
-    let mut sifted = sift(kept, running, memo, limit, beyond);
+    let mut sifted = sift(kept, running, memo, below);
     while let Some(s) = sifted.visit.take_next() {
         let paid = running.paid();
         running.take(film, s);
         let step = running.paid() - paid;
-        let found = walk(kept, ascent, running, memo, limit, beyond)?;
+        let found = walk(kept, ascent, running, memo, below)?;
         running.back(film);
         sifted.least = sifted.least.min(step + found);
     }

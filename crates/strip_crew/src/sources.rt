@@ -7,7 +7,6 @@ ghost use Rattle.strip_crew.specs.Sources.{Bears, Deals, JoinsSource, Splits, sp
 use std::alloc::Global;
 use strip_hub::{Gatherer, Source};
 use strip_io::Memory;
-use strip_steal::Pool;
 
 /// The source of a further worker, at this desk.
 pub(crate) fn split_source(alloc: Global, source: &mut Source, desk: u32) -> Result<Source, Memory>

@@ -96,25 +96,6 @@ impl Memo {
         ensures most { result ≤ bound kept.now.kind kept.now.film.now q.0 }
         ensures reaches { (need ≤ result) ⊎ (result ≡ bound kept.now.kind kept.now.film.now q.0) }
     {
-        self.reach_beyond(kept, q, need, 0)
-    }
-
-    /// The same, but what is asked for reaches so much beyond `need`, for one who will come again and need
-    /// more then: how much beyond is a matter of time alone.
-    pub fn reach_beyond<F: Fn(u64, u64) -> u64>(
-        &mut self,
-        kept: &StoredBound<F>,
-        q: Mask,
-        need: u64,
-        beyond: u64,
-    ) -> u64
-        requires keeps { Keeps (F.pre kept.now.f) (F.post kept.now.f) kept.now.kind kept.now.film.now }
-        requires memo { IsMemo kept.now.kind kept.now.film.now self.old }
-        requires lies { LiesIn kept.now.film.now q.0 }
-        ensures memo { IsMemo kept.now.kind kept.now.film.now self.new }
-        ensures most { result ≤ bound kept.now.kind kept.now.film.now q.0 }
-        ensures reaches { (need ≤ result) ⊎ (result ≡ bound kept.now.kind kept.now.film.now q.0) }
-    {
         let place = self.place(q);
         let entry = self.entries[place];
         if entry.set == q.0 && (entry.value >= need || self.has_whole(place)) {
@@ -128,10 +109,9 @@ impl Memo {
             };
             return whole;
         }
-        let far = need.saturating_add(beyond);
-        let value = kept.reach(q, far);
+        let value = kept.reach(q, need);
         self.entries[place] = Entry { set: q.0, value };
-        self.marks[place] = value < far;
+        self.marks[place] = value < need;
         value
     }
 

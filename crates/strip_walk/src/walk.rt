@@ -57,7 +57,7 @@ pub fn explore<H: Hand, F: Fn(u64, u64) -> u64>(
         Begun::Enlisted(opened) => opened,
     };
     hand.keeps_limits();
-    let mut sifted = sift(kept, running, memo, opened.told, 0);
+    let mut sifted = sift(kept, running, memo, opened.told);
     let mut spent = false;
     while let Some(s) = sifted.visit.take_next() {
         let paid = running.paid();

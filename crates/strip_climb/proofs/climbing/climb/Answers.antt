@@ -17,14 +17,16 @@ returns-clause-climbed g c =
     let kind : Kind = c.args.kept.now.kind in
     let film : FilmData = c.args.kept.now.film.now in
     let start : PathData = path_data c.args.start.now in
-    let after : AscentData = ascent_data c.rise-2.new.ascent in
-    let risen = c.in_ok-rise-2.ensures.risen in
+    let after : AscentData = ascent_data c.rise.new.ascent in
+    let gone = c.in_ok-rise_in_steps.ensures.climbed.1 in
+    let risen = c.in_ok-rise.ensures.risen in
     let is : IsFilm film = subst IsFilm c.film-film.ensures c.keeps_limits.ensures in
     subst (λ (lines : List Line). IsClimbed kind film start c.args.cap (record { lines = lines; bound = c.known_of_all-bound.result; best = after.best }))
     (ap (λ v. v.items) (sym c.into_lines.ensures))
     (climbed_is kind film start c.args.cap after c.known_of_all-bound.result is risen.ascent
-    (risen.climbs.goal ∙ c.loop-step.invariant.goal_is) (risen.climbs.cap ∙ c.loop-step.invariant.cap_is)
-    (λ not_spent cost within below. risen.reached not_spent cost (omega (arith, within, c.paid-2.ensures)) below)
+    (risen.climbs.goal ∙ gone.goal ∙ ap (λ (a : AscentData). a.goal) c.new-ascent.ensures)
+    (risen.climbs.cap ∙ gone.cap ∙ ap (λ (a : AscentData). a.cap) c.new-ascent.ensures)
+    (λ not_spent cost within below. risen.reached not_spent cost (omega (arith, within, c.paid.ensures)) below)
     c.known_of_all-bound.ensures
     (λ order. (c.kept_orders_are_ready_lists.ensures film order is).1)
     (λ order is_order. c.steps_add_up_to_the_pay.ensures film order is is_order)

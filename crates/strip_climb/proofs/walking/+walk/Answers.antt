@@ -18,7 +18,7 @@ use Rattle.strip_climb.specs.declared.ascent.Begun.TheVariants.{Opened}
 use Rattle.strip_climb.specs.Ascent.{AscentData, Walks}
 use Rattle.strip_climb.specs.Begun.{Begins}
 use Rattle.strip_climb.specs.Shown.{ascent_data}
-use Rattle.strip_climb.proofs.Reached.{climbs_trans}
+use Rattle.strip_climb.proofs.Reached.{below_best, climbs_trans}
 use Rattle.strip_climb.proofs.Turned.{AreTurned, fewer_left, first_may, line_stays, open_longer, paid_more, raised_walks, shot, sum_fits, taken, turned_more, turned_none}
 use Rattle.strip_climb.proofs.walking.+walk.Goals as goal
 
@@ -26,9 +26,9 @@ pub loop-s-init : goal.loop-s-init
 loop-s-init g t c =
     let rules : Rules = rules_of c.args.kept.now.kind c.args.kept.now.film.now in
     let path : PathData = path_data c.args.running.now.path in
-    let opened : Begins rules (ascent_data c.args.ascent.now) path c.args.limit (Opened c.in-Opened.place) (ascent_data c.begin.new.ascent)
-    = subst (λ (begun : Begun). Begins rules (ascent_data c.args.ascent.now) path c.args.limit begun (ascent_data c.begin.new.ascent)) c.in-Opened.is
-    (subst (λ (p : PathData). Begins rules (ascent_data c.args.ascent.now) p c.args.limit c.in_ok-bound.field-0 (ascent_data c.begin.new.ascent))
+    let opened : Begins rules (ascent_data c.args.ascent.now) path c.min-below.result (Opened c.in-Opened.place) (ascent_data c.begin.new.ascent)
+    = subst (λ (begun : Begun). Begins rules (ascent_data c.args.ascent.now) path c.min-below.result begun (ascent_data c.begin.new.ascent)) c.in-Opened.is
+    (subst (λ (p : PathData). Begins rules (ascent_data c.args.ascent.now) p c.min-below.result c.in_ok-bound.field-0 (ascent_data c.begin.new.ascent))
     c.path-2.ensures c.in_ok-bound.ensures.begun) in
     record {
       memo = c.sift-sifted.ensures.memo;
@@ -37,7 +37,7 @@ loop-s-init g t c =
       ascent = opened.0;
       climbs = opened.1;
       line = opened.2;
-      turned = turned_none c.args.kept.now.kind c.args.kept.now.film.now (ascent_data c.begin.new.ascent) path c.args.limit c.sift-sifted.result
+      turned = turned_none c.args.kept.now.kind c.args.kept.now.film.now (ascent_data c.begin.new.ascent) path c.min-below.result c.sift-sifted.result
           c.sift-sifted.ensures.sifted;
     }
 
@@ -74,7 +74,7 @@ walk-requires g t c κs within =
               (
                 subst (IsOpen rules) (sym longer_is)
                     (open_longer rules path c.in-Some.s c.requires.is_open first (subst (IsPath film) longer_is running.path)),
-                (c.loop-s.invariant.ascent, omega (arith, c.requires.limit, c.loop-s.invariant.climbs.goal)),
+                (c.loop-s.invariant.ascent, omega (arith, c.requires.limit, c.min-below.ensures, c.loop-s.invariant.climbs.goal)),
               ),
             ),
           ),
@@ -92,8 +92,8 @@ overflow_add-step g t c =
     let longer_is : longer ≡ shot rules path c.in-Some.s
     = taken c.args.kept.now.kind film c.film-film.result.now path (path_data c.loop-s.running.path) c.in-Some.s c.film-film.ensures c.loop-s.invariant.path first
     longer c.take.ensures.path in
-    let walked : Walks rules (ascent_data c.loop-s.ascent) (shot rules path c.in-Some.s) c.args.limit c.in_ok-found.found (ascent_data c.walk.new.ascent)
-    = subst (λ (p : PathData). Walks rules (ascent_data c.loop-s.ascent) p c.args.limit c.in_ok-found.found (ascent_data c.walk.new.ascent))
+    let walked : Walks rules (ascent_data c.loop-s.ascent) (shot rules path c.in-Some.s) c.min-below.result c.in_ok-found.found (ascent_data c.walk.new.ascent)
+    = subst (λ (p : PathData). Walks rules (ascent_data c.loop-s.ascent) p c.min-below.result c.in_ok-found.found (ascent_data c.walk.new.ascent))
     longer_is c.in_ok-found.ensures.walked in
     let step : c.paid.result - c.paid-paid.result ≡ step_cost film path.rest c.in-Some.s
     = paid_more rules path (path_data c.loop-s.running.path) longer c.in-Some.s c.paid-paid.result c.paid.result c.loop-s.invariant.path longer_is c.paid-paid.ensures c.paid.ensures in
@@ -125,8 +125,8 @@ loop-s-preserved g t c =
     let longer_is : longer ≡ shot rules path c.in-Some.s
     = taken c.args.kept.now.kind film c.film-film.result.now path (path_data c.loop-s.running.path) c.in-Some.s c.film-film.ensures c.loop-s.invariant.path first
     longer c.take.ensures.path in
-    let walked : Walks rules now (shot rules path c.in-Some.s) c.args.limit c.in_ok-found.found after
-    = subst (λ (p : PathData). Walks rules now p c.args.limit c.in_ok-found.found after) longer_is c.in_ok-found.ensures.walked in
+    let walked : Walks rules now (shot rules path c.in-Some.s) c.min-below.result c.in_ok-found.found after
+    = subst (λ (p : PathData). Walks rules now p c.min-below.result c.in_ok-found.found after) longer_is c.in_ok-found.ensures.walked in
     let step : c.paid.result - c.paid-paid.result ≡ step_cost film path.rest c.in-Some.s
     = paid_more rules path (path_data c.loop-s.running.path) longer c.in-Some.s c.paid-paid.result c.paid.result c.loop-s.invariant.path longer_is c.paid-paid.ensures c.paid.ensures in
     record {
@@ -139,8 +139,8 @@ loop-s-preserved g t c =
       ascent = walked.ascent;
       climbs = climbs_trans (ascent_data c.args.ascent.now) now after c.loop-s.invariant.climbs walked.climbs;
       line = line_stays now after path c.in-Opened.place walked.climbs.grow c.loop-s.invariant.line;
-      turned = subst (λ (left : ℕ). AreTurned rules after path c.args.limit left c.min.result) (sym c.in-Some.ensures.1)
-          (turned_more rules now after path c.args.limit (to_walk c.loop-s.sifted) c.loop-s.sifted.least c.in-Some.s c.in_ok-found.found c.min.result walked.climbs
+      turned = subst (λ (left : ℕ). AreTurned rules after path c.min-below.result left c.min.result) (sym c.in-Some.ensures.1)
+          (turned_more rules now after path c.min-below.result (to_walk c.loop-s.sifted) c.loop-s.sifted.least c.in-Some.s c.in_ok-found.found c.min.result walked.climbs
           walked.reached c.loop-s.invariant.turned (c.min.ensures ∙ ap (λ (n : ℕ). min c.loop-s.sifted.least (n + c.in_ok-found.found)) step));
     }
 
@@ -151,9 +151,11 @@ returns-clause-walked g t c =
     let before : AscentData = ascent_data c.args.ascent.now in
     let now : AscentData = ascent_data c.loop-s.ascent in
     let some : path.rest ≢ 0 = (λ none. absurd (let e : false ≡ true = sym c.if-is_empty.false ∙ c.is_empty.ensures.1 (c.rest.ensures ∙ none) in cc)) in
-    let turned : AreTurned rules now path c.args.limit 0 c.loop-s.sifted.least
-    = subst (λ (left : ℕ). AreTurned rules now path c.args.limit left c.loop-s.sifted.least)
+    let turned : AreTurned rules now path c.min-below.result 0 c.loop-s.sifted.least
+    = subst (λ (left : ℕ). AreTurned rules now path c.min-below.result left c.loop-s.sifted.least)
     (subst (TakesNext (turns_data c.loop-s.sifted.visit) (turns_data c.take_next.new.self)) c.in_default.is c.take_next.ensures) c.loop-s.invariant.turned in
-    subst (Walks rules before path c.args.limit c.raise.result) (sym c.raise.ensures.lines)
-    (raised_walks rules before now path c.args.limit c.loop-s.sifted.least c.in-Opened.place c.loop-s.invariant.ascent c.loop-s.invariant.climbs c.loop-s.invariant.line
-    some turned c.raise.result c.raise.ensures.bound)
+    below_best rules before path c.args.limit c.min-below.result c.raise.result (ascent_data c.raise.new.self)
+    (c.min-below.ensures ∙ ap (min c.args.limit) c.paid-best.ensures)
+    (subst (Walks rules before path c.min-below.result c.raise.result) (sym c.raise.ensures.lines)
+    (raised_walks rules before now path c.min-below.result c.loop-s.sifted.least c.in-Opened.place c.loop-s.invariant.ascent c.loop-s.invariant.climbs c.loop-s.invariant.line
+    some turned c.raise.result c.raise.ensures.bound))

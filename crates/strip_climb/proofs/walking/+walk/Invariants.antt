@@ -26,6 +26,6 @@ invariant-loop-s g l = record {
   ascent : IsAscent (rules_of l.kept.kind l.kept.film.now) (ascent_data l.ascent);
   climbs : Climbs (ascent_data l.fn.ascent) (ascent_data l.ascent);
   line : HasLine (ascent_data l.ascent) (running_data l.fn.running).path l.place;
-  turned : AreTurned (rules_of l.kept.kind l.kept.film.now) (ascent_data l.ascent) (running_data l.fn.running).path l.limit
+  turned : AreTurned (rules_of l.kept.kind l.kept.film.now) (ascent_data l.ascent) (running_data l.fn.running).path l.below
       (to_walk l.sifted) l.sifted.least;
 }
