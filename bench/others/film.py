@@ -12,7 +12,8 @@ import sys
 def read(name):
     """The days and casts of the scenes, the hold rates of the actors, and what is paid in any order."""
     with open(name, newline="", encoding="utf-8-sig") as text:
-        rows = [row for row in csv.reader(text) if any(field.strip() for field in row)]
+        rows = [[field.strip() for field in row] for row in csv.reader(text)]
+    rows = [row for row in rows if any(row)]
     rates = [int(field) for field in rows[1][2:]]
     holds, rest = rates, rows[2:]
     if rest[0][0].lower() == "hold":
