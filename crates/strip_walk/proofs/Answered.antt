@@ -41,11 +41,21 @@ found_still after cursor path found is lies later line none enough reaches spent
   spent = spent;
 }
 
-pub found_cut : (after : HandData) (cursor : CursorData) (path : PathData) (found : Found) → IsHand after → LiesIn after.search.film path.rest
+found_cut : (after : HandData) (cursor : CursorData) (path : PathData) (found : Found) → IsHand after → LiesIn after.search.film path.rest
     → ComesAfter (search_rules after.search) cursor.last path → IsCut after path found → IsFound after cursor path found
 found_cut after cursor path found is lies later cut =
     found_still after cursor path found is lies later cut.line cut.none (λ _. cut.reached) (inr cut.reached)
     (λ spent. absurd (let e : false ≡ true = sym cut.spent ∙ spent in cc))
+
+-- a path that is ruled out is answered where the cursor stands
+pub cut_explores : (before after : HandData) (cursor : CursorData) (path : PathData) (found : Found) → IsHand after → MayExplore before cursor path
+    → Stays before after × IsCut after path found → Walks before cursor path after cursor × IsFound after cursor path found
+cut_explores before after cursor path found is may (stays, cut) = (
+  walks_still before after cursor path may.stands stays,
+  found_cut after cursor path found is
+      (subst (λ (search : SearchData). LiesIn search.film path.rest) (sym stays.search) (rest_lies before.search.film path may.is_open.0))
+      (subst (λ (search : SearchData). ComesAfter (search_rules search) cursor.last path) (sym stays.search) may.later) cut,
+)
 
 -- ---- a line is made
 

@@ -29,10 +29,10 @@ use Rattle.strip_hand.specs.Calls.{MayRaise}
 use Rattle.strip_walk.specs.declared.found.Found.{Found}
 use Rattle.strip_walk.specs.Found.{IsFound, MayExplore, known_of}
 use Rattle.strip_walk.specs.Walked.{Explores, Walks}
-use Rattle.strip_walk.specs.Begun.{Closes, Offers, Stays}
+use Rattle.strip_walk.specs.Begun.{Closes, IsFirst, Offers, Stays}
 use Rattle.strip_walk.proofs.Answered.{found_still}
 use Rattle.strip_walk.proofs.Bounds.{finish_below, known_finishes, knows_known}
-use Rattle.strip_walk.proofs.Settled.{AreSettled, IsFirst}
+use Rattle.strip_walk.proofs.Settled.{AreSettled}
 use Rattle.strip_walk.proofs.Stayed.{cut_stays, rose_around, walks_still, walks_trans}
 
 -- a line of what remains after the path

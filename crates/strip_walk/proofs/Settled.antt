@@ -27,23 +27,11 @@ use Rattle.strip_walk.specs.declared.found.Opened.{Opened}
 use Rattle.strip_walk.specs.declared.found.Sifted.{Sifted}
 use Rattle.strip_walk.specs.Found.{BegunBy, IsCutShort, IsFound, MayExplore}
 use Rattle.strip_walk.specs.Walked.{Walks}
-use Rattle.strip_walk.specs.Begun.{IsOpened}
+use Rattle.strip_walk.specs.Begun.{IsFirst, IsOpened, shot}
 use Rattle.strip_walk.specs.Sifted.{AreSifted, to_walk}
 use Rattle.strip_walk.proofs.Bounds.{bound_known}
 use Rattle.strip_walk.proofs.Lists.{begun_earlier, starts_longer, starts_shorter}
 use Rattle.strip_walk.proofs.Stayed.{begun_itself, cut_stays}
-
--- the path with this scene shot next
-abbrev pub shot : SearchData → PathData → ℕ → PathData
-shot search path scene = record {
-  scenes = path.scenes ++ scene ∷ [];
-  rest = without path.rest scene;
-  paid = path.paid + step_cost search.film path.rest scene;
-}
-
--- the scene may be shot next
-abbrev pub IsFirst : SearchData → PathData → ℕ → Type 0
-IsFirst search path scene = has (open_firsts search.film path.rest) scene ≡ true
 
 -- those that are left to be walked are open firsts; each other open first is settled: the least reaches no further than its step and
 -- what is known of the rest; the path with the least is no cheaper than the least cost told, unless the walk was cut short; the least

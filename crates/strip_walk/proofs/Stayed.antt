@@ -1,5 +1,6 @@
 -- What stays over several calls.
-use Rattle.std.proofs.Common.{◌≡◌, ℕ, ◌+◌, ◌<◌, ◌≤◌, ◌⊎◌, inl, inr, Option, Some, Result, Ok, Err, List, [], ◌∷◌, ◌++◌, length, refl, sym, ap, ◌∙◌, subst, arith}
+use Rattle.std.proofs.Common.{◌≡◌, ℕ, ◌+◌, ◌<◌, ◌≤◌, ◌⊎◌, inl, inr, true, false, Option, Some, Result, Ok, Err, List, [], ◌∷◌, ◌++◌, length, refl, sym, ap, ◌∙◌, subst, arith}
+use Rattle.std.specs.Result.{IsErr}
 use Rattle.strip_io.specs.declared.files.Memory.{Memory}
 use Rattle.strip_io.specs.Counts.{Rose}
 use Rattle.strip_film.specs.declared.shared.Known.{Known}
@@ -15,11 +16,10 @@ use Rattle.strip_count.specs.Paths.{ComesAfter}
 use Rattle.strip_hand.specs.Search.{SearchData, depth_of, search_rules}
 use Rattle.strip_hand.specs.Hand.{HandData, Knows, RecordData}
 use Rattle.strip_hand.specs.Calls.{StandsAt}
-use Rattle.strip_walk.specs.declared.found.Begun.{Begun}
-use Rattle.strip_walk.specs.declared.found.Begun.TheVariants.{Answered, Enlisted}
+use Rattle.strip_walk.specs.declared.found.Found.{Found}
 use Rattle.strip_walk.specs.Found.{BegunBy, IsCutShort, MayExplore}
-use Rattle.strip_walk.specs.Walked.{Walks}
-use Rattle.strip_walk.specs.Begun.{Begins, Stays}
+use Rattle.strip_walk.specs.Walked.{Explores, Walks}
+use Rattle.strip_walk.specs.Begun.{Stays}
 use Rattle.strip_walk.proofs.Lists.{begun_not_earlier, starts_itself, starts_shorter}
 
 -- ---- lines that grow
@@ -165,7 +165,12 @@ module _ (before mid after : HandData) (cursor cursor_after : CursorData) (path 
   walks_after : Walks mid cursor path after cursor_after → Walks before cursor path after cursor_after
   walks_after walks = walks_trans before mid after cursor cursor cursor_after path few (walks_still before mid cursor path stands stays) walks
 
-  pub begins_after : (result : Result Begun Memory) → Begins mid cursor path result after cursor_after → Begins before cursor path result after cursor_after
-  begins_after (Ok (Answered found)) (walks, is) = (walks_after walks, is)
-  begins_after (Ok (Enlisted opened)) (walks, is) = (walks_after walks, is)
-  begins_after (Err e) (walks, rose) = (walks_after walks, rose_around before.refusals mid.refusals after.refusals after.refusals stays.refusals rose (omega arith))
+  pub explores_after : (result : Result Found Memory) → Explores mid cursor path result after cursor_after → Explores before cursor path result after cursor_after
+  explores_after (Ok found) (walks, is) = (walks_after walks, is)
+  explores_after (Err e) (walks, rose) = (walks_after walks, rose_around before.refusals mid.refusals after.refusals after.refusals stays.refusals rose (omega arith))
+
+  -- want of memory is handed on
+  pub refused_after : (result : Result Found Memory) (fault : Memory) → IsErr result → Explores mid cursor path (Err fault) after cursor_after
+      → Explores before cursor path result after cursor_after
+  refused_after (Ok found) fault is explores = absurd (let e : false ≡ true = is in cc)
+  refused_after (Err other) fault is explores = explores_after (Err other) explores

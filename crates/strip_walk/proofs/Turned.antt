@@ -1,8 +1,8 @@
 -- One turn of a walk: a scene is shot, what then remains is walked, and the scene is taken back.
-use Rattle.std.proofs.Common.{◌≡◌, ℕ, ◌+◌, ◌-◌, ◌^◌, ◌<◌, ◌≤◌, true, false, Result, Ok, Err, IfOk, [], ◌∷◌, ◌++◌, length, sym, ap, ◌∙◌, subst, arith}
+use Rattle.std.proofs.Common.{◌≡◌, ℕ, ◌+◌, ◌^◌, ◌<◌, ◌≤◌, true, false, Result, Ok, Err, IfOk, [], ◌∷◌, ◌++◌, length, sym, ap, ◌∙◌, subst, arith}
 use Rattle.std.specs.Result.{IsErr}
 use Rattle.strip_io.specs.declared.files.Memory.{Memory}
-use Rattle.strip_mask.specs.Set.{IsSet, has, size, without}
+use Rattle.strip_mask.specs.Set.{IsSet, has, without}
 use Rattle.strip_mask.proofs.Below.{LiesBelow-without, is_set_below}
 use Rattle.strip_mask.proofs.ByMembers.{has_from_without}
 use Rattle.strip_pay.specs.Film.{FilmData}
@@ -23,42 +23,28 @@ use Rattle.strip_hand.specs.Hand.{HandData}
 use Rattle.strip_walk.specs.declared.found.Found.{Found}
 use Rattle.strip_walk.specs.Found.{IsFound}
 use Rattle.strip_walk.specs.Walked.{Explores, Walks}
-use Rattle.strip_walk.proofs.Ended.{fewer}
-use Rattle.strip_walk.proofs.Settled.{IsFirst, IsNext, shot}
+use Rattle.strip_walk.specs.Begun.{IsFirst, shot}
+use Rattle.strip_walk.proofs.Settled.{IsNext}
 use Rattle.strip_walk.proofs.Stayed.{rose_around, walks_child, walks_trans}
 
 -- ---- the scene
 
-module _ (search : SearchData) (film : FilmData) (path now : PathData) (s : ℕ) (film_is : search.film ≡ film) (same : now ≡ path) (first : IsFirst search path s) where
-  pub first_ready : has (ready film now.rest) s ≡ true
-  first_ready =
-      subst (λ (f : FilmData). has (ready f now.rest) s ≡ true) film_is
-      (subst (λ (p : PathData). has (ready search.film p.rest) s ≡ true) (sym same) (open_is search.film path.rest s first).0)
+module _ (search : SearchData) (film : FilmData) (path : PathData) (s : ℕ) (film_is : search.film ≡ film) (first : IsFirst search path s) where
+  pub first_ready : has (ready film path.rest) s ≡ true
+  first_ready = subst (λ (f : FilmData). has (ready f path.rest) s ≡ true) film_is (open_is search.film path.rest s first).0
 
   -- the path that was taken is the longer one
-  pub taken : (longer : PathData) → longer ≡ record { scenes = now.scenes ++ s ∷ []; rest = without now.rest s; paid = now.paid + step_cost film now.rest s }
+  pub taken : (longer : PathData) → longer ≡ record { scenes = path.scenes ++ s ∷ []; rest = without path.rest s; paid = path.paid + step_cost film path.rest s }
       → longer ≡ shot search path s
   taken longer is = is ∙ (λ i. record {
-    scenes = (same i).scenes ++ s ∷ [];
-    rest = without (same i).rest s;
-    paid = (same i).paid + step_cost (sym film_is i) (same i).rest s;
+    scenes = path.scenes ++ s ∷ [];
+    rest = without path.rest s;
+    paid = path.paid + step_cost (sym film_is i) path.rest s;
   })
-
--- what a step costs is what is paid more
-pub paid_more : (search : SearchData) (path now longer : PathData) (s paid paid_after : ℕ) → now ≡ path → longer ≡ shot search path s → paid ≡ now.paid → paid_after ≡ longer.paid
-    → paid_after - paid ≡ step_cost search.film path.rest s
-paid_more search path now longer s paid paid_after same is paid_is after_is =
-    let before : now.paid ≡ path.paid = ap (λ (p : PathData). p.paid) same in
-    let after : longer.paid ≡ path.paid + step_cost search.film path.rest s = ap (λ (p : PathData). p.paid) is in
-    omega (arith, before, after, paid_is, after_is)
 
 module _ (search : SearchData) (path : PathData) (s : ℕ) (is : IsFilm search.film) (within : IsPath search.film path) (first : IsFirst search path s) where
   lies : LiesIn search.film path.rest
   lies = rest_lies search.film path within
-
-  pub fewer_left : (longer : PathData) → longer ≡ shot search path s → size longer.rest < size path.rest
-  fewer_left longer longer_is =
-      omega (arith, ap (λ (p : PathData). size p.rest) longer_is, fewer search.film path s is lies first)
 
   -- the step and what was found of the rest fit a number
   pub sum_fits : (after : HandData) (cursor_after : CursorData) (found : Found) → after.search ≡ search → IsFound after cursor_after (shot search path s) found

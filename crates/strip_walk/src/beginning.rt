@@ -1,7 +1,7 @@
 // How the walk of a path begins.
 ghost use Rattle.std.specs.Prelude.{◌≡◌, ◌≢◌};
 ghost use Rattle.strip_film.specs.Film.{LiesIn};
-ghost use Rattle.strip_film.specs.Path.{IsComplete};
+ghost use Rattle.strip_film.specs.Path.{IsComplete, PathData};
 ghost use Rattle.strip_film.specs.Shown.{cursor_data, path_data};
 ghost use Rattle.strip_bound.specs.StoredBound.{Keeps};
 ghost use Rattle.strip_hand.specs.Hand.{IsSearchOf};
@@ -34,54 +34,29 @@ pub(crate) fn offer<H: Hand>(hand: &mut H, path: &Path) -> Found
     }
 }
 
-/// Begins the walk of a path after which something remains: it is ruled out, or enlisted.
-pub(crate) fn begin<H: Hand, F: Fn(u64, u64) -> u64>(
+/// Looks at the least cost, and asks the static bound and the table whether they rule out a path after which
+/// this set remains and which paid so much. The path itself isn't needed, so that it is met before it is made.
+pub(crate) fn meet<H: Hand, F: Fn(u64, u64) -> u64>(
     kept: &StoredBound<F>,
     hand: &mut H,
-    cursor: &mut Cursor,
-    path: &Path,
-    memo: &mut Memo,
-) -> Result<Begun, Memory>
-    requires sound { H.is_sound hand.old }
-    requires keeps { Keeps (F.pre kept.now.f) (F.post kept.now.f) kept.now.kind kept.now.film.now }
-    requires search { IsSearchOf kept.now.kind kept.now.film.now (H.shows hand.old) }
-    requires memo { IsMemo kept.now.kind kept.now.film.now memo.old }
-    requires may { MayExplore (H.shows hand.old) (cursor_data cursor.old) (path_data path.now) }
-    requires some { (path_data path.now).rest ≢ 0 }
-    ensures sound { H.is_sound hand.new }
-    ensures home { H.home hand.new ≡ H.home hand.old }
-    ensures memo { IsMemo kept.now.kind kept.now.film.now memo.new }
-    ensures begun { Begins (H.shows hand.old) (cursor_data cursor.old) (path_data path.now) result
-        (H.shows hand.new) (cursor_data cursor.new) }
-{
-    let met = meet(kept, hand, path, memo);
-    hand.keeps_limits();
-    match met {
-        Met::Cut(found) => Ok(Begun::Answered(found)),
-        Met::Through(passed) => list(hand, cursor, path, &passed),
-    }
-}
-
-/// Looks at the least cost, and asks the static bound and the table whether they rule the path out.
-fn meet<H: Hand, F: Fn(u64, u64) -> u64>(
-    kept: &StoredBound<F>,
-    hand: &mut H,
-    path: &Path,
+    rest: Mask,
+    paid: u64,
     memo: &mut Memo,
 ) -> Met
     requires sound { H.is_sound hand.old }
     requires keeps { Keeps (F.pre kept.now.f) (F.post kept.now.f) kept.now.kind kept.now.film.now }
     requires search { IsSearchOf kept.now.kind kept.now.film.now (H.shows hand.old) }
     requires memo { IsMemo kept.now.kind kept.now.film.now memo.old }
-    requires lies { LiesIn kept.now.film.now (path_data path.now).rest }
+    requires lies { LiesIn kept.now.film.now rest.0 }
     ensures sound { H.is_sound hand.new }
     ensures home { H.home hand.new ≡ H.home hand.old }
     ensures memo { IsMemo kept.now.kind kept.now.film.now memo.new }
-    ensures met { Meets (H.shows hand.old) (path_data path.now) result (H.shows hand.new) }
+    ensures met { (path : PathData) → path.rest ≡ rest.0 → path.paid ≡ paid
+        → Meets (H.shows hand.old) path result (H.shows hand.new) }
 {
     let told = hand.look();
-    let room = told.saturating_sub(path.paid());
-    let bound = memo.reach(kept, path.rest(), room);
+    let room = told.saturating_sub(paid);
+    let bound = memo.reach(kept, rest, room);
     if bound >= room {
         return Met::Cut(Found {
             bound,
@@ -89,7 +64,7 @@ fn meet<H: Hand, F: Fn(u64, u64) -> u64>(
             spent: false,
         });
     }
-    let answer = ask(hand, path.rest());
+    let answer = ask(hand, rest);
     let passed = Passed {
         told,
         bound,
@@ -128,7 +103,7 @@ fn ask<H: Hand>(hand: &mut H, q: Mask) -> Probe
 
 /// Enlists a path that is not ruled out; where there are as many lines as may be, answers the best bound
 /// that was met.
-fn list<H: Hand>(
+pub(crate) fn list<H: Hand>(
     hand: &mut H,
     cursor: &mut Cursor,
     path: &Path,

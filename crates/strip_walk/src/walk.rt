@@ -1,16 +1,18 @@
 // The walk of a path: its children, one after the other.
-ghost use Rattle.std.specs.Prelude.{◌≡◌, IfOk};
+ghost use Rattle.std.specs.Prelude.{◌≡◌, ◌≢◌, IfOk};
 ghost use Rattle.strip_film.specs.Running.{IsRunning};
+ghost use Rattle.strip_film.specs.Shoot.{step_cost};
 ghost use Rattle.strip_film.specs.Shown.{cursor_data, running_data};
 ghost use Rattle.strip_bound.specs.StoredBound.{Keeps};
 ghost use Rattle.strip_hand.specs.Hand.{IsSearchOf};
+ghost use Rattle.strip_walk.specs.Begun.{IsFirst, IsThrough, shot};
 ghost use Rattle.strip_walk.specs.Found.{MayExplore};
 ghost use Rattle.strip_walk.specs.Walked.{Explores};
 ghost use Rattle.strip_memo.specs.Memo.{IsMemo};
 
-use crate::beginning::{begin, offer};
+use crate::beginning::{list, meet, offer};
 use crate::ending::close;
-use crate::found::{Begun, Found};
+use crate::found::{Begun, Found, Met, Passed};
 use crate::sifting::sift;
 use strip_bound::StoredBound;
 use strip_film::{Cursor, Known, Running};
@@ -25,7 +27,8 @@ use strip_memo::Memo;
 /// `running` is then as it was. Where memory is refused, `running` may stand further on.
 ///
 /// Each path costs a look and a static bound; one that is enlisted a probe, a raise, a note, and a step and
-/// a static bound for each open first. It takes no memory but what the hand does.
+/// a static bound for each open first. A child is met before it is taken, so that `running` moves only for
+/// one that is offered or walked on from. It takes no memory but what the hand does.
 pub fn explore<H: Hand, F: Fn(u64, u64) -> u64>(
     kept: &StoredBound<F>,
     hand: &mut H,
@@ -47,12 +50,46 @@ pub fn explore<H: Hand, F: Fn(u64, u64) -> u64>(
     ensures explored { Explores (H.shows hand.old) (cursor_data cursor.old) (running_data running.old).path result
         (H.shows hand.new) (cursor_data cursor.new) }
 {
-    let film = kept.film();
-    film.keeps_limits();
     if running.rest().is_empty() {
         return Ok(offer(hand, running.path()));
     }
-    let opened = match begin(kept, hand, cursor, running.path(), memo)? {
+    let met = meet(kept, hand, running.rest(), running.paid(), memo);
+    hand.keeps_limits();
+    match met {
+        Met::Cut(found) => Ok(found),
+        Met::Through(passed) => walk_on(kept, hand, cursor, running, memo, &passed),
+    }
+}
+
+/// Enlists a path that is not ruled out, walks its children, and closes its line.
+#[cycle(children)]
+fn walk_on<H: Hand, F: Fn(u64, u64) -> u64>(
+    kept: &StoredBound<F>,
+    hand: &mut H,
+    cursor: &mut Cursor,
+    running: &mut Running,
+    memo: &mut Memo,
+    passed: &Passed,
+) -> Result<Found, Memory>
+    requires sound { H.is_sound hand.old }
+    requires keeps { Keeps (F.pre kept.now.f) (F.post kept.now.f) kept.now.kind kept.now.film.now }
+    requires search { IsSearchOf kept.now.kind kept.now.film.now (H.shows hand.old) }
+    requires memo { IsMemo kept.now.kind kept.now.film.now memo.old }
+    requires running { IsRunning kept.now.film.now (running_data running.old) }
+    requires may { MayExplore (H.shows hand.old) (cursor_data cursor.old) (running_data running.old).path }
+    requires some { (running_data running.old).path.rest ≢ 0 }
+    requires through { IsThrough (H.shows hand.old) (running_data running.old).path passed.now }
+    ensures sound { H.is_sound hand.new }
+    ensures home { H.home hand.new ≡ H.home hand.old }
+    ensures memo { IsMemo kept.now.kind kept.now.film.now memo.new }
+    ensures running { IfOk result (λ _. IsRunning kept.now.film.now (running_data running.new)
+        × ((running_data running.new).path ≡ (running_data running.old).path)) }
+    ensures explored { Explores (H.shows hand.old) (cursor_data cursor.old) (running_data running.old).path result
+        (H.shows hand.new) (cursor_data cursor.new) }
+{
+    let film = kept.film();
+    film.keeps_limits();
+    let opened = match list(hand, cursor, running.path(), passed)? {
         Begun::Answered(found) => return Ok(found),
         Begun::Enlisted(opened) => opened,
     };
@@ -60,12 +97,9 @@ pub fn explore<H: Hand, F: Fn(u64, u64) -> u64>(
     let mut sifted = sift(kept, running, memo, opened.told);
     let mut spent = false;
     while let Some(s) = sifted.visit.take_next() {
-        let paid = running.paid();
-        running.take(film, s);
-        let step = running.paid() - paid;
-        let found = explore(kept, hand, cursor, running, memo)?;
+        let step = running.step(film, s);
+        let found = walk_child(kept, hand, cursor, running, memo, s, step)?;
         hand.keeps_limits();
-        running.back(film);
         sifted.least = sifted.least.min(step + found.bound);
         spent |= found.spent;
     }
@@ -75,4 +109,56 @@ pub fn explore<H: Hand, F: Fn(u64, u64) -> u64>(
         bound: sifted.least.max(opened.bound),
     };
     close(hand, &known, spent)
+}
+
+/// Explores the path with the open first `s` shot next, which costs `step`. Most children are ruled out by
+/// what remains behind them and what they pay, so the scene is taken only where that isn't enough.
+#[cycle(children)]
+fn walk_child<H: Hand, F: Fn(u64, u64) -> u64>(
+    kept: &StoredBound<F>,
+    hand: &mut H,
+    cursor: &mut Cursor,
+    running: &mut Running,
+    memo: &mut Memo,
+    s: u32,
+    step: u64,
+) -> Result<Found, Memory>
+    requires sound { H.is_sound hand.old }
+    requires keeps { Keeps (F.pre kept.now.f) (F.post kept.now.f) kept.now.kind kept.now.film.now }
+    requires search { IsSearchOf kept.now.kind kept.now.film.now (H.shows hand.old) }
+    requires memo { IsMemo kept.now.kind kept.now.film.now memo.old }
+    requires running { IsRunning kept.now.film.now (running_data running.old) }
+    requires first { IsFirst (H.shows hand.old).search (running_data running.old).path s }
+    requires step { step ≡ step_cost kept.now.film.now (running_data running.old).path.rest s }
+    requires may { MayExplore (H.shows hand.old) (cursor_data cursor.old)
+        (shot (H.shows hand.old).search (running_data running.old).path s) }
+    ensures sound { H.is_sound hand.new }
+    ensures home { H.home hand.new ≡ H.home hand.old }
+    ensures memo { IsMemo kept.now.kind kept.now.film.now memo.new }
+    ensures running { IfOk result (λ _. IsRunning kept.now.film.now (running_data running.new)
+        × ((running_data running.new).path ≡ (running_data running.old).path)) }
+    ensures explored { Explores (H.shows hand.old) (cursor_data cursor.old)
+        (shot (H.shows hand.old).search (running_data running.old).path s) result
+        (H.shows hand.new) (cursor_data cursor.new) }
+{
+    let film = kept.film();
+    film.keeps_limits();
+    let rest = running.rest().without(s);
+    if rest.is_empty() {
+        running.take(film, s);
+        let found = offer(hand, running.path());
+        running.back(film);
+        return Ok(found);
+    }
+    let met = meet(kept, hand, rest, running.paid() + step, memo);
+    hand.keeps_limits();
+    match met {
+        Met::Cut(found) => Ok(found),
+        Met::Through(passed) => {
+            running.take(film, s);
+            let found = walk_on(kept, hand, cursor, running, memo, &passed)?;
+            running.back(film);
+            Ok(found)
+        }
+    }
 }

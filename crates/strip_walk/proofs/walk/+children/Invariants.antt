@@ -1,5 +1,5 @@
-use Rattle.std.proofs.Common.{◌≡◌}
-use Rattle.strip_mask.specs.Set.{size}
+use Rattle.std.proofs.Common.{◌≡◌, ◌+◌, ◌*◌}
+use Rattle.strip_mask.specs.Set.{size, without}
 use Rattle.strip_film.specs.Running.{IsRunning}
 use Rattle.strip_film.specs.Shown.{cursor_data, running_data}
 use Rattle.strip_hand.specs.Hand.{IsHand}
@@ -8,17 +8,20 @@ use Rattle.strip_memo.specs.Memo.{IsMemo}
 use Rattle.strip_walk.specs.Sifted.{AreRanked, to_walk}
 use Rattle.strip_walk.proofs.Ended.{HasLine}
 use Rattle.strip_walk.proofs.Settled.{AreSettled}
-use Rattle.strip_walk.proofs.walk.+explore.Given as goal
+use Rattle.strip_walk.proofs.walk.+children.Given as goal
 
-abbrev pub decreases-explore : goal.decreases-explore
-decreases-explore g l = size l.running.now.path.rest.0
+abbrev pub decreases-walk_on : goal.decreases-walk_on
+decreases-walk_on g l = 2 * size l.running.now.path.rest.0
 
-abbrev pub decreases-loop-s : goal.decreases-loop-s
-decreases-loop-s g l = size (to_walk l.sifted)
+abbrev pub decreases-walk_child : goal.decreases-walk_child
+decreases-walk_child g l = 2 * size (without l.running.now.path.rest.0 l.s) + 1
+
+abbrev pub decreases-walk_on-loop-s : goal.decreases-walk_on-loop-s
+decreases-walk_on-loop-s g l = size (to_walk l.sifted)
 
 -- the path is as it was, what was walked so far is settled, and those that are left wait by their ranks
-abbrev pub invariant-loop-s : goal.invariant-loop-s
-invariant-loop-s g l = record {
+abbrev pub invariant-walk_on-loop-s : goal.invariant-walk_on-loop-s
+invariant-walk_on-loop-s g l = record {
   sound : g.H.Hand.is_sound l.hand;
   home : g.H.Hand.home l.hand ≡ g.H.Hand.home l.fn.hand;
   limits : IsHand (g.H.Hand.shows l.hand);
