@@ -96,7 +96,8 @@ fn rise_in_steps<F: Fn(u64, u64) -> u64>(
 
 /// Whether the limits that are left can be passed over, after so many of the steps, a quarter of them at least: if the
 /// lines grow by the same factor at each step, on average, as so far, there will be no more than there may be at
-/// the goal. They grow by less and less, so that it is a cautious guess; nothing is claimed of it.
+/// the goal. Their number is told by its binary digits alone. It is a guess, since lines mostly grow fastest at the
+/// first limits, and again near the goal; nothing is claimed of it.
 fn will_do(ascent: &Ascent, gone: u32, steps: u32) -> bool {
     let (gone, steps) = (u64::from(gone), u64::from(steps));
     let digits = u64::from(ascent.sheet.len().max(1).ilog2()) + 1;

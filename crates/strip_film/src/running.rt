@@ -127,6 +127,23 @@ impl Running {
     {
         film.keeps_limits();
         let step = self.step(film, s);
+        self.take_with(film, s, step);
+    }
+
+    /// Shoots scene `s`, a ready one of those that remain, next, where it is known what that costs, in units of
+    /// money. Two turns for each actor of its cast.
+    pub fn take_with(&mut self, film: &Film, s: u32, step: u64)
+        requires running { IsRunning film.now (running_data self.old) }
+        requires ready { has (ready film.now (running_data self.old).path.rest) s ≡ true }
+        requires step { step ≡ step_cost film.now (running_data self.old).path.rest s }
+        ensures running { IsRunning film.now (running_data self.new) }
+        ensures path { (running_data self.new).path ≡ record {
+          scenes = (running_data self.old).path.scenes ++ s ∷ [];
+          rest = without (running_data self.old).path.rest s;
+          paid = (running_data self.old).path.paid + step_cost film.now (running_data self.old).path.rest s;
+        } }
+    {
+        film.keeps_limits();
         let cast = Mask(film.casts()[s as usize]);
         self.before[self.path.scenes().len()] = self.path.paid();
         self.path.push(s, step);

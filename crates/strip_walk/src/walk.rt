@@ -145,7 +145,7 @@ fn walk_child<H: Hand, F: Fn(u64, u64) -> u64>(
     film.keeps_limits();
     let rest = running.rest().without(s);
     if rest.is_empty() {
-        running.take(film, s);
+        running.take_with(film, s, step);
         let found = offer(hand, running.path());
         running.back(film);
         return Ok(found);
@@ -155,7 +155,7 @@ fn walk_child<H: Hand, F: Fn(u64, u64) -> u64>(
     match met {
         Met::Cut(found) => Ok(found),
         Met::Through(passed) => {
-            running.take(film, s);
+            running.take_with(film, s, step);
             let found = walk_on(kept, hand, cursor, running, memo, &passed)?;
             running.back(film);
             Ok(found)

@@ -259,8 +259,8 @@ walk_child-without-rest-requires g t c =
     (is_set_below (length c.args.kept.now.film.now.casts) path.rest is.scene_count.1 (rest_lies c.args.kept.now.film.now path c.requires.running.path))
     (first_there search.film path.rest c.args.s c.requires.first)
 
-pub walk_child-take-requires-clause-ready : goal.walk_child-take-requires-clause-ready
-walk_child-take-requires-clause-ready g t c =
+pub walk_child-take_with-requires-clause-ready : goal.walk_child-take_with-requires-clause-ready
+walk_child-take_with-requires-clause-ready g t c =
     let search : SearchData = (g.H.Hand.shows c.args.hand.now).search in
     let path : PathData = path_data c.args.running.now.path in
     let film_is : search.film ≡ c.film-film.result.now = c.requires.search.0 ∙ sym c.film-film.ensures in
@@ -271,8 +271,8 @@ walk_child-returns-then-is_empty-clause-explored g t c =
     let search : SearchData = (g.H.Hand.shows c.args.hand.now).search in
     let path : PathData = path_data c.args.running.now.path in
     let film_is : search.film ≡ c.film-film.result.now = c.requires.search.0 ∙ sym c.film-film.ensures in
-    let longer : PathData = path_data c.take.new.self.path in
-    let longer_is : longer ≡ shot search path c.args.s = taken search c.film-film.result.now path c.args.s film_is c.requires.first longer c.take.ensures.path in
+    let longer : PathData = path_data c.take_with.new.self.path in
+    let longer_is : longer ≡ shot search path c.args.s = taken search c.film-film.result.now path c.args.s film_is c.requires.first longer c.take_with.ensures.path in
     let rest_is : without path.rest c.args.s ≡ c.without-rest.result.0 = sym (c.without-rest.ensures ∙ ap (λ (q : ℕ). without q c.args.s) c.rest.ensures) in
     offered_explores (g.H.Hand.shows c.args.hand.now) (g.H.Hand.shows c.offer-found.new.hand) (cursor_data c.args.cursor.now) (shot search path c.args.s)
     c.offer-found.result c.requires.may (rest_is ∙ c.is_empty.ensures.0 c.if-is_empty.true)
@@ -312,8 +312,8 @@ walk_child-walk_on-requires g t c κs within =
     let search : SearchData = (g.H.Hand.shows c.args.hand.now).search in
     let path : PathData = path_data c.args.running.now.path in
     let film_is : search.film ≡ c.film-film.result.now = c.requires.search.0 ∙ sym c.film-film.ensures in
-    let longer : PathData = path_data c.take-in-Through.new.self.path in
-    let longer_is : longer ≡ shot search path c.args.s = taken search c.film-film.result.now path c.args.s film_is c.requires.first longer c.take-in-Through.ensures.path in
+    let longer : PathData = path_data c.take_with-in-Through.new.self.path in
+    let longer_is : longer ≡ shot search path c.args.s = taken search c.film-film.result.now path c.args.s film_is c.requires.first longer c.take_with-in-Through.ensures.path in
     let rest_is : without path.rest c.args.s ≡ c.without-rest.result.0 = sym (c.without-rest.ensures ∙ ap (λ (q : ℕ). without q c.args.s) c.rest.ensures) in
     let paid_is : (shot search path c.args.s).paid ≡ c.paid.result + c.args.step
     = (λ i. (sym c.paid.ensures i) + (ap (λ (film : FilmData). step_cost film path.rest c.args.s) c.requires.search.0 ∙ sym c.requires.step) i) in
@@ -333,7 +333,7 @@ walk_child-walk_on-requires g t c κs within =
                 (
                   c.in-Through.ensures.memo,
                   (
-                    subst (λ (film : FilmData). IsRunning film (running_data c.take-in-Through.new.self)) c.film-film.ensures c.take-in-Through.ensures.running,
+                    subst (λ (film : FilmData). IsRunning film (running_data c.take_with-in-Through.new.self)) c.film-film.ensures c.take_with-in-Through.ensures.running,
                     (
                       subst (MayExplore (g.H.Hand.shows c.meet-met.new.hand) (cursor_data c.args.cursor.now)) (sym longer_is)
                           (may_still (g.H.Hand.shows c.args.hand.now) (g.H.Hand.shows c.meet-met.new.hand) (cursor_data c.args.cursor.now) (shot search path c.args.s) met.0 c.requires.may),
@@ -351,8 +351,8 @@ walk_child-walk_on-requires g t c κs within =
       ),
     )
 
-pub walk_child-take-requires-in-Through-clause-ready : goal.walk_child-take-requires-in-Through-clause-ready
-walk_child-take-requires-in-Through-clause-ready g t c =
+pub walk_child-take_with-requires-in-Through-clause-ready : goal.walk_child-take_with-requires-in-Through-clause-ready
+walk_child-take_with-requires-in-Through-clause-ready g t c =
     let search : SearchData = (g.H.Hand.shows c.args.hand.now).search in
     let path : PathData = path_data c.args.running.now.path in
     let film_is : search.film ≡ c.film-film.result.now = c.requires.search.0 ∙ sym c.film-film.ensures in
@@ -363,8 +363,8 @@ walk_child-returns-in_err-found-in-Through-clause-explored g t c =
     let search : SearchData = (g.H.Hand.shows c.args.hand.now).search in
     let path : PathData = path_data c.args.running.now.path in
     let film_is : search.film ≡ c.film-film.result.now = c.requires.search.0 ∙ sym c.film-film.ensures in
-    let longer : PathData = path_data c.take-in-Through.new.self.path in
-    let longer_is : longer ≡ shot search path c.args.s = taken search c.film-film.result.now path c.args.s film_is c.requires.first longer c.take-in-Through.ensures.path in
+    let longer : PathData = path_data c.take_with-in-Through.new.self.path in
+    let longer_is : longer ≡ shot search path c.args.s = taken search c.film-film.result.now path c.args.s film_is c.requires.first longer c.take_with-in-Through.ensures.path in
     let rest_is : without path.rest c.args.s ≡ c.without-rest.result.0 = sym (c.without-rest.ensures ∙ ap (λ (q : ℕ). without q c.args.s) c.rest.ensures) in
     let paid_is : (shot search path c.args.s).paid ≡ c.paid.result + c.args.step
     = (λ i. (sym c.paid.ensures i) + (ap (λ (film : FilmData). step_cost film path.rest c.args.s) c.requires.search.0 ∙ sym c.requires.step) i) in
@@ -380,8 +380,8 @@ walk_child-returns-in_ok-found-in-Through-clause-explored g t c =
     let search : SearchData = (g.H.Hand.shows c.args.hand.now).search in
     let path : PathData = path_data c.args.running.now.path in
     let film_is : search.film ≡ c.film-film.result.now = c.requires.search.0 ∙ sym c.film-film.ensures in
-    let longer : PathData = path_data c.take-in-Through.new.self.path in
-    let longer_is : longer ≡ shot search path c.args.s = taken search c.film-film.result.now path c.args.s film_is c.requires.first longer c.take-in-Through.ensures.path in
+    let longer : PathData = path_data c.take_with-in-Through.new.self.path in
+    let longer_is : longer ≡ shot search path c.args.s = taken search c.film-film.result.now path c.args.s film_is c.requires.first longer c.take_with-in-Through.ensures.path in
     let rest_is : without path.rest c.args.s ≡ c.without-rest.result.0 = sym (c.without-rest.ensures ∙ ap (λ (q : ℕ). without q c.args.s) c.rest.ensures) in
     let paid_is : (shot search path c.args.s).paid ≡ c.paid.result + c.args.step
     = (λ i. (sym c.paid.ensures i) + (ap (λ (film : FilmData). step_cost film path.rest c.args.s) c.requires.search.0 ∙ sym c.requires.step) i) in
