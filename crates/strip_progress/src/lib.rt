@@ -6,8 +6,6 @@ mod due;
 pub mod laws;
 mod progress;
 mod row;
-#[cfg(test)]
-mod tests;
 
 pub use due::is_due;
 pub use progress::Progress;

@@ -6,8 +6,6 @@ mod bounded;
 mod drawer;
 mod entry;
 mod store;
-#[cfg(test)]
-mod tests;
 
 pub use bounded::Bounded;
 pub use store::Store;

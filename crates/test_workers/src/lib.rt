@@ -10,9 +10,13 @@ mod hubs;
 #[cfg(test)]
 mod least;
 #[cfg(test)]
+mod progress;
+#[cfg(test)]
 mod queues;
 #[cfg(test)]
 mod races;
+#[cfg(test)]
+mod stores;
 #[cfg(test)]
 mod stripes;
 #[cfg(test)]

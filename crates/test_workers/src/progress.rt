@@ -1,5 +1,4 @@
 // The rows that come to a standard error, of several searches.
-use crate::Progress;
 use std::alloc::Global;
 use std::fmt::Display;
 use std::io::{self, ErrorKind};
@@ -8,19 +7,20 @@ use std::sync::atomic::{AtomicU32, Ordering};
 use std::test::Fail;
 use std::thread;
 use std::thread::Threads;
+use strip_progress::Progress;
 use strip_worker::Gate;
 
 /// A standard error that counts the rows that come to it, keeps the first, and says each time that it failed.
 #[derive(Drop)]
-struct StoredBound {
+struct FailingError {
     alloc: Global,
     rows: AtomicU32,
     first: OnceLock<String>,
 }
 
-impl StoredBound {
-    fn new(alloc: Global) -> StoredBound {
-        StoredBound {
+impl FailingError {
+    fn new(alloc: Global) -> FailingError {
+        FailingError {
             alloc,
             rows: AtomicU32::new(0),
             first: OnceLock::new(),
@@ -40,7 +40,7 @@ impl StoredBound {
     }
 }
 
-impl Eprint for StoredBound {
+impl Eprint for FailingError {
     fn eprint<D: Display + Drop>(&self, value: D) -> io::Result<()> {
         self.eprintln(value)
     }
@@ -73,7 +73,7 @@ fn tell_beside<R: Threads + Sync, E: Eprint + Sync>(rt: &R, host: &E) {
 
 /// How many rows come where one worker begins so many of the tasks that are asked for.
 fn rows_of(alloc: Global, tasks: u32, wanted: u32) -> u32 {
-    let host = StoredBound::new(alloc);
+    let host = FailingError::new(alloc);
     let gate = Progress::new(&host);
     gate.opened(wanted, 1);
     walk(&gate, 0, tasks);
@@ -93,7 +93,7 @@ fn a_row_comes_with_each_fortieth(rt: HostRuntime) -> Result<(), Fail> {
 
 #[test]
 fn a_worker_counts_once(rt: HostRuntime) -> Result<(), Fail> {
-    let host = StoredBound::new(rt.alloc());
+    let host = FailingError::new(rt.alloc());
     let gate = Progress::new(&host);
     gate.opened(81, 64);
     walk(&gate, 63, 2);
@@ -104,7 +104,7 @@ fn a_worker_counts_once(rt: HostRuntime) -> Result<(), Fail> {
 
 #[test]
 fn rows_come_from_two_threads(rt: HostRuntime) -> Result<(), Fail> {
-    let host = StoredBound::new(rt.alloc());
+    let host = FailingError::new(rt.alloc());
     tell_beside(&rt, &host);
     assert!(&rt; host.rows() == 40);
     Ok(())

@@ -3,8 +3,7 @@ ghost use Rattle.std.specs.Prelude.{◌≡◌};
 ghost use Rattle.strip_film.specs.Film.{LiesIn};
 ghost use Rattle.strip_bound.specs.StoredBound.{Keeps};
 
-use crate::bounded::Bounded;
-use crate::store::Store;
+use crate::book::triangle;
 use std::alloc::Global;
 use std::marker::Brand;
 use std::sync::Wait;
@@ -16,15 +15,7 @@ use strip_bound::{BoundTables, StoredBound, static_bound, static_reach};
 use strip_film::Film;
 use strip_kind::Kind;
 use strip_mask::Mask;
-
-fn triangle(alloc: Global) -> Result<Film, Fail> {
-    let casts = Vec::from_slice(alloc, &[0b011, 0b110, 0b101])?;
-    let days = Vec::from_slice(alloc, &[1, 1, 1])?;
-    let rates = Vec::from_slice(alloc, &[1, 2, 3])?;
-    let holds = Vec::from_slice(alloc, &[1, 2, 3])?;
-    let film = Film::of(casts, days, rates, holds, Vec::new(alloc)).ok_or("within the limits")?;
-    Ok(film)
-}
+use strip_store::{Bounded, Store};
 
 fn all_of(film: &Film) -> Mask
     ensures { LiesIn film.now result.0 }

@@ -1,9 +1,0 @@
-//! The program, run without words.
-#![tactic(auto)]
-
-use std::process::ExitCode;
-use strip_program::run;
-
-fn main(rt: HostRuntime) -> ExitCode {
-    run(&rt)
-}
