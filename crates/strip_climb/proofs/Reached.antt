@@ -39,6 +39,15 @@ climbs_trans before now after first second = record {
   spent = λ is. second.spent (first.spent is);
 }
 
+-- a walk of what was begun
+pub walks_on : (rules : Rules) (before now : AscentData) (path : PathData) (limit bound : ℕ) (after : AscentData) → Climbs before now
+    → Walks rules now path limit bound after → Walks rules before path limit bound after
+walks_on rules before now path limit bound after climbs walked = record {
+  ascent = walked.ascent;
+  climbs = climbs_trans before now after climbs walked.climbs;
+  reached = walked.reached;
+}
+
 -- below what the best path pays, a walk reaches any greater limit too
 pub below_best : (rules : Rules) (before : AscentData) (path : PathData) (limit below bound : ℕ) (after : AscentData) → below ≡ min limit before.best.paid
     → Walks rules before path below bound after → Walks rules before path limit bound after

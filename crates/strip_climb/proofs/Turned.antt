@@ -4,7 +4,7 @@ use Rattle.std.proofs.lemmas.Bool.{cases_eq, false≢true, false_from_ne_true}
 use Rattle.std.proofs.lemmas.List.{get_or_default, get_or-set_same, length-set}
 use Rattle.strip_mask.specs.Set.{IsSet, has, size, without}
 use Rattle.strip_mask.proofs.Below.{LiesBelow-without, is_set_below}
-use Rattle.strip_mask.proofs.ByMembers.{has-empty, has-without_other, has_from_without}
+use Rattle.strip_mask.proofs.ByMembers.{below_64, has-empty, has-without_other, has_from_without}
 use Rattle.strip_mask.proofs.Sizes.{size-without}
 use Rattle.strip_kind.specs.declared.kind.Kind.{Kind}
 use Rattle.strip_pay.specs.Film.{FilmData}
@@ -15,7 +15,7 @@ use Rattle.strip_film.specs.Rules.{IsOpen, Rules}
 use Rattle.strip_film.specs.Shoot.{ready, step_cost}
 use Rattle.strip_film.proofs.Costs.{step_limit}
 use Rattle.strip_film.proofs.Lists.{AreFirsts-append, ready_there}
-use Rattle.strip_film.proofs.Paths.{rest_lies}
+use Rattle.strip_film.proofs.Paths.{IsPath-extended, path_limit, rest_lies}
 use Rattle.strip_film.proofs.Small.{finish_small}
 use Rattle.strip_rule.specs.Rule.{open_firsts}
 use Rattle.strip_rule.proofs.Open.{open_is}
@@ -27,7 +27,7 @@ use Rattle.strip_walk.specs.declared.found.Sifted.{Sifted}
 use Rattle.strip_walk.specs.Sifted.{AreSifted, to_walk}
 use Rattle.strip_walk.proofs.Bounds.{begin_least, bounds_finish, finish_below}
 use Rattle.strip_climb.specs.Ascent.{AscentData, Climbs, IsAscent, IsReached, Reaches, Walks}
-use Rattle.strip_climb.specs.Begun.{HasLine}
+use Rattle.strip_climb.specs.Begun.{HasLine, shot}
 use Rattle.strip_climb.proofs.Apart.{apart_same}
 use Rattle.strip_climb.proofs.Reached.{climbs_trans}
 
@@ -38,14 +38,6 @@ pub record AreTurned (rules : Rules) (ascent : AscentData) (path : PathData) (li
   pub justified : (scene : ℕ) → has (rules.firsts path.rest) scene ≡ true → has left scene ≡ false
       → least ≤ step_cost rules.film path.rest scene + known rules ascent.lines (without path.rest scene)
   pub reaches : ascent.spent ≡ false → Reaches ascent path limit least
-
--- the path with this scene shot next
-abbrev pub shot : Rules → PathData → ℕ → PathData
-shot rules path scene = record {
-  scenes = path.scenes ++ scene ∷ [];
-  rest = without path.rest scene;
-  paid = path.paid + step_cost rules.film path.rest scene;
-}
 
 -- ---- before the first child
 
@@ -113,20 +105,34 @@ module _ (kind : Kind) (film : FilmData) (path : PathData) (s : ℕ) (is : IsFil
   first_ready : has (ready film path.rest) s ≡ true
   first_ready = (open_is film path.rest s first).0
 
+  pub first_there : has path.rest s ≡ true
+  first_there = ready_there film path.rest s first_ready
+
+  pub first_small : s < 64
+  first_small = below_64 path.rest s set first_there
+
+  pub rest_lies_then : LiesIn film (without path.rest s)
+  rest_lies_then = LiesBelow-without (length film.casts) path.rest s lies
+
+  pub shot_is_path : IsPath film (shot (rules_of kind film) path s)
+  shot_is_path = IsPath-extended film path within is s first_ready
+
+  pub shot_fits : path.paid + step_cost film path.rest s < 2 ^ 64
+  shot_fits = omega (arith, path_limit film (shot (rules_of kind film) path s) shot_is_path is)
+
   pub fewer_left : size (without path.rest s) < size path.rest
-  fewer_left = omega (arith, size-without path.rest s set (ready_there film path.rest s first_ready))
+  fewer_left = omega (arith, size-without path.rest s set first_there)
 
   -- the step and what was found of the rest fit a number
   pub sum_fits : (lines : List Line) (found : ℕ) → AreJustified (rules_of kind film) lines → found ≤ known (rules_of kind film) lines (without path.rest s)
       → step_cost film path.rest s + found < 2 ^ 64
   sum_fits lines found justified most =
-      let rest : LiesIn film (without path.rest s) = LiesBelow-without (length film.casts) path.rest s lies in
       omega (
         arith,
-        step_limit film path.rest s is set (ready_there film path.rest s first_ready),
-        finish_small film (without path.rest s) found is rest
+        step_limit film path.rest s is set first_there,
+        finish_small film (without path.rest s) found is rest_lies_then
             (finish_below film (without path.rest s) found (known (rules_of kind film) lines (without path.rest s)) most
-            (known_is_true (rules_of kind film) lines is (bounds_finish kind film is) (begin_least kind film is) justified (without path.rest s) rest)),
+            (known_is_true (rules_of kind film) lines is (bounds_finish kind film is) (begin_least kind film is) justified (without path.rest s) rest_lies_then)),
       )
 
 -- ---- the line is raised
@@ -205,14 +211,6 @@ module _ (kind : Kind) (film other : FilmData) (path now : PathData) (s : ℕ) (
     rest = without (same i).rest s;
     paid = (same i).paid + step_cost (film_is i) (same i).rest s;
   })
-
--- what a step costs is what is paid more
-pub paid_more : (rules : Rules) (path now longer : PathData) (s paid paid_after : ℕ) → now ≡ path → longer ≡ shot rules path s → paid ≡ now.paid
-    → paid_after ≡ longer.paid → paid_after - paid ≡ step_cost rules.film path.rest s
-paid_more rules path now longer s paid paid_after same is paid_is after_is =
-    let before : now.paid ≡ path.paid = ap (λ (p : PathData). p.paid) same in
-    let after : longer.paid ≡ path.paid + step_cost rules.film path.rest s = ap (λ (p : PathData). p.paid) is in
-    omega (arith, before, after, paid_is, after_is)
 
 pub line_stays : (now after : AscentData) (path : PathData) (place : ℕ) → GrowTo now.lines after.lines → HasLine now path place → HasLine after path place
 line_stays now after path place grow line = record {

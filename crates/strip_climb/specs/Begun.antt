@@ -1,8 +1,10 @@
 -- How the walk of a path begins.
-use Rattle.std.specs.Prelude.{◌≡◌, ℕ, ◌<◌, ◌≤◌, ◌⊎◌, true, [], ◌∷◌, ◌++◌, length}
+use Rattle.std.specs.Prelude.{◌≡◌, ℕ, ◌+◌, ◌<◌, ◌≤◌, ◌⊎◌, true, [], ◌∷◌, ◌++◌, length}
+use Rattle.strip_mask.specs.Set.{without}
 use Rattle.strip_film.specs.declared.shared.Line.{Line}
 use Rattle.strip_film.specs.Path.{PathData}
 use Rattle.strip_film.specs.Rules.{Rules}
+use Rattle.strip_film.specs.Shoot.{step_cost}
 use Rattle.strip_lines.specs.Lines.{line_at}
 use Rattle.strip_climb.specs.declared.ascent.Begun.{Begun}
 use Rattle.strip_climb.specs.declared.ascent.Begun.TheVariants.{Answered, Opened}
@@ -20,6 +22,14 @@ Adds before line (Answered bound) after =
     (bound ≡ line.bound) × (before.cap ≤ length before.lines) × (after ≡ record before { spent = true })
 Adds before line (Opened place) after =
     (place ≡ length before.lines) × (length before.lines < before.cap) × (after ≡ record before { lines = before.lines ++ line ∷ [] })
+
+-- the path with this scene shot next
+abbrev pub shot : Rules → PathData → ℕ → PathData
+shot rules path scene = record {
+  scenes = path.scenes ++ scene ∷ [];
+  rest = without path.rest scene;
+  paid = path.paid + step_cost rules.film path.rest scene;
+}
 
 -- the line at a place is one of the set that remains after the path
 pub record HasLine (ascent : AscentData) (path : PathData) (place : ℕ) : Type 0 where
