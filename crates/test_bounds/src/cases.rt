@@ -7,20 +7,23 @@ use strip_bound::{BoundTables, StoredBound, static_reach};
 use strip_film::Film;
 use strip_kind::Kind;
 use strip_mask::Mask;
+use strip_pay::Pair;
 
-/// The film of these lists, without pairs.
+/// The film of these lists.
 pub(crate) fn film_of(
     alloc: Global,
     casts: &[u64],
     days: &[u64],
     rates: &[u64],
     holds: &[u64],
+    pairs: &[Pair],
 ) -> Result<Film, Fail> {
     let casts = Vec::from_slice(alloc, casts)?;
     let days = Vec::from_slice(alloc, days)?;
     let rates = Vec::from_slice(alloc, rates)?;
     let holds = Vec::from_slice(alloc, holds)?;
-    let film = Film::of(casts, days, rates, holds, Vec::new(alloc)).ok_or("within the limits")?;
+    let pairs = Vec::from_slice(alloc, pairs)?;
+    let film = Film::of(casts, days, rates, holds, pairs).ok_or("within the limits")?;
     Ok(film)
 }
 

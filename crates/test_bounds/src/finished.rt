@@ -401,7 +401,7 @@ fn no_bound_of_more_films_is_above_the_cost(rt: HostRuntime) -> Result<(), Fail>
 
 /// Whether each set's bound is at most what finishing it costs, and both add up to what they should.
 fn is_bounded(alloc: Global, row: &Row) -> Result<bool, Fail> {
-    let film = film_of(alloc, row.casts, row.days, row.rates, row.holds)?;
+    let film = film_of(alloc, row.casts, row.days, row.rates, row.holds, &[])?;
     let tables = BoundTables::of(alloc, &film)?;
     let costs = costs_of(alloc, &film)?;
     let (mut bounds, mut total) = (0u64, 0u64);

@@ -1,4 +1,5 @@
 // Which scenes are left open to be shot first, worked by hand.
+use crate::cases::film_of;
 use std::alloc::Global;
 use std::test::Fail;
 use strip_film::Film;
@@ -8,7 +9,8 @@ use strip_rule::{open_firsts, yields};
 
 struct Row {
     casts: &'static [u64],
-    pairs: &'static [(u16, u16)],
+    days: &'static [u64],
+    pairs: &'static [Pair],
     set: u64,
     open: u64,
 }
@@ -17,6 +19,7 @@ static ROWS: [Row; 6] = [
     // Each scene has an actor who waits while the other is shot.
     Row {
         casts: &[0b11, 0b01, 0b10],
+        days: &[1, 1, 1],
         pairs: &[],
         set: 0b110,
         open: 0b110,
@@ -24,6 +27,7 @@ static ROWS: [Row; 6] = [
     // Whoever plays in the last scene plays in one of the others, and each of these rules it out.
     Row {
         casts: &[0b01, 0b10, 0b11],
+        days: &[1, 1, 1],
         pairs: &[],
         set: 0b111,
         open: 0b011,
@@ -31,6 +35,7 @@ static ROWS: [Row; 6] = [
     // Two equal casts: the lesser rules the greater out.
     Row {
         casts: &[0b1, 0b1],
+        days: &[1, 1],
         pairs: &[],
         set: 0b11,
         open: 0b01,
@@ -38,19 +43,22 @@ static ROWS: [Row; 6] = [
     // The first scene would rule out the second, and waits for the third.
     Row {
         casts: &[0b001, 0b011, 0b100],
+        days: &[1, 1, 1],
         pairs: &[],
         set: 0b111,
         open: 0b101,
     },
     Row {
         casts: &[0b001, 0b011, 0b100],
-        pairs: &[(2, 0)],
+        days: &[1, 1, 1],
+        pairs: &[Pair { first: 2, then: 0 }],
         set: 0b111,
         open: 0b110,
     },
     // Nothing remains.
     Row {
         casts: &[0b1],
+        days: &[1],
         pairs: &[],
         set: 0,
         open: 0,
@@ -65,7 +73,7 @@ fn open_firsts_are_those_worked_by_hand(rt: HostRuntime) -> Result<(), Fail> {
 
 fn all_are_open(alloc: Global, rows: &[Row]) -> Result<bool, Fail> {
     for row in rows {
-        let film = film_of(alloc, row)?;
+        let film = film_of_row(alloc, row)?;
         if opens(&film, Mask(row.set)) != Some(row.open) {
             return Ok(false);
         }
@@ -75,7 +83,7 @@ fn all_are_open(alloc: Global, rows: &[Row]) -> Result<bool, Fail> {
 
 #[test]
 fn of_two_equal_casts_the_lesser_rules(rt: HostRuntime) -> Result<(), Fail> {
-    let film = film_of(rt.alloc(), &ROWS[2])?;
+    let film = film_of_row(rt.alloc(), &ROWS[2])?;
     assert!(&rt; rules(&film, 0, 1) == Some(true) && rules(&film, 1, 0) == Some(false));
     Ok(())
 }
@@ -98,21 +106,13 @@ fn rules(film: &Film, t: u32, s: u32) -> Option<bool> {
     Some(yields(film, all, t, s))
 }
 
-fn film_of(alloc: Global, row: &Row) -> Result<Film, Fail> {
-    let casts = Vec::from_slice(alloc, row.casts)?;
-    let mut days = Vec::new(alloc);
-    for _scene in row.casts {
-        days.push(1)?;
-    }
-    let rates = Vec::from_slice(alloc, &[1, 2, 3])?;
-    let holds = Vec::from_slice(alloc, &[1, 2, 3])?;
-    let mut pairs = Vec::new(alloc);
-    for (first, then) in row.pairs {
-        pairs.push(Pair {
-            first: *first,
-            then: *then,
-        })?;
-    }
-    let film = Film::of(casts, days, rates, holds, pairs).ok_or("within the limits")?;
-    Ok(film)
+fn film_of_row(alloc: Global, row: &Row) -> Result<Film, Fail> {
+    film_of(
+        alloc,
+        row.casts,
+        row.days,
+        &[1, 2, 3],
+        &[1, 2, 3],
+        row.pairs,
+    )
 }

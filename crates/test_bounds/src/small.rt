@@ -1,6 +1,7 @@
 // Bounds of small films that were worked by hand, each asked for through a stored bound.
 ghost use Rattle.strip_bound.specs.Tables.{AreTables};
 
+use crate::cases::film_of;
 use std::alloc::Global;
 use std::test::Fail;
 use strip_bound::{BoundTables, StoredBound, plain, static_reach};
@@ -180,7 +181,7 @@ fn bounds_are_those_worked_by_hand(rt: HostRuntime) -> Result<(), Fail> {
 }
 
 fn has_bounds(alloc: Global, row: &Row) -> Result<bool, Fail> {
-    let film = film_of(alloc, row)?;
+    let film = film_of(alloc, row.casts, row.days, row.rates, row.holds, &[])?;
     let tables = BoundTables::of(alloc, &film)?;
     let set = Mask(row.set);
     let [plain, pairs, groups, arrivals] = row.bounds;
@@ -191,15 +192,6 @@ fn has_bounds(alloc: Global, row: &Row) -> Result<bool, Fail> {
             && kept(&film, &tables, Kind::Groups, set) == Some(groups)
             && kept(&film, &tables, Kind::Arrivals, set) == Some(arrivals),
     )
-}
-
-fn film_of(alloc: Global, row: &Row) -> Result<Film, Fail> {
-    let casts = Vec::from_slice(alloc, row.casts)?;
-    let days = Vec::from_slice(alloc, row.days)?;
-    let rates = Vec::from_slice(alloc, row.rates)?;
-    let holds = Vec::from_slice(alloc, row.holds)?;
-    let film = Film::of(casts, days, rates, holds, Vec::new(alloc)).ok_or("within the limits")?;
-    Ok(film)
 }
 
 // None where the set has a number that is no scene.

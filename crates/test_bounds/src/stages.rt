@@ -124,7 +124,7 @@ fn thirteen_on_location_have_their_bound(rt: HostRuntime) -> Result<(), Fail> {
 
 /// Whether the set has this bound, and it is reached wherever it may be.
 fn has_bound(alloc: Global, row: &Row) -> Result<bool, Fail> {
-    let film = film_of(alloc, row.casts, row.days, row.rates, row.holds)?;
+    let film = film_of(alloc, row.casts, row.days, row.rates, row.holds, &[])?;
     let tables = BoundTables::of(alloc, &film)?;
     let set = Mask(row.set);
     for stage in row.stages {
