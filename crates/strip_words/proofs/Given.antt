@@ -101,3 +101,7 @@ picked_once option items a b distinct (inl one) (inl two) = one.1 ∙ sym two.1
 picked_once option items a b distinct (inl one) (inr two) = absurd (one.0 b two.0)
 picked_once option items a b distinct (inr one) (inl two) = absurd (two.0 a one.0)
 picked_once option items a b distinct (inr one) (inr two) = given_once option.name a b items distinct one.0 two.0
+
+-- the items in a slice have no option twice
+pub distinct_in : (items slice : List CodeItem) → slice ≡ items → AreDistinct (options_in (items_data items)) → AreDistinct (options_in (items_data slice))
+distinct_in items slice same distinct = subst (λ items. AreDistinct (options_in (items_data items))) (sym same) distinct

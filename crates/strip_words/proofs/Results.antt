@@ -1,5 +1,7 @@
 -- Results and options at the exits of `?`.
 use Rattle.std.proofs.Common.{◌≡◌, Option, None, Some, Result, Ok, Err, ok_or, IfNone, IfErr, IsErrAnd, sym, subst}
+use Rattle.strip_words.specs.declared.fault.WordsFault.{WordsFault}
+use Rattle.strip_words.specs.declared.fault.WordsFault.TheVariants.{BadWords, Memory}
 
 pub if_none : {X : Type 0} (o : Option X) (P : Type 0) → P → IfNone o P
 if_none None P holds = holds
@@ -22,3 +24,8 @@ err_from_none {X} {E} (Some x) e r P Q is none holds = subst (λ (s : Result X E
 pub err_as : {X E : Type 0} (r : Result X E) (P Q : E → Type 0) → IfErr r P → ((e : E) → P e → Q e) → IfErr r Q
 err_as (Ok x) P Q told follows = tt
 err_as (Err e) P Q told follows = follows e told
+
+-- want of memory says nothing of the words
+pub no_memory : {X : Type 0} (r : Result X WordsFault) (Q : Type 0) → IsErrAnd r (λ e. e ≡ Memory) → IfErr r (λ e. e ≡ BadWords → Q)
+no_memory (Ok x) Q is = tt
+no_memory (Err e) Q is = λ bad. absurd (cc (is, bad))

@@ -1,14 +1,14 @@
 -- The code's lists as the definitions see them.
 use Rattle.std.proofs.Common.{◌≡◌, ℕ, ◌+◌, ◌<◌, ◌≤◌, ◌-◌, true, Option, List, [], ◌∷◌, ◌++◌, length, get_or, take, drop, take_all, Contains, Bor, String, string_bytes, Global, refl, sym, ap, ap₂, ◌∙◌, arith, bytes_eq, All, flat_map, option_map, append_assoc, append-nil, add-one, subst}
 use Rattle.std.specs.List.{list_any, filter_map, cons_option}
-use Rattle.std.proofs.lemmas.List.{map-append}
+use Rattle.std.proofs.lemmas.List.{length-map, map-append}
 use Rattle.std.proofs.lemmas.List.Concat.{flat_map-append}
 use Rattle.std.proofs.lemmas.List.Elements.{All-push, filter_map-append}
 use Rattle.std.proofs.Math.Seq.{take-suc}
 use Rattle.strip_words.specs.declared.item.Item.{Item}
 use Rattle.std.proofs.lemmas.List.Folds.{Any-from_list_any, list_any-from_Any}
 use Rattle.std.proofs.lemmas.Slice.Eq.{bytes_eq-Decides}
-use Rattle.strip_words.specs.Words.{Word, Item as ItemData, spelling, operand_of}
+use Rattle.strip_words.specs.Words.{Word, Command, Item as ItemData, IsSpelled, spelling, operand_of, operands_of}
 use Rattle.strip_words.specs.Shown.{texts, strs, item_data, items_data}
 use Rattle.strip_words.proofs.Members.{any_map, any_contains, any_weaker}
 
@@ -43,6 +43,16 @@ pub one_str : (words : List (Bor (List ℕ))) (default : Bor (List ℕ)) → len
 one_str [] default one = absurd (omega (arith, one))
 one_str (first ∷ []) default one = refl
 one_str (first ∷ second ∷ words) default one = absurd (omega (arith, one))
+
+pub two_strs : (words : List (Bor (List ℕ))) (one other : Bor (List ℕ)) → length words ≡ 2
+    → strs words ≡ (get_or words 0 one).now ∷ (get_or words 1 other).now ∷ []
+two_strs [] one other two = absurd (omega (arith, two))
+two_strs (first ∷ words) one other two = ap (λ ws. first.now ∷ ws) (one_str words other (omega (arith, two)))
+
+-- the operands that were read are as many as the command asks for
+pub operand_count : (operands : List (Bor (List ℕ))) (command : Command) (words : List Word) (items : List ItemData) (rest : Option (List Word))
+    → strs operands ≡ operands_of items rest → IsSpelled command words items rest → length operands ≡ command.operands
+operand_count operands command words items rest same is = sym (length-map operands (λ word. word.now)) ∙ ap length same ∙ is.count
 
 -- one item more
 pub spelled_more : (items new : List Item) (item : Item) (words later behind : List Word) → new ≡ items ++ item ∷ []

@@ -1,9 +1,10 @@
 -- The job to solve that words name, and that they name one.
-use Rattle.std.proofs.Common.{◌≡◌, false, true≢false, bytes_eq, List, Option, refl, sym, subst, ◌∙◌}
+use Rattle.std.proofs.Common.{◌≡◌, false, true≢false, bytes_eq, List, Option, Contains, inl, inr, rules, refl, sym, subst, ◌∙◌}
 use Rattle.std.proofs.lemmas.Slice.Eq.{bytes_eq-Decides}
 use Rattle.strip_kind.specs.declared.kind.Kind.{Kind}
 use Rattle.strip_kind.specs.declared.kind.Kind.TheVariants.{Plain, Pairs, Groups, Arrivals}
-use Rattle.strip_words.specs.Words.{Word, IsSpelled}
+use Rattle.strip_words.specs.Words.{Word, Item, IsSpelled}
+use Rattle.strip_words.specs.Options.{IsPicked}
 use Rattle.strip_words.specs.declared.item.Item.{Item as CodeItem}
 use Rattle.strip_words.specs.Shown.{items_data}
 use Rattle.strip_words.specs.Solve.{solve, workers_option, nodes_option, table_option, tries_option, steps_option, bounds_option, bound_word, SolveData, SayJob, NameSolve}
@@ -31,6 +32,11 @@ kind_once Arrivals Plain same = differ (bound_word Arrivals) (bound_word Plain) 
 kind_once Arrivals Pairs same = differ (bound_word Arrivals) (bound_word Pairs) refl same
 kind_once Arrivals Groups same = differ (bound_word Arrivals) (bound_word Groups) refl same
 kind_once Arrivals Arrivals same = refl
+
+-- the word of a bound that was picked is one of the choices
+pub bound_picked : (items : List Item) (word : Word) → IsPicked bounds_option items word → Contains bounds_option.choices word
+bound_picked items word (inl out) = subst (Contains bounds_option.choices) (sym out.1) (1, search rules, refl)
+bound_picked items word (inr picked) = picked.1
 
 -- the items that were read say what the words name
 pub said_by_items : (words : List Word) (items slice : List CodeItem) (rest : Option (List Word)) (job : SolveData) → slice ≡ items

@@ -1,11 +1,14 @@
-use Rattle.std.proofs.Common.{codes, ◌∷◌, ◌∙◌, sym, ap, subst}
+use Rattle.std.proofs.Common.{codes, length, ◌∷◌, ◌∙◌, sym, ap, subst}
 use Rattle.strip_words.specs.Words.{operands_of}
 use Rattle.strip_words.specs.Options.{IsPicked}
 use Rattle.strip_words.specs.Solve.{bounds_option, bound_word}
 use Rattle.strip_words.specs.Gen.{NameFilm, SayTrial}
 use Rattle.strip_words.specs.Shown.{gen_data, items_data, rest_data, strs, texts, trial_data}
-use Rattle.strip_words.proofs.Results.{if_err}
+use Rattle.strip_words.proofs.Results.{if_err, no_memory}
+use Rattle.strip_words.proofs.Given.{distinct_in}
 use Rattle.strip_words.proofs.Made.{trial_said}
+use Rattle.strip_words.proofs.Shows.{operand_count}
+use Rattle.strip_words.proofs.Solving.{bound_picked}
 use Rattle.strip_words.proofs.making.trial_job.Goals as goal
 
 pub returns-in_err-nodes-clause-bad : goal.returns-in_err-nodes-clause-bad
@@ -68,3 +71,28 @@ returns-clause-named c =
       c.in_ok-reading.ensures.ok,
       subst (λ items. SayTrial (items_data items) rest job) c.as_slice-items.ensures.value says,
     )
+
+pub chosen-requires : goal.chosen-requires
+chosen-requires c = distinct_in _ _ c.as_slice-items.ensures.value c.in_ok-reading.ensures.ok.once
+
+pub chosen-requires-2 : goal.chosen-requires-2
+chosen-requires-2 c = distinct_in _ _ c.as_slice-items.ensures.value c.in_ok-reading.ensures.ok.once
+
+pub given-requires : goal.given-requires
+given-requires c = distinct_in _ _ c.as_slice-items.ensures.value c.in_ok-reading.ensures.ok.once
+
+pub given-requires-2 : goal.given-requires-2
+given-requires-2 c = distinct_in _ _ c.as_slice-items.ensures.value c.in_ok-reading.ensures.ok.once
+
+pub picked-requires : goal.picked-requires
+picked-requires c = distinct_in _ _ c.as_slice-items.ensures.value c.in_ok-reading.ensures.ok.once
+
+pub kind_of-kind-requires : goal.kind_of-kind-requires
+kind_of-kind-requires c = bound_picked (items_data c.as_slice-items.result.now) c.in_ok-picked.field-0.now c.in_ok-picked.ensures.ok
+
+pub returns-in_err-operands-clause-bad : goal.returns-in_err-operands-clause-bad
+returns-in_err-operands-clause-bad c = no_memory c.from_residual-in_err-operands.result _ c.from_residual-in_err-operands.ensures.1
+
+pub film_named-requires : goal.film_named-requires
+film_named-requires c =
+    ap length c.as_slice.ensures.value ∙ operand_count c.in_ok-operands.operands.items _ _ _ _ c.in_ok-operands.ensures c.in_ok-reading.ensures.ok

@@ -1,4 +1,5 @@
-use Rattle.std.proofs.Common.{codes, take, drop, length, ◌-◌, refl, sym, ◌∙◌, subst}
+use Rattle.std.proofs.Common.{arith, ap, codes, take, drop, length, ◌-◌, refl, sym, ◌∙◌, subst}
+use Rattle.std.proofs.lemmas.List.{nil_from_length}
 use Rattle.std.proofs.lemmas.Slice.Eq.{bytes_eq-Decides}
 use Rattle.strip_words.specs.Solve.{NameSolve}
 use Rattle.strip_words.specs.Plans.{NamePlanFiles}
@@ -6,7 +7,8 @@ use Rattle.strip_words.specs.Gen.{NameGen, NameTrial}
 use Rattle.strip_words.specs.Shown.{gen_data, plan_files_data, solve_data, texts, trial_data}
 use Rattle.strip_words.proofs.Results.{err_from}
 use Rattle.strip_words.proofs.Shows.{texts_begin}
-use Rattle.strip_words.proofs.OneJob.{no_check, no_convert, no_dood, no_gen, no_sheet, no_solve, no_trial}
+use Rattle.strip_words.proofs.OneJob.{no_check, no_command, no_convert, no_dood, no_gen, no_sheet, no_solve, no_trial, no_words}
+use Rattle.strip_words.proofs.Solving.{differ}
 use Rattle.strip_words.proofs.naming.job.Goals as goal
 
 pub returns-in_err-solve_job-clause-bad : goal.returns-in_err-solve_job-clause-bad
@@ -106,3 +108,20 @@ returns-in_ok-trial_job-clause-named c =
     let begins = texts_begin c.args.words.now c.word-item.result (codes "trial") c.in-len1-up.len_at_least c.word-item.is
     (sym c.as_str-word.ensures.value ∙ (bytes_eq-Decides c.as_str-word.result.now (codes "trial")).0 (sym c.eq-else-eq-6.ensures ∙ c.if-eq-7.true)) in
     subst (λ ws. NameTrial ws (trial_data c.in_ok-trial_job.field-0)) (sym begins) c.in_ok-trial_job.ensures.named
+
+pub returns-in_default-clause-bad : goal.returns-in_default-clause-bad
+returns-in_default-clause-bad c = λ _. no_words (texts c.args.words.now) (ap texts (nil_from_length c.args.words.now (omega arith)))
+
+pub returns-else-eq-7-clause-bad : goal.returns-else-eq-7-clause-bad
+returns-else-eq-7-clause-bad c = λ _.
+    let later = texts (take (length c.args.words.now - 1) (drop 1 c.args.words.now)) in
+    let word = c.as_str-word.result.now in
+    let begins = texts_begin c.args.words.now c.word-item.result word c.in-len1-up.len_at_least c.word-item.is (sym c.as_str-word.ensures.value) in
+    no_command (texts c.args.words.now) later word begins
+    (differ word (codes "solve") (sym c.eq.ensures ∙ c.if-eq.false))
+    (differ word (codes "check") (sym c.eq-else-eq.ensures ∙ c.if-eq-2.false))
+    (differ word (codes "convert") (sym c.eq-else-eq-2.ensures ∙ c.if-eq-3.false))
+    (differ word (codes "dood") (sym c.eq-else-eq-3.ensures ∙ c.if-eq-4.false))
+    (differ word (codes "sheet") (sym c.eq-else-eq-4.ensures ∙ c.if-eq-5.false))
+    (differ word (codes "gen") (sym c.eq-else-eq-5.ensures ∙ c.if-eq-6.false))
+    (differ word (codes "trial") (sym c.eq-else-eq-6.ensures ∙ c.if-eq-7.false))

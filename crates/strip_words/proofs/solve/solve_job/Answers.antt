@@ -1,12 +1,12 @@
-use Rattle.std.proofs.Common.{◌≡◌, [], ◌∷◌, codes, length, sym, ap, ◌∙◌, subst}
-use Rattle.std.proofs.lemmas.List.{length-map}
+use Rattle.std.proofs.Common.{arith, ◌≡◌, [], ◌∷◌, codes, length, sym, ap, ◌∙◌, subst}
 use Rattle.strip_words.specs.Words.{Word, operands_of}
 use Rattle.strip_words.specs.Options.{IsPicked}
 use Rattle.strip_words.specs.Solve.{SayJob, bounds_option, bound_word}
 use Rattle.strip_words.specs.Shown.{texts, strs, items_data, rest_data, solve_data}
-use Rattle.strip_words.proofs.Results.{err_from, if_err}
-use Rattle.strip_words.proofs.Shows.{one_str}
-use Rattle.strip_words.proofs.Solving.{said_by_items}
+use Rattle.strip_words.proofs.Results.{err_from, if_err, no_memory}
+use Rattle.strip_words.proofs.Shows.{one_str, operand_count}
+use Rattle.strip_words.proofs.Given.{distinct_in}
+use Rattle.strip_words.proofs.Solving.{bound_picked, said_by_items}
 use Rattle.strip_words.proofs.solve.solve_job.Goals as goal
 
 pub returns-in_err-reading-clause-bad : goal.returns-in_err-reading-clause-bad
@@ -50,7 +50,7 @@ returns-clause-named c =
     let slice = c.as_slice-items.result.now in
     let operands = c.in_ok-operands.operands.items in
     let all : strs operands ≡ operands_of (items_data reading.items.items) (rest_data reading.rest) = c.in_ok-operands.ensures in
-    let one : length operands ≡ 1 = sym (length-map operands (λ word. word.now)) ∙ ap length all ∙ spelled.count in
+    let one : length operands ≡ 1 = operand_count operands _ _ _ _ all spelled in
     let job = solve_data (record {
       file = c.in_ok-file.file;
       workers = c.in_ok-workers.workers;
@@ -81,3 +81,35 @@ returns-clause-named c =
       spelled,
       subst (λ items. SayJob (items_data items) (rest_data reading.rest) job) c.as_slice-items.ensures.value says,
     )
+
+pub chosen-requires : goal.chosen-requires
+chosen-requires c = distinct_in _ _ c.as_slice-items.ensures.value c.in_ok-reading.ensures.ok.once
+
+pub chosen-requires-2 : goal.chosen-requires-2
+chosen-requires-2 c = distinct_in _ _ c.as_slice-items.ensures.value c.in_ok-reading.ensures.ok.once
+
+pub chosen-requires-3 : goal.chosen-requires-3
+chosen-requires-3 c = distinct_in _ _ c.as_slice-items.ensures.value c.in_ok-reading.ensures.ok.once
+
+pub given-requires : goal.given-requires
+given-requires c = distinct_in _ _ c.as_slice-items.ensures.value c.in_ok-reading.ensures.ok.once
+
+pub given-requires-2 : goal.given-requires-2
+given-requires-2 c = distinct_in _ _ c.as_slice-items.ensures.value c.in_ok-reading.ensures.ok.once
+
+pub picked-requires : goal.picked-requires
+picked-requires c = distinct_in _ _ c.as_slice-items.ensures.value c.in_ok-reading.ensures.ok.once
+
+pub kind_of-kind-requires : goal.kind_of-kind-requires
+kind_of-kind-requires c = bound_picked (items_data c.as_slice-items.result.now) c.in_ok-picked.field-0.now c.in_ok-picked.ensures.ok
+
+pub returns-in_err-operands-clause-bad : goal.returns-in_err-operands-clause-bad
+returns-in_err-operands-clause-bad c = no_memory c.from_residual-in_err-operands.result _ c.from_residual-in_err-operands.ensures.1
+
+pub index-requires : goal.index-requires
+index-requires c =
+    let operands = c.in_ok-operands.operands in
+    omega (arith, operands.ok.0, operand_count operands.items _ _ _ _ c.in_ok-operands.ensures c.in_ok-reading.ensures.ok)
+
+pub returns-in_err-file-clause-bad : goal.returns-in_err-file-clause-bad
+returns-in_err-file-clause-bad c = no_memory c.from_residual-in_err-file.result _ c.from_residual-in_err-file.ensures.1
