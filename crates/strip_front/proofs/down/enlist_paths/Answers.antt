@@ -13,7 +13,7 @@ use Rattle.strip_front.specs.Front.{IsFrontOf, line_of, path_at}
 use Rattle.strip_front.specs.Shown.{front_data}
 use Rattle.strip_front.specs.Tried.{MayTry, Tries}
 use Rattle.strip_front.proofs.FrontFacts.{FrontFacts, front_facts}
-use Rattle.strip_front.proofs.GoneDown.{tries_down}
+use Rattle.strip_front.proofs.GoneDown.{down_then, tries_down}
 use Rattle.strip_front.proofs.Tried.{may_try_first, none_there, path_read, root_enlisted, root_passed, root_spent}
 use Rattle.strip_front.proofs.down.enlist_paths.Given.{Over}
 use Rattle.strip_front.proofs.down.enlist_paths.Goals as goal
@@ -123,3 +123,17 @@ returns-in-Spent-clause-enlisted g c =
     root_spent (g.H.Hand.shows c.args.hand.now) (cursor_data c.args.cursor.now) (g.H.Hand.shows c.try_path.new.hand) (cursor_data c.try_path.new.cursor) (front_data c.args.front.now)
     (none g (goal.at.After-index-paths-0 g here).After-paths) (ap (λ (k : CursorData). k.last) c.requires.may.begins) (path_data c.index-paths-0.result) (rest_is g here) (paid_is g here)
     c.try_path.ensures.limits (may g here) (tries g at Spent (c.in_ok-try_path.was ∙ ap (λ (t : Tried). Ok t) c.in-Spent.is))
+
+pub returns-in_err-try_path-clause-down : goal.returns-in_err-try_path-clause-down
+returns-in_err-try_path-clause-down g c = down g (goal.at.returns-in_err-try_path-clause-down g c).After-try_path
+
+pub returns-in-Passed-clause-down : goal.returns-in-Passed-clause-down
+returns-in-Passed-clause-down g c = down g (goal.at.returns-in-Passed-clause-down g c).After-try_path
+
+pub returns-in-Spent-clause-down : goal.returns-in-Spent-clause-down
+returns-in-Spent-clause-down g c = down g (goal.at.returns-in-Spent-clause-down g c).After-try_path
+
+pub returns-in-Line-clause-down : goal.returns-in-Line-clause-down
+returns-in-Line-clause-down g c =
+    down_then (g.H.Hand.shows c.args.hand.now) (g.H.Hand.shows c.try_path.new.hand) (g.H.Hand.shows c.enlist_longer.new.hand) (cursor_data c.try_path.new.cursor) (cursor_data c.enlist_longer.new.cursor)
+    (down g (goal.at.returns-in-Line-clause-down g c).After-try_path) c.enlist_longer.ensures.down

@@ -1,7 +1,11 @@
-use Rattle.std.proofs.Common.{◌∙◌, sym}
+use Rattle.std.proofs.Common.{◌∙◌, sym, arith}
 use Rattle.strip_front.specs.Shown.{front_data}
-use Rattle.strip_front.proofs.Asked.{ask_found, ask_nothing}
+use Rattle.strip_front.proofs.Asked.{ask_found, ask_nothing, leaves_there}
 use Rattle.strip_front.proofs.marks.ask_for.Goals as goal
+
+pub index_mut-requires : goal.index_mut-requires
+index_mut-requires c =
+    omega (arith, c.requires.wanted, (leaves_there c.args.rest.0 (front_data c.args.front.now).tasks c.in-Some.task (sym c.in-Some.ensures)).0)
 
 pub returns-in-Some : goal.returns-in-Some
 returns-in-Some c =

@@ -15,7 +15,7 @@ use Rattle.strip_rule.proofs.Firsts.{first_there, firsts_set}
 use Rattle.strip_lines.specs.Lines.{rules_of}
 use Rattle.strip_front.proofs.shorter.turns_of.Given.{Over}
 use Rattle.strip_front.proofs.shorter.turns_of.Goals as goal
-use Rattle.strip_front.proofs.shorter.turns_of.Goals.{After-open_firsts-firsts}
+use Rattle.strip_front.proofs.shorter.turns_of.Goals.{After-open_firsts-firsts, After-rank}
 
 pub rank-requires-clause-member : goal.rank-requires-clause-member
 rank-requires-clause-member g c =
@@ -24,21 +24,26 @@ rank-requires-clause-member g c =
     (turn_member (open_firsts film c.args.rest.0) c.in-Some.first c.loop-first.yielded (rest_of c.loop-first.first-iterator) (rest_of c.next.new.self)
     c.loop-first.invariant.turns c.in-Some.ensures.steps)
 
-pub bounds-ranks-first : goal.bounds-ranks-first
-bounds-ranks-first g c =
+-- an open first is the number of a set's member
+below : (g : Over) (c : goal.After-rank g) → c.in-Some.first < 64
+below g c =
     turn_below (open_firsts c.args.kept.now.film.now c.args.rest.0) c.in-Some.first c.loop-first.yielded (rest_of c.loop-first.first-iterator) (rest_of c.next.new.self)
     c.loop-first.invariant.turns c.in-Some.ensures.steps
+
+pub overflow_cast-ranks : goal.overflow_cast-ranks
+overflow_cast-ranks g c = omega (arith, below g (goal.at.overflow_cast-ranks g c).After-rank)
+
+pub offset_bounds-ranks-first : goal.offset_bounds-ranks-first
+offset_bounds-ranks-first g c = omega (arith, below g (goal.at.offset_bounds-ranks-first g c).After-rank)
+
+pub bounds-ranks-first : goal.bounds-ranks-first
+bounds-ranks-first g c = below g (goal.at.bounds-ranks-first g c).After-rank
 
 pub loop-first-preserved : goal.loop-first-preserved
 loop-first-preserved g c =
     let film = c.args.kept.now.film.now in
     let lt : c.in-Some.first < length c.loop-first.ranks
-    = omega (
-      arith,
-      turn_below (open_firsts film c.args.rest.0) c.in-Some.first c.loop-first.yielded (rest_of c.loop-first.first-iterator) (rest_of c.next.new.self)
-          c.loop-first.invariant.turns c.in-Some.ensures.steps,
-      c.loop-first.invariant.long,
-    ) in
+    = omega (arith, below g (goal.at.loop-first-preserved g c).After-rank, c.loop-first.invariant.long) in
     record {
       ranked = placed_more c.loop-first.ranks c.loop-first.yielded c.in-Some.first c.rank.result (rank (rules_of c.args.kept.now.kind film) c.args.rest.0) lt
           c.loop-first.invariant.ranked c.rank.ensures;

@@ -6,6 +6,13 @@ use Rattle.strip_front.proofs.FrontFacts.{front_facts}
 use Rattle.strip_front.proofs.Raised.{one_number}
 use Rattle.strip_front.proofs.up.number_of.Goals as goal
 
+pub bounds-found-task : goal.bounds-found-task
+bounds-found-task c = omega (arith, c.requires.count, (leaves_there c.args.rest.0 (front_data c.args.front.now).tasks c.in-Some.task (sym c.in-Some.ensures)).0)
+
+pub index-requires : goal.index-requires
+index-requires c =
+    omega (arith, c.args.front.now.numbered, (leaves_there c.args.rest.0 (front_data c.args.front.now).paths c.in-Some-place_of.place (sym c.in-Some-place_of.ensures)).0)
+
 pub returns-in-Some : goal.returns-in-Some
 returns-in-Some c = λ kind film number is front_of has.
     let front = front_data c.args.front.now in
