@@ -1,12 +1,13 @@
-use Rattle.std.proofs.Common.{◌≡◌, ℕ, ◌+◌, ◌-◌, ◌<◌, ◌≤◌, List, length, take, slice_index, arith}
+use Rattle.std.proofs.Common.{◌≡◌, ℕ, ◌+◌, ◌-◌, ◌<◌, ◌≤◌, List, length, take, slice_index, subst, sym, ap, ◌∙◌, arith}
 use Rattle.strip_pay.specs.Film.{FilmData}
 use Rattle.strip_pay.specs.Pairs.{Precedes}
 use Rattle.strip_film.specs.Film.{all_scenes}
 use Rattle.strip_film.specs.Finish.{steps_cost}
 use Rattle.strip_film.specs.Shown.{path_data}
 use Rattle.strip_start.specs.Sides.{cast_along}
-use Rattle.strip_start.proofs.Tried.{IsAt, at_small, best_here, best_none, best_past, best_some, best_stuck, better_at, no_better_at}
-use Rattle.strip_start.proofs.Past.{back_at, back_behind, back_enough, back_stuck, not_so, scene_known}
+use Rattle.strip_start.proofs.Tried.{IsAt, IsBestFrom, at_own, at_small, best_at_first, best_here, best_none, best_past, best_some, best_stuck, better_at, no_better_at}
+use Rattle.strip_start.proofs.Past.{back_at, back_behind, back_enough, back_stuck, not_so, path_once, scene_known}
+use Rattle.strip_start.proofs.Places.{from_own}
 use Rattle.strip_start.proofs.scan.earlier_place.Goals as goal
 
 pub precedes-requires-clause-first : goal.precedes-requires-clause-first
@@ -162,3 +163,32 @@ loop-to-preserved c =
       best = best_past film order from to place c.loop-to.best next
           (no_better_at film c.keeps_limits.ensures order from c.requires.place to c.turned-cost.result at compared) c.loop-to.invariant.best;
     }
+
+pub loop-to-init : goal.loop-to-init
+loop-to-init c =
+    let film : FilmData = c.args.film.now in
+    let order : List ℕ = (path_data c.args.path.now).scenes in
+    let from : ℕ = c.args.from in
+    let costs : c.paid-cost.result ≡ steps_cost film (all_scenes film) order = c.paid-cost.ensures ∙ c.requires.complete.0.steps in
+    record {
+      at = subst (λ (cost : ℕ). IsAt film order from from cost) (sym costs)
+          (at_own film c.keeps_limits.ensures order from c.requires.place (path_once film (path_data c.args.path.now) c.requires.complete));
+      behind = c.requires.sides.behind from c.requires.place ∙ ap (cast_along film) (sym (from_own order from c.requires.place));
+      best = best_at_first film order from;
+    }
+
+pub returns-clause-some : goal.returns-clause-some
+returns-clause-some c =
+    let film : FilmData = c.args.film.now in
+    let order : List ℕ = (path_data c.args.path.now).scenes in
+    let from : ℕ = c.args.from in
+    let first : c.loop-to.to ≡ 0 = omega (arith, c.loop-to-test.false) in
+    best_some film order from c.loop-to.best (subst (λ (i : ℕ). IsBestFrom film order from i c.loop-to.best) first c.loop-to.invariant.best)
+
+pub returns-clause-none : goal.returns-clause-none
+returns-clause-none c =
+    let film : FilmData = c.args.film.now in
+    let order : List ℕ = (path_data c.args.path.now).scenes in
+    let from : ℕ = c.args.from in
+    let first : c.loop-to.to ≡ 0 = omega (arith, c.loop-to-test.false) in
+    best_none film order from c.loop-to.best (subst (λ (i : ℕ). IsBestFrom film order from i c.loop-to.best) first c.loop-to.invariant.best)

@@ -1,4 +1,4 @@
-use Rattle.std.proofs.Common.{◌≡◌, ℕ, ◌+◌, ◌-◌, ◌<◌, ◌≤◌, List, length, take, drop, slice_index, subst, ap, arith}
+use Rattle.std.proofs.Common.{◌≡◌, ℕ, ◌+◌, ◌-◌, ◌<◌, ◌≤◌, List, length, take, drop, slice_index, subst, sym, ap, ◌∙◌, arith}
 use Rattle.strip_pay.specs.Film.{FilmData}
 use Rattle.strip_pay.specs.Pairs.{Precedes}
 use Rattle.strip_film.specs.Film.{all_scenes}
@@ -6,8 +6,9 @@ use Rattle.strip_film.specs.Finish.{steps_cost}
 use Rattle.strip_film.specs.Shown.{path_data}
 use Rattle.strip_start.specs.Moves.{taken_out}
 use Rattle.strip_start.specs.Sides.{cast_along}
-use Rattle.strip_start.proofs.Tried.{IsAt, at_small, better_at, no_better_at, none_at_end, none_further}
-use Rattle.strip_start.proofs.Past.{not_so, scene_known}
+use Rattle.strip_start.proofs.Tried.{IsAt, at_own, at_small, better_at, no_better_at, none_at_end, none_further}
+use Rattle.strip_start.proofs.Past.{not_so, path_once, scene_known}
+use Rattle.strip_start.proofs.Places.{before_same}
 use Rattle.strip_start.proofs.Onward.{on_at, on_before, on_enough, on_stuck}
 use Rattle.strip_start.proofs.scan.later_place.Goals as goal
 
@@ -158,3 +159,27 @@ loop-to-preserved c =
           subst (λ (i : ℕ). c.union-before.result.0 ≡ cast_along film (take i (taken_out from order))) same before);
       none = none_at_end film order from to c.loop-to.invariant.none (no_better_at film c.keeps_limits.ensures order from c.requires.place to c.turned-cost.result at more);
     }
+
+pub loop-to-init : goal.loop-to-init
+loop-to-init c =
+    let film : FilmData = c.args.film.now in
+    let order : List ℕ = (path_data c.args.path.now).scenes in
+    let from : ℕ = c.args.from in
+    let costs : c.paid-cost.result ≡ steps_cost film (all_scenes film) order = c.paid-cost.ensures ∙ c.requires.complete.0.steps in
+    let at : IsAt film order from from c.paid-cost.result
+    = subst (λ (cost : ℕ). IsAt film order from from cost) (sym costs)
+    (at_own film c.keeps_limits.ensures order from c.requires.place (path_once film (path_data c.args.path.now) c.requires.complete)) in
+    let before : slice_index c.args.sides.now.before from ≡ cast_along film (take from (taken_out from order))
+    = c.requires.sides.before from c.requires.place ∙ ap (cast_along film) (sym (before_same order from c.requires.place from (omega arith))) in
+    record {
+      at = λ other then. (let same : from ≡ other = omega (arith, then) in subst (λ (i : ℕ). IsAt film order from i c.paid-cost.result) same at);
+      before = λ other then. (let same : from ≡ other = omega (arith, then) in
+          subst (λ (i : ℕ). slice_index c.args.sides.now.before from ≡ cast_along film (take i (taken_out from order))) same before);
+      none = none_at_end film order from from c.requires.earlier (no_better_at film c.keeps_limits.ensures order from c.requires.place from c.paid-cost.result at (omega (arith, costs)));
+    }
+
+pub returns-then-cost-paid-clause-none : goal.returns-then-cost-paid-clause-none
+returns-then-cost-paid-clause-none c = λ none. absurd (cc (none))
+
+pub returns-clause-none : goal.returns-clause-none
+returns-clause-none c = λ _ to least within. c.loop-to.invariant.none to least (omega (arith, within, c.loop-to-test.false, ap length c.scenes-scenes.ensures))
