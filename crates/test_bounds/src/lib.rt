@@ -1,6 +1,6 @@
 //! Tests: what no clause says of bounds, by calls that no command makes. Bounds and open firsts of small films, worked by hand; the
 //! value of a group and its newcomers and the bound with arrivals, against values, bounds, costs and lists that another program
-//! worked out.
+//! worked out; and a store of bounds that workers share.
 #![tactic(auto)]
 
 #[cfg(test)]
@@ -19,5 +19,7 @@ mod sets;
 mod small;
 #[cfg(test)]
 mod stages;
+#[cfg(test)]
+mod stores;
 #[cfg(test)]
 mod values;

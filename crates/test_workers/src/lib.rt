@@ -16,8 +16,6 @@ mod queues;
 #[cfg(test)]
 mod races;
 #[cfg(test)]
-mod stores;
-#[cfg(test)]
 mod stripes;
 #[cfg(test)]
 mod team;

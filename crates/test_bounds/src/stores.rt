@@ -3,7 +3,7 @@ ghost use Rattle.std.specs.Prelude.{◌≡◌};
 ghost use Rattle.strip_film.specs.Film.{LiesIn};
 ghost use Rattle.strip_bound.specs.StoredBound.{Keeps};
 
-use crate::book::triangle;
+use crate::cases::film_of;
 use std::alloc::Global;
 use std::marker::Brand;
 use std::sync::Wait;
@@ -16,6 +16,17 @@ use strip_film::Film;
 use strip_kind::Kind;
 use strip_mask::Mask;
 use strip_store::{Bounded, Store};
+
+fn triangle(alloc: Global) -> Result<Film, Fail> {
+    film_of(
+        alloc,
+        &[0b011, 0b110, 0b101],
+        &[1, 1, 1],
+        &[1, 2, 3],
+        &[1, 2, 3],
+        &[],
+    )
+}
 
 fn all_of(film: &Film) -> Mask
     ensures { LiesIn film.now result.0 }
