@@ -14,7 +14,7 @@ ghost use Rattle.strip_hand.specs.Search.{GoesBy, depth_of};
 ghost use Rattle.strip_book.specs.Pass.{IsPassOf, known};
 ghost use Rattle.strip_book.specs.View.{record_at};
 
-use crate::least::task_of_two;
+use crate::least::{film_of, task_of_two};
 use std::alloc::Global;
 use std::test::Fail;
 use strip_book::{Book, BookPass};
@@ -25,12 +25,7 @@ use strip_mask::Mask;
 use strip_rule::open_firsts;
 
 pub(crate) fn triangle(alloc: Global) -> Result<Film, Fail> {
-    let casts = Vec::from_slice(alloc, &[0b011, 0b110, 0b101])?;
-    let days = Vec::from_slice(alloc, &[1, 1, 1])?;
-    let rates = Vec::from_slice(alloc, &[1, 2, 3])?;
-    let holds = Vec::from_slice(alloc, &[1, 2, 3])?;
-    let film = Film::of(casts, days, rates, holds, Vec::new(alloc)).ok_or("within the limits")?;
-    Ok(film)
+    film_of(alloc, &[0b011, 0b110, 0b101], &[1, 1, 1], &[1, 2, 3], &[])
 }
 
 /// What became of two paths.

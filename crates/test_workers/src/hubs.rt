@@ -14,7 +14,7 @@ ghost use Rattle.strip_crew.specs.Crew.{ArePassesOf, Weigh};
 ghost use Rattle.test_workers.specs.Hubs.{HasWhole};
 
 use crate::book::each_first_reaches;
-use crate::least::{path, task_of_two};
+use crate::least::{film_of, path, task_of_two};
 use std::alloc::Global;
 use std::marker::Brand;
 use std::sync::Wait;
@@ -31,12 +31,7 @@ use strip_stripes::{Named, Stripes};
 
 /// Two actors who work alone and then together: at 10 and at 20 a day, and as much for a day of waiting.
 fn meeting(alloc: Global) -> Result<Film, Fail> {
-    let casts = Vec::from_slice(alloc, &[0b01, 0b10, 0b11])?;
-    let days = Vec::from_slice(alloc, &[1, 1, 1])?;
-    let rates = Vec::from_slice(alloc, &[10, 20])?;
-    let holds = Vec::from_slice(alloc, &[10, 20])?;
-    let film = Film::of(casts, days, rates, holds, Vec::new(alloc)).ok_or("within the limits")?;
-    Ok(film)
+    film_of(alloc, &[0b01, 0b10, 0b11], &[1, 1, 1], &[10, 20], &[])
 }
 
 /// What the first worker was told of its note and its offer; and the second of all scenes, and of the

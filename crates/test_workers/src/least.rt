@@ -12,16 +12,27 @@ use strip_film::{Film, Path, laws, ready};
 use strip_least::{Least, LeastPass};
 use strip_pay::Pair;
 
-/// A film of three scenes, a day each, the first and the second with an actor of their own, the third
-/// with both.
-fn film(alloc: Global, pairs: &[Pair]) -> Result<Film, Fail> {
-    let casts = Vec::from_slice(alloc, &[0b01, 0b10, 0b11])?;
-    let days = Vec::from_slice(alloc, &[1, 1, 1])?;
-    let rates = Vec::from_slice(alloc, &[10, 20])?;
-    let holds = Vec::from_slice(alloc, &[10, 20])?;
+/// The film of these lists, in which an actor gets as much for a day of waiting as for one of work.
+pub(crate) fn film_of(
+    alloc: Global,
+    casts: &[u64],
+    days: &[u64],
+    rates: &[u64],
+    pairs: &[Pair],
+) -> Result<Film, Fail> {
+    let casts = Vec::from_slice(alloc, casts)?;
+    let days = Vec::from_slice(alloc, days)?;
+    let holds = Vec::from_slice(alloc, rates)?;
+    let rates = Vec::from_slice(alloc, rates)?;
     let pairs = Vec::from_slice(alloc, pairs)?;
     let film = Film::of(casts, days, rates, holds, pairs).ok_or("within the limits")?;
     Ok(film)
+}
+
+/// A film of three scenes, a day each, the first and the second with an actor of their own, the third
+/// with both.
+fn film(alloc: Global, pairs: &[Pair]) -> Result<Film, Fail> {
+    film_of(alloc, &[0b01, 0b10, 0b11], &[1, 1, 1], &[10, 20], pairs)
 }
 
 /// The path of these scenes, if it is complete.

@@ -7,7 +7,7 @@
 // anybody wait; and each of the other three costs 1 or more, so that no order costs less.
 ghost use Rattle.std.specs.Prelude.{◌≤◌};
 
-use crate::least::path;
+use crate::least::{film_of, path};
 use std::alloc::Global;
 use std::sync::Wait;
 use std::test::Fail;
@@ -22,12 +22,13 @@ use strip_worker::{Ended, Gate, OpenGate};
 use strip_world::Limits;
 
 fn ring(alloc: Global) -> Result<Film, Fail> {
-    let casts = Vec::from_slice(alloc, &[0b10001, 0b00011, 0b00110, 0b01100, 0b11000])?;
-    let days = Vec::from_slice(alloc, &[1, 1, 1, 1, 1])?;
-    let rates = Vec::from_slice(alloc, &[1, 2, 3, 4, 5])?;
-    let holds = Vec::from_slice(alloc, &[1, 2, 3, 4, 5])?;
-    let film = Film::of(casts, days, rates, holds, Vec::new(alloc)).ok_or("within the limits")?;
-    Ok(film)
+    film_of(
+        alloc,
+        &[0b10001, 0b00011, 0b00110, 0b01100, 0b11000],
+        &[1, 1, 1, 1, 1],
+        &[1, 2, 3, 4, 5],
+        &[],
+    )
 }
 
 /// The end of a race of so many workers, with a table of 64 entries and at most so many lines, that begins
