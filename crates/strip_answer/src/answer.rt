@@ -1,5 +1,6 @@
 // An answer, and the row of what a fault tells.
-ghost use Rattle.std.specs.Prelude.{◌≡◌, IfOk, string_bytes};
+ghost use Rattle.std.specs.Prelude.{◌≡◌, IfOk, map, string_bytes};
+ghost use Rattle.strip_text.specs.Rows.{csv_row};
 ghost use Rattle.strip_text.specs.Told.{told_data};
 ghost use Rattle.strip_answer.specs.declared.status.Status.TheVariants.{NoJob};
 ghost use Rattle.strip_answer.specs.Claims.{no_job_told};
@@ -63,8 +64,15 @@ pub fn told_row(alloc: Global, word: &'static [u8], told: Told<'_>) -> Result<Ve
     for name in told.names {
         fields.push(name.as_bytes())?;
     }
+    row_of(alloc, &fields)
+}
+
+/// The text that is a row of these fields.
+fn row_of(alloc: Global, fields: &[&[u8]]) -> Result<Vec<u8>, Memory>
+    ensures { IfOk result (λ text. text.items ≡ csv_row (map (λ field. field.now) fields.now)) }
+{
     let mut text = Text::new(alloc);
-    text.push(&fields)?;
+    text.push(fields)?;
     text.into_bytes()
 }
 
