@@ -37,15 +37,13 @@ fn write_header(alloc: Global, text: &mut Text, days: usize) -> Result<(), Memor
 {
     let numbers = day_numbers(alloc, days)?;
     let mut fields: Vec<&[u8]> = Vec::new(alloc);
-    fields.push(b"actor")?;
-    fields.push(b"rate")?;
+    let ahead: [&[u8]; 2] = [b"actor", b"rate"];
+    fields.extend_from_slice(&ahead)?;
     for number in &numbers {
         fields.push(number.as_bytes())?;
     }
-    fields.push(b"work")?;
-    fields.push(b"hold")?;
-    fields.push(b"paid")?;
-    fields.push(b"pay")?;
+    let behind: [&[u8]; 4] = [b"work", b"hold", b"paid", b"pay"];
+    fields.extend_from_slice(&behind)?;
     text.push(&fields)
 }
 
@@ -139,14 +137,15 @@ fn write_row(
     let paid = (sums.work + sums.hold).to_string(alloc)?;
     let pay = sums.pay.to_string(alloc)?;
     let mut fields: Vec<&[u8]> = Vec::new(alloc);
-    fields.push(first)?;
-    fields.push(second)?;
+    fields.extend_from_slice(&[first, second])?;
     for &day in days {
         fields.push(day.word())?;
     }
-    fields.push(work.as_bytes())?;
-    fields.push(hold.as_bytes())?;
-    fields.push(paid.as_bytes())?;
-    fields.push(pay.as_bytes())?;
+    fields.extend_from_slice(&[
+        work.as_bytes(),
+        hold.as_bytes(),
+        paid.as_bytes(),
+        pay.as_bytes(),
+    ])?;
     text.push(&fields)
 }
