@@ -1,9 +1,10 @@
 // A front with nothing in it.
-ghost use Rattle.std.specs.Prelude.{◌≡◌, ◌≤◌, min, length, IfOk};
+ghost use Rattle.std.specs.Prelude.{◌≡◌, ◌≤◌, ℕ, suc, false, None, min, length, replicate, IfOk};
 ghost use Rattle.strip_bound.specs.StoredBound.{Keeps};
 ghost use Rattle.strip_lines.specs.Lines.{rules_of};
 ghost use Rattle.strip_front.specs.Front.{IsEmptyFront};
-ghost use Rattle.strip_front.specs.Shown.{front_data};
+ghost use Rattle.strip_front.specs.Layers.{AreTasksOf, layer};
+ghost use Rattle.strip_front.specs.Shown.{front_data, paths_of};
 
 use crate::by_set::PathsBySet;
 use crate::front::Front;
@@ -35,9 +36,44 @@ pub fn make_front<F: Fn(u64, u64) -> u64>(
     film.keeps_limits();
     let depth = film.scenes().min(most);
     let (shorter, last) = shorter_paths(alloc, kept, depth)?;
-    let longest = layer_after(alloc, film, &last)?;
-    let tasks = PathsBySet::of(alloc, by_promise(alloc, kept, longest.paths())?)?;
+    let tasks = tasks_behind(alloc, kept, &last)?;
     let paths = PathsBySet::of(alloc, shorter)?;
+    unfilled(alloc, depth, tasks, paths)
+}
+
+/// The tasks that go on from the paths of the layer before theirs.
+fn tasks_behind<F: Fn(u64, u64) -> u64>(
+    alloc: Global,
+    kept: &StoredBound<F>,
+    last: &PathsBySet,
+) -> Result<PathsBySet, Memory>
+    requires keeps { Keeps (F.pre kept.now.f) (F.post kept.now.f) kept.now.kind kept.now.film.now }
+    requires layer { (before : ℕ) × (paths_of last.now ≡ layer kept.now.film.now before) }
+    ensures { (before : ℕ) → paths_of last.now ≡ layer kept.now.film.now before
+        → IfOk result (λ tasks. AreTasksOf (rules_of kept.now.kind kept.now.film.now) (suc before) (paths_of tasks)) }
+{
+    let film = kept.film();
+    film.keeps_limits();
+    let longest = layer_after(alloc, film, last)?;
+    let tasks = by_promise(alloc, kept, longest.paths())?;
+    PathsBySet::of(alloc, tasks)
+}
+
+/// The front of these tasks and shorter paths, with nothing in it.
+fn unfilled(
+    alloc: Global,
+    depth: usize,
+    tasks: PathsBySet,
+    paths: PathsBySet,
+) -> Result<Front, Memory>
+    ensures { IfOk result (λ front. front_data front ≡ record {
+      depth = depth;
+      tasks = paths_of tasks;
+      wanted = replicate (length (paths_of tasks)) false;
+      paths = paths_of paths;
+      lines = replicate (length (paths_of paths)) None;
+    }) }
+{
     Ok(Front {
         depth,
         wanted: vec![in alloc; false; tasks.paths().len()]?,
