@@ -189,14 +189,49 @@ fn in_race<
         book,
         stripes,
     };
-    let (passes, mut walked) = begin(rt, alloc, kept, &tables, &mut front, passes)?;
-    gate.opened(asked_for(&front), limits.workers);
+    let (passes, number, spent) = walk_all(
+        rt, alloc, kept, memo, &tables, &mut front, passes, limits, steal, gate,
+    )?;
+    end(alloc, kept, tables, passes, number, spent)
+}
+
+/// Goes down the front, has the tasks walked and closes the front up. Answers the passes, which then know all
+/// lines, the number to which the line of all scenes was raised, and whether the search was cut short.
+fn walk_all<
+    N: Named + Send + Sync,
+    R: Threads + Wait + Sync,
+    F: Fn(u64, u64) -> u64 + Sync,
+    G: Gate,
+>(
+    rt: &R,
+    alloc: Global,
+    kept: &StoredBound<F>,
+    memo: &mut Memo,
+    tables: &Tables<N>,
+    front: &mut Front,
+    passes: HubParts,
+    limits: Limits,
+    steal: bool,
+    gate: &G,
+) -> Result<(HubParts, u64, bool), Memory>
+    requires keeps { Keeps (F.pre kept.now.f) (F.post kept.now.f) kept.now.kind kept.now.film.now }
+    requires memo { IsMemo kept.now.kind kept.now.film.now memo.old }
+    requires named { table_of tables.now.book ≡ N.table }
+    requires begin { MayBegin kept.now.kind kept.now.film.now (front_data front.old)
+        tables.now.least tables.now.book passes }
+    requires limits { AreLimits limits }
+    ensures memo { IsMemo kept.now.kind kept.now.film.now memo.new }
+    ensures closed { IfOk result (λ closed. HasClosed kept.now.kind kept.now.film.now
+        tables.now.least tables.now.book passes closed.0 closed.1 closed.2) }
+{
+    let (passes, mut walked) = begin(rt, alloc, kept, tables, front, passes)?;
+    gate.opened(asked_for(front), limits.workers);
     let passes = work_all(
         rt,
         alloc,
         kept,
-        &tables,
-        &front,
+        tables,
+        front,
         gate,
         limits.workers,
         steal,
@@ -204,8 +239,8 @@ fn in_race<
         &mut walked,
         passes,
     )?;
-    let (passes, number) = close_front(rt, kept, &tables, &mut front, passes, &walked)?;
-    end(alloc, kept, tables, passes, number, walked.spent)
+    let (passes, number) = close_front(rt, kept, tables, front, passes, &walked)?;
+    Ok((passes, number, walked.spent))
 }
 
 /// Claims the front and goes down it, and answers the passes, which then know all lines, and what was found.
