@@ -1,5 +1,5 @@
 //! The Day Out of Days report: what each actor does on each day of an order, and what he is paid.
-ghost use Rattle.std.specs.Prelude.{◌≡◌, ◌+◌, ◌*◌, ◌++◌, ◌<◌, ◌≤◌, [], length, map, replicate, codes, IfOk, OnOk};
+ghost use Rattle.std.specs.Prelude.{◌≡◌, ◌+◌, ◌*◌, ◌++◌, ◌∷◌, ◌<◌, ◌≤◌, [], length, map, replicate, codes, IfOk, OnOk};
 ghost use Rattle.std.specs.List.{range_with_len};
 ghost use Rattle.std.specs.Fmt.{decimal};
 ghost use Rattle.std.specs.String.{string_bytes};
@@ -7,7 +7,7 @@ ghost use Rattle.strip_pay.specs.Order.{IsOrder};
 ghost use Rattle.strip_model.specs.Film.{film_of};
 ghost use Rattle.strip_text.specs.Rows.{csv_row, csv_text};
 ghost use Rattle.strip_reports.specs.Codes.{code_word};
-ghost use Rattle.strip_reports.specs.Text.{actor_fields, day_number, dood_text, header_fields, row_of, total_fields};
+ghost use Rattle.strip_reports.specs.Text.{actor_fields, day_number, dood_text, header_fields, row_of, rows_by_crews, total_fields};
 
 use crate::days::{Code, codes, crews};
 use crate::sums::{Sums, sums_of, total_of};
@@ -25,10 +25,19 @@ pub fn dood(alloc: Global, inst: &Instance, order: &[u16]) -> Result<Vec<u8>, Me
 {
     let crews = crews(alloc, inst, order)?;
     let mut text = Text::new(alloc);
-    write_header(alloc, &mut text, crews.len())?;
-    write_actors(alloc, &mut text, inst, &crews)?;
-    write_total(alloc, &mut text, inst, &crews)?;
+    write_rows(alloc, &mut text, inst, &crews)?;
     text.into_bytes()
+}
+
+/// Writes all rows, behind nothing.
+fn write_rows(alloc: Global, text: &mut Text, inst: &Instance, crews: &[u64]) -> Result<(), Memory>
+    requires few { length crews.now ≤ 19800 }
+    requires none { text.old ≡ [] }
+    ensures { OnOk result (text.new ≡ csv_text (rows_by_crews inst.now crews.now)) }
+{
+    write_header(alloc, text, crews.len())?;
+    write_actors(alloc, text, inst, crews)?;
+    write_total(alloc, text, inst, crews)
 }
 
 fn write_header(alloc: Global, text: &mut Text, days: usize) -> Result<(), Memory>
@@ -37,16 +46,44 @@ fn write_header(alloc: Global, text: &mut Text, days: usize) -> Result<(), Memor
 {
     let numbers = day_numbers(alloc, days)?;
     let mut fields: Vec<&[u8]> = Vec::new(alloc);
-    fields.push(b"actor")?;
-    fields.push(b"rate")?;
+    push_first(&mut fields, b"actor", b"rate")?;
     for number in &numbers {
         fields.push(number.as_bytes())?;
     }
-    fields.push(b"work")?;
-    fields.push(b"hold")?;
-    fields.push(b"paid")?;
-    fields.push(b"pay")?;
+    push_sums(&mut fields, b"work", b"hold", b"paid", b"pay")?;
     text.push(&fields)
+}
+
+/// Appends the fields before those of the days.
+fn push_first<'a>(
+    fields: &mut Vec<&'a [u8]>,
+    first: &'a [u8],
+    second: &'a [u8],
+) -> Result<(), Memory>
+    ensures { OnOk result (map (λ field. field.now) fields.new.items
+        ≡ map (λ field. field.now) fields.old.items ++ first.now ∷ second.now ∷ []) }
+{
+    fields.push(first)?;
+    fields.push(second)?;
+    Ok(())
+}
+
+/// Appends the fields behind those of the days.
+fn push_sums<'a>(
+    fields: &mut Vec<&'a [u8]>,
+    work: &'a [u8],
+    hold: &'a [u8],
+    paid: &'a [u8],
+    pay: &'a [u8],
+) -> Result<(), Memory>
+    ensures { OnOk result (map (λ field. field.now) fields.new.items
+        ≡ map (λ field. field.now) fields.old.items ++ work.now ∷ hold.now ∷ paid.now ∷ pay.now ∷ []) }
+{
+    fields.push(work)?;
+    fields.push(hold)?;
+    fields.push(paid)?;
+    fields.push(pay)?;
+    Ok(())
 }
 
 /// The numbers of the days in decimal digits.
@@ -138,15 +175,39 @@ fn write_row(
     let hold = sums.hold.to_string(alloc)?;
     let paid = (sums.work + sums.hold).to_string(alloc)?;
     let pay = sums.pay.to_string(alloc)?;
+    write_fields(
+        alloc,
+        text,
+        first,
+        second,
+        days,
+        work.as_bytes(),
+        hold.as_bytes(),
+        paid.as_bytes(),
+        pay.as_bytes(),
+    )
+}
+
+/// Writes a row of these fields.
+fn write_fields<'a>(
+    alloc: Global,
+    text: &mut Text,
+    first: &'a [u8],
+    second: &'a [u8],
+    days: &[Code],
+    work: &'a [u8],
+    hold: &'a [u8],
+    paid: &'a [u8],
+    pay: &'a [u8],
+) -> Result<(), Memory>
+    ensures { OnOk result (text.new ≡ text.old ++ csv_row (first.now ∷ second.now ∷ (map code_word days.now
+        ++ work.now ∷ hold.now ∷ paid.now ∷ pay.now ∷ []))) }
+{
     let mut fields: Vec<&[u8]> = Vec::new(alloc);
-    fields.push(first)?;
-    fields.push(second)?;
+    push_first(&mut fields, first, second)?;
     for &day in days {
         fields.push(day.word())?;
     }
-    fields.push(work.as_bytes())?;
-    fields.push(hold.as_bytes())?;
-    fields.push(paid.as_bytes())?;
-    fields.push(pay.as_bytes())?;
+    push_sums(&mut fields, work, hold, paid, pay)?;
     text.push(&fields)
 }

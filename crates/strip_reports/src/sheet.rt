@@ -1,7 +1,8 @@
 //! Cost sheets: what each scene of an order is paid, on which days, and for whom.
-ghost use Rattle.std.specs.Prelude.{◌≡◌, ◌++◌, ◌<◌, [], length, IfOk, OnOk};
+ghost use Rattle.std.specs.Prelude.{◌≡◌, ◌++◌, ◌∷◌, ◌<◌, [], length, IfOk, OnOk};
 ghost use Rattle.strip_model.specs.Data.{scene_name};
 ghost use Rattle.strip_pay.specs.Order.{IsOrder};
+ghost use Rattle.std.specs.Fmt.{decimal};
 ghost use Rattle.strip_text.specs.Rows.{csv_row};
 ghost use Rattle.strip_reports.specs.Sheet.{header_row, row_of, sheet_text, total_row};
 
@@ -65,15 +66,48 @@ fn push_scene(
 ) -> Result<(), Memory>
     ensures { OnOk result (text.new ≡ text.old ++ csv_row (row_of position name.now figures.now)) }
 {
-    text.push(&[
-        position.to_string(alloc)?.as_bytes(),
+    let position = position.to_string(alloc)?;
+    let first = figures.first.to_string(alloc)?;
+    let last = figures.last.to_string(alloc)?;
+    push_figures(
+        alloc,
+        text,
+        position.as_bytes(),
         name.as_bytes(),
-        figures.first.to_string(alloc)?.as_bytes(),
-        figures.last.to_string(alloc)?.as_bytes(),
-        figures.days.to_string(alloc)?.as_bytes(),
-        figures.working.to_string(alloc)?.as_bytes(),
-        figures.holding.to_string(alloc)?.as_bytes(),
-        figures.pay.to_string(alloc)?.as_bytes(),
+        first.as_bytes(),
+        last.as_bytes(),
+        figures,
+    )
+}
+
+/// The row with these four fields in front, and behind them how many days, who works and is held, and
+/// the pay.
+fn push_figures<'a>(
+    alloc: Global,
+    text: &mut Text,
+    position: &'a [u8],
+    name: &'a [u8],
+    first: &'a [u8],
+    last: &'a [u8],
+    figures: &Figures,
+) -> Result<(), Memory>
+    ensures { OnOk result (text.new ≡ text.old ++ csv_row (position.now ∷ name.now ∷ first.now ∷ last.now
+        ∷ decimal figures.now.days ∷ decimal figures.now.working
+        ∷ decimal figures.now.holding ∷ decimal figures.now.pay ∷ [])) }
+{
+    let days = figures.days.to_string(alloc)?;
+    let working = figures.working.to_string(alloc)?;
+    let holding = figures.holding.to_string(alloc)?;
+    let pay = figures.pay.to_string(alloc)?;
+    text.push(&[
+        position,
+        name,
+        first,
+        last,
+        days.as_bytes(),
+        working.as_bytes(),
+        holding.as_bytes(),
+        pay.as_bytes(),
     ])
 }
 
