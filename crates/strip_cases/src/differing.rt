@@ -27,12 +27,10 @@ pub fn difference(
         return Ok(Some(other_row(alloc, text, printed)?));
     }
     if let Some(row) = missing_row(&wanted.rows, printed) {
-        let row = String::from_utf8_lossy(alloc, row)?;
-        return Ok(Some(format!(in alloc; "no row '{row}'")?));
+        return Ok(Some(no_row(alloc, row)?));
     }
     if let Some(number) = missing_number(&wanted.numbers, printed, files) {
-        let name = number.name.as_str();
-        return Ok(Some(format!(in alloc; "no such number '{name}'")?));
+        return Ok(Some(no_number(alloc, number.name.as_str())?));
     }
     Ok(None)
 }
@@ -84,6 +82,15 @@ fn told(alloc: Global, number: u64, row: &[u8], due: &[u8]) -> Result<String, Al
     let row = String::from_utf8_lossy(alloc, row)?;
     let due = String::from_utf8_lossy(alloc, due)?;
     format!(in alloc; "row {number} is '{row}' for '{due}'")
+}
+
+fn no_row(alloc: Global, row: &[u8]) -> Result<String, AllocError> {
+    let row = String::from_utf8_lossy(alloc, row)?;
+    format!(in alloc; "no row '{row}'")
+}
+
+fn no_number(alloc: Global, name: &str) -> Result<String, AllocError> {
+    format!(in alloc; "no such number '{name}'")
 }
 
 /// The first of the rows that isn't among those that were printed.

@@ -44,12 +44,7 @@ fn repeat<'a>(text: &'a [u8], values: &[Value], out: &mut Vec<u8>) -> Result<&'a
     let times = number_of(&text[..open], 0, MOST).ok_or(Wrong::Number)?;
     let behind = &text[open..];
     let body = within(behind).ok_or(Wrong::Escape)?;
-    for turn in 0..times {
-        expand_turn(body, values, turn + 1, out)?;
-        if out.len() > LONGEST {
-            return Err(Wrong::TooLong);
-        }
-    }
+    expand_turns(body, values, times, out)?;
     // The body stands between two braces.
     behind.get(body.len() + 2..).ok_or(Wrong::Escape)
 }
@@ -72,6 +67,17 @@ fn within(text: &[u8]) -> Option<&[u8]>
         is_escape = !is_escape && *byte == b'\\';
     }
     None
+}
+
+/// Appends what a repeated text stands for in its turns.
+fn expand_turns(text: &[u8], values: &[Value], times: u64, out: &mut Vec<u8>) -> Result<(), Wrong> {
+    for turn in 0..times {
+        expand_turn(text, values, turn + 1, out)?;
+        if out.len() > LONGEST {
+            return Err(Wrong::TooLong);
+        }
+    }
+    Ok(())
 }
 
 /// Appends what a repeated text stands for in one of its turns.
@@ -196,6 +202,8 @@ fn braced(text: &[u8]) -> Result<(&str, &[u8]), Wrong>
     let Some(close) = inside.iter().position(|byte| *byte == b'}') else {
         return Err(Wrong::Escape);
     };
-    let name = str::from_utf8(&inside[..close]).ok().ok_or(Wrong::Escape)?;
-    Ok((name, &inside[close + 1..]))
+    match str::from_utf8(&inside[..close]) {
+        Ok(name) => Ok((name, &inside[close + 1..])),
+        Err(_) => Err(Wrong::Escape),
+    }
 }

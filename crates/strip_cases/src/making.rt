@@ -57,35 +57,61 @@ fn given_of(
     let (name, base) = named_of(alloc, head.rest.as_str(), values).map_err(|wrong| wrong.at(
         head.row,
     ))?;
+    let text = text_of(alloc, body, values)?;
+    Ok(Given { name, base, text })
+}
+
+/// The rows of some lines, which may be no others than rows of a text.
+fn text_of(alloc: Global, lines: &[Line], values: &[Value]) -> Result<Vec<u8>, CaseFault> {
     let mut text = Vec::new(alloc);
-    for line in body {
+    for line in lines {
         if line.head != Head::Text {
             return Err(Wrong::Place.at(line.row));
         }
         push_row(line.rest.as_str(), values, &mut text).map_err(|wrong| wrong.at(line.row))?;
     }
-    Ok(Given { name, base, text })
+    Ok(text)
 }
 
 /// The name of a file, and what its rows are added to.
 fn named_of(alloc: Global, text: &str, values: &[Value]) -> Result<(String, Base), Wrong> {
     let words = words_of(alloc, text, values)?;
-    let base = match words.as_slice() {
-        [_] => Base::None,
-        [_, is, of] if is.as_str() == "is" => Base::Behind(of.clone()?),
-        [_, is, of, and] if is.as_str() == "is" && and.as_str() == "and" => {
-            Base::Behind(of.clone()?)
-        }
-        [_, is, of, but, row, number]
-            if is.as_str() == "is" && but.as_str() == "but" && row.as_str() == "row" => {
-            Base::Within(of.clone()?, number_in(number.as_str(), 1, u64::MAX)?)
-        }
-        _ => return Err(Wrong::Words),
-    };
+    named_by(words.as_slice())
+}
+
+/// The name that is the first word, and what those behind it say of the rows.
+fn named_by(words: &[String]) -> Result<(String, Base), Wrong> {
+    let base = base_of(words)?;
     match words.first() {
         Some(name) => Ok((name.clone()?, base)),
         None => Err(Wrong::Words),
     }
+}
+
+/// What the words behind a name say that the file's rows are added to.
+fn base_of(words: &[String]) -> Result<Base, Wrong> {
+    match words {
+        [_] => Ok(Base::None),
+        [_, is, of, behind @ ..] if is.as_str() == "is" => base_with(of, behind),
+        _ => Err(Wrong::Words),
+    }
+}
+
+/// A file that others' rows are added to, and what the words behind its name say of the place.
+fn base_with(of: &String, words: &[String]) -> Result<Base, Wrong> {
+    match words {
+        [] => Ok(Base::Behind(of.clone()?)),
+        [and] if and.as_str() == "and" => Ok(Base::Behind(of.clone()?)),
+        [but, row, number] if but.as_str() == "but" && row.as_str() == "row" => {
+            base_within(of, number.as_str())
+        }
+        _ => Err(Wrong::Words),
+    }
+}
+
+/// A file within which the rows stand, from the row with this number on.
+fn base_within(of: &String, number: &str) -> Result<Base, Wrong> {
+    Ok(Base::Within(of.clone()?, number_in(number, 1, u64::MAX)?))
 }
 
 /// Appends a row and the line feed that ends it, which a backslash at its end leaves out.
@@ -104,8 +130,20 @@ fn push_row(text: &str, values: &[Value], out: &mut Vec<u8>) -> Result<(), Wrong
 
 fn step_of(alloc: Global, head: &Line, body: &[Line], values: &[Value]) -> Result<Step, CaseFault> {
     let mut step = begun_of(alloc, head.rest.as_str(), values).map_err(|wrong| wrong.at(head.row))?;
+    complete(alloc, head, body, values, &mut step)?;
+    Ok(step)
+}
+
+/// Adds what the lines say of a step, and that it prints nothing where they say nothing of that.
+fn complete(
+    alloc: Global,
+    head: &Line,
+    body: &[Line],
+    values: &[Value],
+    step: &mut Step,
+) -> Result<(), CaseFault> {
     for line in body {
-        add_line(alloc, line, values, &mut step).map_err(|wrong| wrong.at(line.row))?;
+        add_line(alloc, line, values, step).map_err(|wrong| wrong.at(line.row))?;
     }
     if step.wanted.statuses.is_empty() {
         return Err(Wrong::NoStatus.at(head.row));
@@ -118,20 +156,35 @@ fn step_of(alloc: Global, head: &Line, body: &[Line], values: &[Value]) -> Resul
     {
         step.wanted.text = Some(Vec::new(alloc));
     }
-    Ok(step)
+    Ok(())
 }
 
 /// The step of a command line, of which nothing is wanted yet.
 fn begun_of(alloc: Global, text: &str, values: &[Value]) -> Result<Step, Wrong> {
     let mut words = words_of(alloc, text, values)?.into_iter();
     let program = match words.next() {
-        Some(word) if word.as_str() == "stripboard" => Program::Stripboard,
-        Some(word) if word.as_str() == "stripcheck" => Program::Stripcheck,
-        _ => return Err(Wrong::Words),
+        Some(word) => program_of(word.as_str()),
+        None => None,
     };
-    Ok(Step {
+    match program {
+        Some(program) => Ok(step_for(alloc, program, words.collect(alloc)?)),
+        None => Err(Wrong::Words),
+    }
+}
+
+fn program_of(word: &str) -> Option<Program> {
+    match word {
+        "stripboard" => Some(Program::Stripboard),
+        "stripcheck" => Some(Program::Stripcheck),
+        _ => None,
+    }
+}
+
+/// The step in which a program is run with these words, of which nothing is wanted yet.
+fn step_for(alloc: Global, program: Program, words: Vec<String>) -> Step {
+    Step {
         program,
-        words: words.collect(alloc)?,
+        words,
         failing_reads: Vec::new(alloc),
         read_piece: u64::MAX,
         failing_writes: Vec::new(alloc),
@@ -144,30 +197,46 @@ fn begun_of(alloc: Global, text: &str, values: &[Value]) -> Result<Step, Wrong> 
             numbers: Vec::new(alloc),
         },
         keep: None,
-    })
+    }
 }
 
 /// Adds what a line says of a step.
 fn add_line(alloc: Global, line: &Line, values: &[Value], step: &mut Step) -> Result<(), Wrong> {
+    let rest = line.rest.as_str();
     if line.head == Head::Text {
-        let mut text = step.wanted.text.take().unwrap_or(Vec::new(alloc));
-        push_row(line.rest.as_str(), values, &mut text)?;
-        step.wanted.text = Some(text);
-        return Ok(());
+        return add_text(alloc, rest, values, step);
     }
     if line.head == Head::Row {
-        let mut row = Vec::new(alloc);
-        expand(line.rest.as_bytes(), values, &mut row)?;
-        step.wanted.rows.push(row)?;
-        return Ok(());
+        return add_row(alloc, rest, values, step);
     }
-    let words = words_of(alloc, line.rest.as_str(), values)?;
-    match line.head {
-        Head::Status => step.wanted.statuses = statuses_of(alloc, &words)?,
-        Head::Number => step.wanted.numbers.push(number_wanted(&words)?)?,
-        Head::Keep => step.keep = Some(only_word(&words)?),
-        Head::Reads => set_reads(alloc, &words, step)?,
-        Head::Writes => set_writes(alloc, &words, step)?,
+    let words = words_of(alloc, rest, values)?;
+    add_words(alloc, line.head, &words, step)
+}
+
+/// Adds a row to the text that is wanted.
+fn add_text(alloc: Global, row: &str, values: &[Value], step: &mut Step) -> Result<(), Wrong> {
+    let mut text = step.wanted.text.take().unwrap_or(Vec::new(alloc));
+    push_row(row, values, &mut text)?;
+    step.wanted.text = Some(text);
+    Ok(())
+}
+
+/// Adds a row that is wanted somewhere.
+fn add_row(alloc: Global, text: &str, values: &[Value], step: &mut Step) -> Result<(), Wrong> {
+    let mut row = Vec::new(alloc);
+    expand(text.as_bytes(), values, &mut row)?;
+    step.wanted.rows.push(row)?;
+    Ok(())
+}
+
+/// Adds what the words of a line say of a step.
+fn add_words(alloc: Global, head: Head, words: &[String], step: &mut Step) -> Result<(), Wrong> {
+    match head {
+        Head::Status => step.wanted.statuses = statuses_of(alloc, words)?,
+        Head::Number => step.wanted.numbers.push(number_wanted(words)?)?,
+        Head::Keep => step.keep = Some(only_word(words)?),
+        Head::Reads => set_reads(alloc, words, step)?,
+        Head::Writes => set_writes(alloc, words, step)?,
         _ => return Err(Wrong::Place),
     }
     Ok(())
@@ -214,13 +283,19 @@ fn set_reads(alloc: Global, words: &[String], step: &mut Step) -> Result<(), Wro
 /// What is said of the writes: which fail, how many bytes one takes, or how many all of them take.
 fn set_writes(alloc: Global, words: &[String], step: &mut Step) -> Result<(), Wrong> {
     match words {
-        [take, number] if take.as_str() == "take" => {
-            step.piece = number_in(number.as_str(), 1, ROOM)?;
-        }
-        [take, number, all] if take.as_str() == "take" && all.as_str() == "in-all" => {
+        [take, taken @ ..] if take.as_str() == "take" => return set_taken(taken, step),
+        _ => step.failing_writes = failing(alloc, words)?,
+    }
+    Ok(())
+}
+
+fn set_taken(words: &[String], step: &mut Step) -> Result<(), Wrong> {
+    match words {
+        [number] => step.piece = number_in(number.as_str(), 1, ROOM)?,
+        [number, all] if all.as_str() == "in-all" => {
             step.room = number_in(number.as_str(), 0, ROOM)?;
         }
-        _ => step.failing_writes = failing(alloc, words)?,
+        _ => return Err(Wrong::Words),
     }
     Ok(())
 }
@@ -230,19 +305,24 @@ fn number_wanted(words: &[String]) -> Result<NumberWanted, Wrong> {
     let [name, relation, bound @ ..] = words else {
         return Err(Wrong::Words);
     };
-    let bound = match bound {
-        [number] => Bound::Number(number_in(number.as_str(), 0, u64::MAX)?),
-        [name, of, file] if of.as_str() == "of" => Bound::In {
-            name: name.clone()?,
-            file: file.clone()?,
-        },
-        _ => return Err(Wrong::Words),
-    };
+    let bound = bound_wanted(bound)?;
     Ok(NumberWanted {
         name: name.clone()?,
         relation: relation_of(relation.as_str()).ok_or(Wrong::Words)?,
         bound,
     })
+}
+
+/// What a number is compared with.
+fn bound_wanted(words: &[String]) -> Result<Bound, Wrong> {
+    match words {
+        [number] => Ok(Bound::Number(number_in(number.as_str(), 0, u64::MAX)?)),
+        [name, of, file] if of.as_str() == "of" => Ok(Bound::In {
+            name: name.clone()?,
+            file: file.clone()?,
+        }),
+        _ => Err(Wrong::Words),
+    }
 }
 
 fn relation_of(word: &str) -> Option<Relation> {

@@ -31,7 +31,14 @@ pub fn read_cases(alloc: Global, text: &[u8]) -> Result<Cases, CaseFault>
         Err(_) => return Err(Wrong::NotUtf8.at(row_of_bad_byte(text))),
     };
     let lines = lines_of(alloc, text)?;
-    let (front, behind) = lines.split_at(before_case(&lines));
+    cases_in(alloc, &lines)
+}
+
+/// The cases that the lines of a case file tell.
+fn cases_in(alloc: Global, lines: &[Line]) -> Result<Cases, CaseFault>
+    ensures { IfOk result (λ cases. case_lines lines.now ≤ vec_len cases.cases) }
+{
+    let (front, behind) = lines.split_at(before_case(lines));
     let shared = shared_of(alloc, front)?;
     let cases = all_cases(alloc, behind)?;
     Ok(Cases { shared, cases })
@@ -97,8 +104,22 @@ fn push_cases(
     if count > MOST {
         return Err(Wrong::TooLong.at(head.row));
     }
+    push_turns(alloc, head, body, &all, count, cases)
+}
+
+/// Appends the cases of so many turns.
+fn push_turns(
+    alloc: Global,
+    head: &Line,
+    body: &[Line],
+    all: &[Each],
+    count: usize,
+    cases: &mut Vec<Case>,
+) -> Result<(), CaseFault>
+    ensures { OnOk result (vec_len cases.old + count ≤ vec_len cases.new) }
+{
     for number in 0..count {
-        let values = chosen(alloc, &all, number).map_err(|wrong| wrong.at(head.row))?;
+        let values = chosen(alloc, all, number).map_err(|wrong| wrong.at(head.row))?;
         let case = case_of(alloc, head, body, &values)?;
         if cases.push(case).is_err() {
             return Err(Wrong::Memory.at(head.row));
@@ -145,15 +166,19 @@ fn chosen(alloc: Global, all: &[Each], number: usize) -> Result<Vec<Value>, Wron
         let count = each.values.len();
         let place = left.checked_rem(count).unwrap_or(0);
         if let Some(text) = each.values.get(place) {
-            values.push(Value {
-                name: each.name.clone()?,
-                text: text.clone()?,
-            })?;
+            values.push(value_of(&each.name, text)?)?;
         }
         left = left.checked_div(count).unwrap_or(0);
     }
     values.reverse();
     Ok(values)
+}
+
+fn value_of(name: &String, text: &String) -> Result<Value, Wrong> {
+    Ok(Value {
+        name: name.clone()?,
+        text: text.clone()?,
+    })
 }
 
 fn case_of(alloc: Global, head: &Line, body: &[Line], values: &[Value]) -> Result<Case, CaseFault> {

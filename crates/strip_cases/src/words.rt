@@ -33,8 +33,10 @@ fn first_word(text: &[u8]) -> Result<Option<(&[u8], &[u8])>, Wrong>
     };
     let word = &text[start..];
     if let [b'\'', inside @ ..] = word {
-        let end = end_of(inside, b'\'').ok_or(Wrong::Words)?;
-        return Ok(Some((&inside[..end], &inside[end + 1..])));
+        return match end_of(inside, b'\'') {
+            Some(end) => Ok(Some((&inside[..end], &inside[end + 1..]))),
+            None => Err(Wrong::Words),
+        };
     }
     let end = end_of(word, b' ').unwrap_or(word.len()).max(1);
     Ok(Some((&word[..end], &word[end..])))

@@ -25,15 +25,30 @@ pub fn head_text(
     ensures { IfOk result (λ text. text.items ≡ csv_text (head_rows inst.now (plan_data plan.now) printed)) }
 {
     let mut text = Text::new(alloc);
-    push_word(alloc, &mut text, b"plan", b"2")?;
-    push_word(alloc, &mut text, b"bounds", kind_word(plan.kind))?;
-    push_word(alloc, &mut text, b"status", status_word(plan.status))?;
-    push_number(alloc, &mut text, b"cost", plan.cost)?;
-    push_number(alloc, &mut text, b"bound", plan.bound)?;
-    push_number(alloc, &mut text, b"lines", plan.held)?;
-    push_order(alloc, &mut text, inst, &plan.order)?;
-    push_number(alloc, &mut text, b"proof", printed)?;
+    push_head(alloc, &mut text, inst, plan, printed)?;
     text.into_bytes()
+}
+
+/// The eight rows, behind nothing.
+fn push_head(
+    alloc: Global,
+    text: &mut Text,
+    inst: &Instance,
+    plan: &Plan,
+    printed: u64,
+) -> Result<(), Memory>
+    requires order { All (λ scene. scene < length inst.now.scenes) (plan_data plan.now).order }
+    requires none { text.old ≡ [] }
+    ensures { OnOk result (text.new ≡ csv_text (head_rows inst.now (plan_data plan.now) printed)) }
+{
+    push_word(alloc, text, b"plan", b"2")?;
+    push_word(alloc, text, b"bounds", kind_word(plan.kind))?;
+    push_word(alloc, text, b"status", status_word(plan.status))?;
+    push_number(alloc, text, b"cost", plan.cost)?;
+    push_number(alloc, text, b"bound", plan.bound)?;
+    push_number(alloc, text, b"lines", plan.held)?;
+    push_order(alloc, text, inst, &plan.order)?;
+    push_number(alloc, text, b"proof", printed)
 }
 
 fn kind_word(kind: Kind) -> &'static [u8]

@@ -7,7 +7,7 @@ ghost use Rattle.strip_pay.specs.Order.{IsOrder};
 ghost use Rattle.strip_model.specs.Film.{film_of};
 ghost use Rattle.strip_text.specs.Rows.{csv_row, csv_text};
 ghost use Rattle.strip_reports.specs.Codes.{code_word};
-ghost use Rattle.strip_reports.specs.Text.{actor_fields, day_number, dood_text, header_fields, row_of, total_fields};
+ghost use Rattle.strip_reports.specs.Text.{actor_fields, day_number, dood_text, header_fields, row_of, rows_by_crews, total_fields};
 
 use crate::days::{Code, codes, crews};
 use crate::sums::{Sums, sums_of, total_of};
@@ -25,10 +25,19 @@ pub fn dood(alloc: Global, inst: &Instance, order: &[u16]) -> Result<Vec<u8>, Me
 {
     let crews = crews(alloc, inst, order)?;
     let mut text = Text::new(alloc);
-    write_header(alloc, &mut text, crews.len())?;
-    write_actors(alloc, &mut text, inst, &crews)?;
-    write_total(alloc, &mut text, inst, &crews)?;
+    write_rows(alloc, &mut text, inst, &crews)?;
     text.into_bytes()
+}
+
+/// Writes all rows, behind nothing.
+fn write_rows(alloc: Global, text: &mut Text, inst: &Instance, crews: &[u64]) -> Result<(), Memory>
+    requires few { length crews.now ≤ 19800 }
+    requires none { text.old ≡ [] }
+    ensures { OnOk result (text.new ≡ csv_text (rows_by_crews inst.now crews.now)) }
+{
+    write_header(alloc, text, crews.len())?;
+    write_actors(alloc, text, inst, crews)?;
+    write_total(alloc, text, inst, crews)
 }
 
 fn write_header(alloc: Global, text: &mut Text, days: usize) -> Result<(), Memory>

@@ -2,6 +2,7 @@
 #![tactic(auto)]
 
 mod command;
+mod effort;
 mod fault;
 mod item;
 mod jobs;

@@ -6,9 +6,10 @@ ghost use Rattle.strip_words.specs.Shown.{gen_data, strs, texts, trial_data};
 
 use crate::WordsFault;
 use crate::command::{Command, CommandOption};
+use crate::effort::effort_of;
 use crate::number::number_of;
 use crate::reader::read;
-use crate::solve::{BOUNDS, NODES, STEPS, TABLE, TRIES, kind_of};
+use crate::solve::{BOUNDS, NODES, STEPS, TABLE, TRIES};
 use std::alloc::Global;
 use strip_kind::Kind;
 
@@ -74,20 +75,16 @@ pub(crate) fn trial_job(alloc: Global, later: &[String]) -> Result<TrialJob, Wor
 {
     let reading = read(alloc, &TRIAL, later)?;
     let items = reading.items.as_slice();
-    let nodes = NODES.chosen(items)?;
-    let table = TABLE.chosen(items)?;
-    let tries = TRIES.given(items)?;
-    let steps = STEPS.given(items)?;
-    let kind = kind_of(BOUNDS.picked(items)?);
+    let effort = effort_of(items)?;
     let operands = reading.operands(alloc)?;
     let film = film_named(operands.as_slice())?;
     Ok(TrialJob {
         film,
-        nodes,
-        table,
-        tries,
-        steps,
-        kind,
+        nodes: effort.nodes,
+        table: effort.table,
+        tries: effort.tries,
+        steps: effort.steps,
+        kind: effort.kind,
     })
 }
 

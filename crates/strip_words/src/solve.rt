@@ -6,6 +6,7 @@ ghost use Rattle.strip_words.specs.Shown.{texts, solve_data};
 
 use crate::WordsFault;
 use crate::command::{ChoiceOption, Command, CommandOption, FreeOption, NumberOption};
+use crate::effort::effort_of;
 use crate::options::has_flag;
 use crate::reader::read;
 use std::alloc::Global;
@@ -106,11 +107,7 @@ pub(crate) fn solve_job(alloc: Global, later: &[String]) -> Result<SolveJob, Wor
     let reading = read(alloc, &SOLVE, later)?;
     let items = reading.items.as_slice();
     let workers = WORKERS.chosen(items)?;
-    let nodes = NODES.chosen(items)?;
-    let table = TABLE.chosen(items)?;
-    let tries = TRIES.given(items)?;
-    let steps = STEPS.given(items)?;
-    let kind = kind_of(BOUNDS.picked(items)?);
+    let effort = effort_of(items)?;
     let proof = has_flag(items, PROOF);
     let progress = has_flag(items, PROGRESS);
     let steal = has_flag(items, STEAL);
@@ -119,11 +116,11 @@ pub(crate) fn solve_job(alloc: Global, later: &[String]) -> Result<SolveJob, Wor
     Ok(SolveJob {
         file,
         workers,
-        nodes,
-        table,
-        tries,
-        steps,
-        kind,
+        nodes: effort.nodes,
+        table: effort.table,
+        tries: effort.tries,
+        steps: effort.steps,
+        kind: effort.kind,
         proof,
         progress,
         steal,

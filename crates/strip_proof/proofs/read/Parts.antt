@@ -69,6 +69,12 @@ module _ (inst : InstanceData) (first : ℕ) (row : Row) (left0 left1 left2 left
       ++ due (first + 3) (row_is (is_pair (codes "lines") is_amount)) (third i)
       ++ due (first + 4) (order_checks inst) (fourth i))
 
+  pub bound-fault : (fault : PlanFault) → first_fault status ≡ None → first_fault cost ≡ None → Tells fault bound
+      → Tells fault (plan_row_checks inst first (row ∷ left0))
+  bound-fault fault no_status no_cost tells =
+      tells-same fault (plan_row_checks inst first (row ∷ left0)) (status ++ from_cost) five-same
+      (past status from_cost fault no_status (past cost from_bound fault no_cost (here bound from_held fault tells)))
+
   pub held-fault : (fault : PlanFault) → first_fault status ≡ None → first_fault cost ≡ None → first_fault bound ≡ None → Tells fault held
       → Tells fault (plan_row_checks inst first (row ∷ left0))
   held-fault fault no_status no_cost no_bound tells =

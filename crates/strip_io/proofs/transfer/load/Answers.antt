@@ -1,5 +1,6 @@
-use Rattle.std.proofs.Common.{◌≡◌, ℕ, ◌+◌, ◌≤◌, List, ◌++◌, vec_len, length, take, ◌∙◌, ap, subst, refl, arith, rules}
-use Rattle.std.proofs.lemmas.List.{length-take-le}
+use Rattle.std.proofs.Common.{◌≡◌, ℕ, ◌+◌, ◌≤◌, List, ◌++◌, vec_len, length, take, ◌∙◌, ap, subst, refl, arith, rules, length-drop}
+use Rattle.std.proofs.lemmas.List.{length-take, length-take-le}
+use Rattle.std.proofs.lemmas.Result.{IfOk-from_err}
 use Rattle.strip_io.specs.Counts.{CameOnly}
 use Rattle.strip_io.specs.Files.{CopiesFrom}
 use Rattle.strip_io.proofs.Counts.{counts_on, counts_stay, failed_since, none_so_far, came_all, came_more}
@@ -70,3 +71,40 @@ pub returns-then-count-eq0-clause-came : goal.returns-then-count-eq0-clause-came
 returns-then-count-eq0-clause-came g c =
     let all = came_all _ _ _ _ _ _ c.loop-turn.invariant.came c.in_ok-count.ensures.came in
     subst (λ (n : ℕ). CameOnly c.args.name.now n (g.F.Files.state c.args.files.now).came (g.F.Files.state c.read.new.self).came) (omega arith) all
+
+pub returns-in_err-count-clause-all : goal.returns-in_err-count-clause-all
+returns-in_err-count-clause-all g c = IfOk-from_err _ _ c.from_residual-in_err-count.ensures.0
+
+pub returns-in_err-count-clause-short : goal.returns-in_err-count-clause-short
+returns-in_err-count-clause-short g c = IfOk-from_err _ _ c.from_residual-in_err-count.ensures.0
+
+pub returns-in_err-count-clause-came : goal.returns-in_err-count-clause-came
+returns-in_err-count-clause-came g c = IfOk-from_err _ _ c.from_residual-in_err-count.ensures.0
+
+pub returns-in_err-extend_from_slice-clause-all : goal.returns-in_err-extend_from_slice-clause-all
+returns-in_err-extend_from_slice-clause-all g c = IfOk-from_err _ _ c.from_residual-in_err-extend_from_slice.ensures.0
+
+pub returns-in_err-extend_from_slice-clause-short : goal.returns-in_err-extend_from_slice-clause-short
+returns-in_err-extend_from_slice-clause-short g c = IfOk-from_err _ _ c.from_residual-in_err-extend_from_slice.ensures.0
+
+pub returns-in_err-extend_from_slice-clause-came : goal.returns-in_err-extend_from_slice-clause-came
+returns-in_err-extend_from_slice-clause-came g c = IfOk-from_err _ _ c.from_residual-in_err-extend_from_slice.ensures.0
+
+pub returns-in_err-count-clause-unfailed : goal.returns-in_err-count-clause-unfailed
+returns-in_err-count-clause-unfailed g c = λ other. absurd (other (search (rules, c.from_residual-in_err-count.ensures)))
+
+pub returns-then-len-count-clause-too_long : goal.returns-then-len-count-clause-too_long
+returns-then-len-count-clause-too_long g c = λ _ text told.
+    let here = ap (λ (bytes : List ℕ → _). bytes c.args.name.now) c.loop-turn.invariant.told ∙ told in
+    let copied = c.in_ok-count.ensures.copied text here in
+    let sizes = simp (length-take, length-drop) at (ap length copied.bytes) in
+    omega (arith, sizes, c.if-len-count.true, c.in_ok-count.ensures.within)
+
+pub returns-in_err-extend_from_slice-clause-none_else : goal.returns-in_err-extend_from_slice-clause-none_else
+returns-in_err-extend_from_slice-clause-none_else g c = λ other apart. c.in_ok-count.ensures.came.others other apart ∙ c.loop-turn.invariant.came.others other apart
+
+pub returns-then-count-eq0-clause-none_else : goal.returns-then-count-eq0-clause-none_else
+returns-then-count-eq0-clause-none_else g c = λ other apart. c.in_ok-count.ensures.came.others other apart ∙ c.loop-turn.invariant.came.others other apart
+
+pub returns-then-len-count-clause-none_else : goal.returns-then-len-count-clause-none_else
+returns-then-len-count-clause-none_else g c = λ other apart. c.in_ok-count.ensures.came.others other apart ∙ c.loop-turn.invariant.came.others other apart

@@ -1,8 +1,20 @@
 use Rattle.strip_text.proofs.Making.{makes-handed_on}
 use Rattle.std.proofs.Common.{◌∷◌, drop, refl}
 use Rattle.strip_proof.specs.Faults.{plan_row_checks}
-use Rattle.strip_proof.proofs.read.Parts.{held-fault, no-fault, order-fault}
+use Rattle.strip_proof.proofs.read.Parts.{bound-fault, held-fault, no-fault, order-fault}
 use Rattle.strip_proof.proofs.head_rows.read_head.Goals as goal
+
+pub returns-in_err-bound-clause-makes : goal.returns-in_err-bound-clause-makes
+returns-in_err-bound-clause-makes c =
+    let inst = c.args.inst.now in
+    let row = c.args.row.now in
+    let left = c.args.rows.now.left in
+    let left1 = c.read_amount.new.rows.left in
+    let fault = c.in_err-bound.field-0.0 in
+    makes-handed_on (plan_row_checks inst c.args.first (row ∷ left)) _ fault c.from_residual-in_err-bound.ensures.1
+    (bound-fault inst c.args.first row left left1 (drop 1 left1) (drop 1 (drop 1 left1))
+    c.in_ok-cost.ensures.left refl refl fault
+    c.in_ok-status.ensures.makes c.in_ok-cost.ensures.makes c.in_err-bound.ensures.makes)
 
 pub returns-in_err-held-clause-makes : goal.returns-in_err-held-clause-makes
 returns-in_err-held-clause-makes c =
