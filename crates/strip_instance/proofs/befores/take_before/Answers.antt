@@ -5,7 +5,6 @@ use Rattle.std.proofs.lemmas.List.{length-map}
 use Rattle.strip_model.specs.Data.{SceneData}
 use Rattle.strip_model.specs.Instance.{scene_data}
 use Rattle.strip_model.specs.declared.scene.Scene.{Scene}
-use Rattle.strip_pay.specs.Befores.{Knows}
 use Rattle.strip_pay.specs.Pairs.{FitPairs, Leads}
 use Rattle.strip_pay.specs.declared.pair.Pair.{Pair}
 use Rattle.strip_pay.proofs.Lists.{any_from}
@@ -111,6 +110,3 @@ returns-clause-pairs c =
     let pairs = c.args.pairs.now.items in
     c.in_ok-push.ensures.items
     ∙ sym (joined_new pairs _ c.in-Some.pair (sym c.in-Some.ensures) (λ there. false≢true (sym c.if-stands.false ∙ (c.stands.ensures pairs c.requires.known).1 there)))
-
-pub returns-clause-known : goal.returns-clause-known
-returns-clause-known c = subst (Knows c.add.new.self) (sym c.in_ok-push.ensures.items) (c.add.ensures c.args.pairs.now.items c.requires.known)
