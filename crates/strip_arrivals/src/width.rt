@@ -8,7 +8,7 @@ ghost use Rattle.strip_arrivals.specs.Company.{IsCompany, most_paid};
 
 use crate::table::ArrivalsTable;
 use strip_mask::Mask;
-use strip_sets::{Block, BySet, Five, FourPlaces, Halves, WideFour};
+use strip_sets::{Block, BySet, FourPlaces, Halves};
 
 impl ArrivalsTable {
     /// The value by numbers of 32 bits, for the sets of no more places than the group has, or of four.
@@ -20,11 +20,7 @@ impl ArrivalsTable {
         ensures same { result ≡ arrivals_value self.now set.0 group.0 newcomers.0 }
         ensures small { result ≤ sum self.now.days * sum self.now.holds }
     {
-        match group.size() {
-            0..=4 => self.value_by::<FourPlaces>(set, group, newcomers, never),
-            5 => self.value_by::<Five>(set, group, newcomers, never),
-            _ => self.value_over_five::<Five>(set, group, newcomers, never),
-        }
+        self.value_from_four::<FourPlaces>(set, group, newcomers, never)
     }
 
     /// The value by numbers of 64 bits, for the sets of seven places, or of ten where the group has more.
@@ -36,7 +32,25 @@ impl ArrivalsTable {
         ensures same { result ≡ arrivals_value self.now set.0 group.0 newcomers.0 }
         ensures small { result ≤ sum self.now.days * sum self.now.holds }
     {
-        self.value_over_four::<WideFour>(set, group, newcomers, never)
+        self.value_over_two::<Halves<Halves<u64>>>(set, group, newcomers, never)
+    }
+
+    /// The same by numbers of four to ten places, out of those of four.
+    fn value_from_four<S: BySet>(&self, set: Mask, group: Mask, newcomers: Mask, never: u64) -> u64
+        requires places { S.places ≡ 4 }
+        requires company { IsCompany self.now set.0 group.0 newcomers.0 }
+        requires enough { most_paid self.now set.0 group.0 newcomers.0 < never }
+        requires low { sum_over self.now.holds group.0 + sum_over self.now.holds newcomers.0 < never }
+        requires room { 4 * never ≤ S.most }
+        requires wide { 2 ^ 32 - 1 ≤ S.most }
+        ensures same { result ≡ arrivals_value self.now set.0 group.0 newcomers.0 }
+        ensures small { result ≤ sum self.now.days * sum self.now.holds }
+    {
+        match group.size() {
+            0..=4 => self.value_by::<S>(set, group, newcomers, never),
+            5 => self.value_by::<Halves<S>>(set, group, newcomers, never),
+            _ => self.value_over_five::<Halves<S>>(set, group, newcomers, never),
+        }
     }
 
     /// The same by numbers of six to ten places, out of those of five.
@@ -50,10 +64,24 @@ impl ArrivalsTable {
         ensures same { result ≡ arrivals_value self.now set.0 group.0 newcomers.0 }
         ensures small { result ≤ sum self.now.days * sum self.now.holds }
     {
+        self.value_from_six::<Halves<Block<S>>>(set, group, newcomers, never)
+    }
+
+    /// The same by numbers of six to ten places, out of those of six.
+    fn value_from_six<S: BySet>(&self, set: Mask, group: Mask, newcomers: Mask, never: u64) -> u64
+        requires places { S.places ≡ 6 }
+        requires company { IsCompany self.now set.0 group.0 newcomers.0 }
+        requires enough { most_paid self.now set.0 group.0 newcomers.0 < never }
+        requires low { sum_over self.now.holds group.0 + sum_over self.now.holds newcomers.0 < never }
+        requires room { 4 * never ≤ S.most }
+        requires wide { 2 ^ 32 - 1 ≤ S.most }
+        ensures same { result ≡ arrivals_value self.now set.0 group.0 newcomers.0 }
+        ensures small { result ≤ sum self.now.days * sum self.now.holds }
+    {
         match group.size() {
-            0..=6 => self.value_by::<Halves<Block<S>>>(set, group, newcomers, never),
-            7 => self.value_by::<Halves<Halves<Block<S>>>>(set, group, newcomers, never),
-            _ => self.value_over_seven::<Halves<Halves<Block<S>>>>(set, group, newcomers, never),
+            0..=6 => self.value_by::<S>(set, group, newcomers, never),
+            7 => self.value_by::<Halves<S>>(set, group, newcomers, never),
+            _ => self.value_over_seven::<Halves<S>>(set, group, newcomers, never),
         }
     }
 
@@ -70,9 +98,23 @@ impl ArrivalsTable {
     {
         match group.size() {
             0..=8 => self.value_by::<Halves<Block<S>>>(set, group, newcomers, never),
-            9 => self.value_by::<Halves<Halves<Block<S>>>>(set, group, newcomers, never),
+            9 => self.value_two_over::<Block<S>>(set, group, newcomers, never),
             _ => self.value_three_over::<S>(set, group, newcomers, never),
         }
+    }
+
+    /// The same by numbers of seven places, or of ten, out of those of two.
+    fn value_over_two<S: BySet>(&self, set: Mask, group: Mask, newcomers: Mask, never: u64) -> u64
+        requires places { S.places ≡ 2 }
+        requires company { IsCompany self.now set.0 group.0 newcomers.0 }
+        requires enough { most_paid self.now set.0 group.0 newcomers.0 < never }
+        requires low { sum_over self.now.holds group.0 + sum_over self.now.holds newcomers.0 < never }
+        requires room { 4 * never ≤ S.most }
+        requires wide { 2 ^ 32 - 1 ≤ S.most }
+        ensures same { result ≡ arrivals_value self.now set.0 group.0 newcomers.0 }
+        ensures small { result ≤ sum self.now.days * sum self.now.holds }
+    {
+        self.value_over_four::<Halves<Halves<S>>>(set, group, newcomers, never)
     }
 
     /// The same by numbers of seven places, or of ten, out of those of four.
@@ -88,10 +130,28 @@ impl ArrivalsTable {
     {
         match group.size() {
             0..=7 => self.value_three_over::<S>(set, group, newcomers, never),
-            _ => self.value_three_over::<Halves<Halves<Halves<Block<S>>>>>(
-                set, group, newcomers, never,
-            ),
+            _ => self.value_over_five_wide::<Halves<Block<S>>>(set, group, newcomers, never),
         }
+    }
+
+    /// The same by numbers of ten places, out of those of five.
+    fn value_over_five_wide<S: BySet>(
+        &self,
+        set: Mask,
+        group: Mask,
+        newcomers: Mask,
+        never: u64,
+    ) -> u64
+        requires places { S.places ≡ 5 }
+        requires company { IsCompany self.now set.0 group.0 newcomers.0 }
+        requires enough { most_paid self.now set.0 group.0 newcomers.0 < never }
+        requires low { sum_over self.now.holds group.0 + sum_over self.now.holds newcomers.0 < never }
+        requires room { 4 * never ≤ S.most }
+        requires wide { 2 ^ 32 - 1 ≤ S.most }
+        ensures same { result ≡ arrivals_value self.now set.0 group.0 newcomers.0 }
+        ensures small { result ≤ sum self.now.days * sum self.now.holds }
+    {
+        self.value_three_over::<Halves<Halves<S>>>(set, group, newcomers, never)
     }
 
     /// The same by numbers of three places more.
@@ -106,6 +166,21 @@ impl ArrivalsTable {
         ensures same { result ≡ arrivals_value self.now set.0 group.0 newcomers.0 }
         ensures small { result ≤ sum self.now.days * sum self.now.holds }
     {
-        self.value_by::<Halves<Halves<Halves<Block<S>>>>>(set, group, newcomers, never)
+        self.value_two_over::<Halves<Block<S>>>(set, group, newcomers, never)
+    }
+
+    /// The same by numbers of two places more.
+    fn value_two_over<S: BySet>(&self, set: Mask, group: Mask, newcomers: Mask, never: u64) -> u64
+        requires few { S.places ≤ 8 }
+        requires fits { size group.0 ≤ S.places + 2 }
+        requires company { IsCompany self.now set.0 group.0 newcomers.0 }
+        requires enough { most_paid self.now set.0 group.0 newcomers.0 < never }
+        requires low { sum_over self.now.holds group.0 + sum_over self.now.holds newcomers.0 < never }
+        requires room { 4 * never ≤ S.most }
+        requires wide { 2 ^ 32 - 1 ≤ S.most }
+        ensures same { result ≡ arrivals_value self.now set.0 group.0 newcomers.0 }
+        ensures small { result ≤ sum self.now.days * sum self.now.holds }
+    {
+        self.value_by::<Halves<Halves<S>>>(set, group, newcomers, never)
     }
 }

@@ -1,5 +1,5 @@
 // An instance text, read.
-ghost use Rattle.std.specs.Prelude.{◌≡◌, ◌≢◌, ◌≤◌, length, map, Ok, Err, IfOk, IfErr};
+ghost use Rattle.std.specs.Prelude.{◌≡◌, ◌≢◌, ◌≤◌, ◌∷◌, length, map, Ok, Err, IfOk, IfErr};
 ghost use Rattle.strip_model.specs.Data.{IsInstance};
 ghost use Rattle.strip_model.specs.Instance.{instance_data, scene_data};
 ghost use Rattle.strip_instance.specs.declared.fault.InstanceFault.TheVariants.{Memory as OutOfMemory};
@@ -43,10 +43,19 @@ fn read_rows(alloc: Global, rows: &mut Rows<'_>) -> Result<Instance, InstanceFau
     if !next_row(rows, &mut header)? {
         return Err(InstanceFault::Empty);
     }
-    let names = read_names(alloc, &header)?;
+    read_behind(alloc, &header, rows)
+}
+
+/// The instance that this header and all rows behind it say.
+fn read_behind(alloc: Global, header: &Row, rows: &mut Rows<'_>) -> Result<Instance, InstanceFault>
+    requires { rows.old.number ≡ 1 }
+    ensures makes { Makes (all_checks (header.now ∷ rows.old.left)) result }
+    ensures instance { IfOk result (λ inst. inst ≡ instance_of (parts_of (header.now ∷ rows.old.left))) }
+{
+    let names = read_names(alloc, header)?;
     let mut row = Row::new(alloc);
-    let Paid { actors, there } = read_actors(alloc, &header, &names, rows, &mut row)?;
-    let Filmed { scenes, pairs } = read_filmed(alloc, &header, rows, &mut row, there)?;
+    let Paid { actors, there } = read_actors(alloc, header, &names, rows, &mut row)?;
+    let Filmed { scenes, pairs } = read_filmed(alloc, header, rows, &mut row, there)?;
     Ok(made(scenes, actors, pairs))
 }
 

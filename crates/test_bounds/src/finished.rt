@@ -1,5 +1,6 @@
 // The bound with arrivals of every set of small films, and what finishing the sets costs at least. Another
 // program worked out both, by the definition and by trying what is shot first.
+ghost use Rattle.strip_bound.specs.Tables.{AreTables};
 ghost use Rattle.strip_film.specs.Film.{LiesIn};
 
 use crate::cases::{film_of, kept_bound};
@@ -20,7 +21,7 @@ struct Row {
     costs: u64,
 }
 
-static FIRST: [Row; 22] = [
+static FIRST: [Row; 11] = [
     Row {
         casts: &[0x1, 0x1b, 0xe, 0x13],
         days: &[1, 2, 2, 1],
@@ -109,6 +110,9 @@ static FIRST: [Row; 22] = [
         bounds: 1532,
         costs: 1532,
     },
+];
+
+static SECOND: [Row; 11] = [
     Row {
         casts: &[0x8, 0x29, 0x15, 0x1d, 0x12, 0x1b, 0x29],
         days: &[4, 1, 2, 1, 1, 2, 1],
@@ -199,7 +203,7 @@ static FIRST: [Row; 22] = [
     },
 ];
 
-static SECOND: [Row; 22] = [
+static THIRD: [Row; 11] = [
     Row {
         casts: &[0x14, 0x3, 0x10, 0x16, 0xf, 0x5],
         days: &[2, 2, 4, 1, 2, 3],
@@ -288,6 +292,9 @@ static SECOND: [Row; 22] = [
         bounds: 1200,
         costs: 1200,
     },
+];
+
+static FOURTH: [Row; 11] = [
     Row {
         casts: &[0x59, 0x12, 0x6b, 0x7e, 0x30],
         days: &[4, 1, 2, 1, 3],
@@ -390,12 +397,14 @@ fn are_bounded(alloc: Global, rows: &[Row]) -> Result<bool, Fail> {
 #[test]
 fn no_bound_is_above_the_cost_of_finishing(rt: HostRuntime) -> Result<(), Fail> {
     assert!(&rt; are_bounded(rt.alloc(), &FIRST)?);
+    assert!(&rt; are_bounded(rt.alloc(), &SECOND)?);
     Ok(())
 }
 
 #[test]
 fn no_bound_of_more_films_is_above_the_cost(rt: HostRuntime) -> Result<(), Fail> {
-    assert!(&rt; are_bounded(rt.alloc(), &SECOND)?);
+    assert!(&rt; are_bounded(rt.alloc(), &THIRD)?);
+    assert!(&rt; are_bounded(rt.alloc(), &FOURTH)?);
     Ok(())
 }
 
@@ -404,18 +413,25 @@ fn is_bounded(alloc: Global, row: &Row) -> Result<bool, Fail> {
     let film = film_of(alloc, row.casts, row.days, row.rates, row.holds, &[])?;
     let tables = BoundTables::of(alloc, &film)?;
     let costs = costs_of(alloc, &film)?;
+    Ok(sums(&film, &tables, costs.as_slice()) == Some((row.bounds, row.costs)))
+}
+
+/// What the bounds of all sets add up to, and these costs; none where a bound is above its cost.
+fn sums(film: &Film, tables: &BoundTables, costs: &[u64]) -> Option<(u64, u64)>
+    requires { AreTables film.now tables.now }
+{
     let (mut bounds, mut total) = (0u64, 0u64);
     for number in 0..costs.len() {
         let cost = costs[number];
-        match kept_bound(&film, &tables, Mask(number as u64)) {
+        match kept_bound(film, tables, Mask(number as u64)) {
             Some(bound) if bound <= cost => {
                 bounds = bounds.saturating_add(bound);
                 total = total.saturating_add(cost);
             }
-            _ => return Ok(false),
+            _ => return None,
         }
     }
-    Ok(bounds == row.bounds && total == row.costs)
+    Some((bounds, total))
 }
 
 /// What finishing each set of at most seven scenes costs at least, by number of the set.

@@ -183,15 +183,18 @@ fn bounds_are_those_worked_by_hand(rt: HostRuntime) -> Result<(), Fail> {
 fn has_bounds(alloc: Global, row: &Row) -> Result<bool, Fail> {
     let film = film_of(alloc, row.casts, row.days, row.rates, row.holds, &[])?;
     let tables = BoundTables::of(alloc, &film)?;
-    let set = Mask(row.set);
-    let [plain, pairs, groups, arrivals] = row.bounds;
-    Ok(
-        kept_plain(&film, &tables, set) == Some(plain)
-            && kept(&film, &tables, Kind::Plain, set) == Some(plain)
-            && kept(&film, &tables, Kind::Pairs, set) == Some(pairs)
-            && kept(&film, &tables, Kind::Groups, set) == Some(groups)
-            && kept(&film, &tables, Kind::Arrivals, set) == Some(arrivals),
-    )
+    Ok(are_kept(&film, &tables, Mask(row.set), row.bounds))
+}
+
+fn are_kept(film: &Film, tables: &BoundTables, set: Mask, bounds: [u64; 4]) -> bool
+    requires { AreTables film.now tables.now }
+{
+    let [plain, pairs, groups, arrivals] = bounds;
+    kept_plain(film, tables, set) == Some(plain)
+        && kept(film, tables, Kind::Plain, set) == Some(plain)
+        && kept(film, tables, Kind::Pairs, set) == Some(pairs)
+        && kept(film, tables, Kind::Groups, set) == Some(groups)
+        && kept(film, tables, Kind::Arrivals, set) == Some(arrivals)
 }
 
 // None where the set has a number that is no scene.

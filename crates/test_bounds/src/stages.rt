@@ -1,9 +1,12 @@
 // The bound with arrivals where thirteen are on location and none, three or five are still to come, also at
 // the limits of a film, and how far it reaches. Another program worked out the bounds of its stages.
+ghost use Rattle.strip_bound.specs.Tables.{AreTables};
+
 use crate::cases::{film_of, kept_bound, kept_reach};
 use std::alloc::Global;
 use std::test::Fail;
 use strip_bound::BoundTables;
+use strip_film::Film;
 use strip_mask::Mask;
 
 // The stages are the plain bound, then groups of seven with none, one and two newcomers at most, then groups
@@ -126,19 +129,21 @@ fn thirteen_on_location_have_their_bound(rt: HostRuntime) -> Result<(), Fail> {
 fn has_bound(alloc: Global, row: &Row) -> Result<bool, Fail> {
     let film = film_of(alloc, row.casts, row.days, row.rates, row.holds, &[])?;
     let tables = BoundTables::of(alloc, &film)?;
-    let set = Mask(row.set);
-    for stage in row.stages {
+    Ok(is_reached(&film, &tables, Mask(row.set), row.stages, row.bound))
+}
+
+fn is_reached(film: &Film, tables: &BoundTables, set: Mask, stages: [u64; 7], bound: u64) -> bool
+    requires { AreTables film.now tables.now }
+{
+    for stage in stages {
         for need in [stage, stage.saturating_add(1)] {
-            match kept_reach(&film, &tables, set, need) {
-                Some(reached) if is_far_enough(reached, need, row.bound) => (),
-                _ => return Ok(false),
+            match kept_reach(film, tables, set, need) {
+                Some(reached) if is_far_enough(reached, need, bound) => (),
+                _ => return false,
             }
         }
     }
-    Ok(
-        kept_reach(&film, &tables, set, 0).is_some()
-            && kept_bound(&film, &tables, set) == Some(row.bound),
-    )
+    kept_reach(film, tables, set, 0).is_some() && kept_bound(film, tables, set) == Some(bound)
 }
 
 /// Whether what was reached is no more than the bound, and as far as was needed exactly where the bound is.

@@ -2,6 +2,7 @@
 ghost use Rattle.std.specs.Prelude.{◌≡◌};
 ghost use Rattle.strip_film.specs.Film.{LiesIn};
 ghost use Rattle.strip_bound.specs.StoredBound.{Keeps};
+ghost use Rattle.strip_bound.specs.Tables.{AreTables};
 
 use crate::cases::film_of;
 use std::alloc::Global;
@@ -57,13 +58,25 @@ fn asked_thrice<R: Wait, N: Bounded, F: Fn(u64, u64) -> u64>(
 fn times_asked<R: Wait>(rt: &R, alloc: Global, kind: Kind) -> Result<Option<u64>, Fail> {
     let film = triangle(alloc)?;
     let tables = BoundTables::of(alloc, &film)?;
+    times_asked_of(rt, alloc, &film, &tables, kind)
+}
+
+fn times_asked_of<R: Wait>(
+    rt: &R,
+    alloc: Global,
+    film: &Film,
+    tables: &BoundTables,
+    kind: Kind,
+) -> Result<Option<u64>, Fail>
+    requires { AreTables film.now tables.now }
+{
     let times = AtomicU64::new(0);
-    let kept = StoredBound::new(&film, kind, |q, need| {
+    let kept = StoredBound::new(film, kind, |q, need| {
         times.fetch_add(1, Ordering::SeqCst);
-        static_reach(&film, &tables, kind, Mask(q), need)
+        static_reach(film, tables, kind, Mask(q), need)
     });
     let [first, whole, again] = asked_thrice::<R, Brand, _>(rt, alloc, &kept)?;
-    let bound = static_bound(&film, &tables, kind, all_of(&film));
+    let bound = static_bound(film, tables, kind, all_of(film));
     if first == 0 || first > bound || whole != bound || again > bound {
         return Ok(None);
     }
@@ -121,20 +134,37 @@ fn reached_by_store<
 
 #[test]
 fn workers_share_a_store(rt: HostRuntime) -> Result<(), Fail> {
-    let alloc = rt.alloc();
+    assert!(&rt; is_shared(&rt, rt.alloc())?);
+    Ok(())
+}
+
+/// Whether four workers that share a store reach what they ask for.
+fn is_shared<R: Threads + Wait + Sync>(rt: &R, alloc: Global) -> Result<bool, Fail> {
     let film = triangle(alloc)?;
     let tables = BoundTables::of(alloc, &film)?;
+    is_shared_of(rt, alloc, &film, &tables)
+}
+
+fn is_shared_of<R: Threads + Wait + Sync>(
+    rt: &R,
+    alloc: Global,
+    film: &Film,
+    tables: &BoundTables,
+) -> Result<bool, Fail>
+    requires { AreTables film.now tables.now }
+{
     let kind = Kind::Arrivals;
     let kept = StoredBound::new(
-        &film,
+        film,
         kind,
-        |q, need| static_reach(&film, &tables, kind, Mask(q), need),
+        |q, need| static_reach(film, tables, kind, Mask(q), need),
     );
     let needs = Vec::from_slice(alloc, &[u64::MAX, 12, u64::MAX, 1])?;
-    let all = reached_by_store::<HostRuntime, Brand, _>(&rt, alloc, &kept, needs)?;
-    let bound = static_bound(&film, &tables, kind, all_of(&film));
-    assert!(&rt; all.len() == 4);
-    assert!(&rt; all.iter().all(|value| *value <= bound));
-    assert!(&rt; all[0] == bound);
-    Ok(())
+    let all = reached_by_store::<R, Brand, _>(rt, alloc, &kept, needs)?;
+    Ok(are_reached(&all, static_bound(film, tables, kind, all_of(film))))
+}
+
+/// Whether each of four numbers is at most the bound, and the first one is the bound.
+fn are_reached(all: &[u64], bound: u64) -> bool {
+    all.len() == 4 && all.iter().all(|value| *value <= bound) && all[0] == bound
 }

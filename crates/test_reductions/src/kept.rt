@@ -13,7 +13,7 @@ pub(crate) struct Kept {
     pay: u64,
 }
 
-pub(crate) static FILMS: [Kept; 17] = [
+static FILMS: [Kept; 9] = [
     Kept {
         film: Lists {
             casts: &[0b011, 0b110, 0b101],
@@ -113,6 +113,9 @@ pub(crate) static FILMS: [Kept; 17] = [
         order: &[2, 0, 1, 3],
         pay: 266,
     },
+];
+
+static MORE: [Kept; 8] = [
     Kept {
         film: Lists {
             casts: &[0b100, 0b100, 0b011, 0b001],
@@ -203,9 +206,24 @@ pub(crate) static FILMS: [Kept; 17] = [
     },
 ];
 
+/// The films. Each table is read in a function of its own, so that no proof has both in it.
+pub(crate) fn films() -> [&'static [Kept]; 2] {
+    [first(), more()]
+}
+
+fn first() -> &'static [Kept] {
+    &FILMS
+}
+
+fn more() -> &'static [Kept] {
+    &MORE
+}
+
 #[test]
 fn finds_the_cheapest_orders_that_keep_the_pairs(rt: HostRuntime) -> Result<(), Fail> {
-    assert!(&rt; all_are_cheapest(rt.alloc(), &FILMS)?);
+    for rows in films() {
+        assert!(&rt; all_are_cheapest(rt.alloc(), rows)?);
+    }
     Ok(())
 }
 

@@ -1,4 +1,4 @@
-use Rattle.test_bounds.proofs.stores.workers_share_a_store.Given as goal
+use Rattle.test_bounds.proofs.stores.is_shared_of.Given as goal
 
 -- the locks guard bounds of this film
 abbrev pub ghosts-reached_by_store : goal.ghosts-reached_by_store

@@ -1,4 +1,4 @@
-use Rattle.test_bounds.proofs.stores.times_asked.Given as goal
+use Rattle.test_bounds.proofs.stores.times_asked_of.Given as goal
 
 -- the locks guard bounds of this film
 abbrev pub ghosts-asked_thrice : goal.ghosts-asked_thrice
