@@ -13,9 +13,3 @@ pub use terms::{Classes, Count, Four, Free, Guard, Guarded, One, Two};
 
 /// Numbers for the sets of four places that fit in 32 bits.
 pub type FourPlaces = Halves<Halves<[u32; 4]>>;
-
-/// Numbers for the sets of five places that fit in 32 bits.
-pub type Five = Halves<FourPlaces>;
-
-/// Numbers for the sets of four places that fit in 64 bits.
-pub type WideFour = Halves<Halves<Halves<Halves<u64>>>>;

@@ -50,7 +50,7 @@ of-requires g c =
     let before = c.requires.layer.0 in
     let film = c.args.kept.now.film.now in
     let are = c.in_ok-tasks.ensures (suc before) (ap (λ (paths : List Path). map path_data paths) c.paths.ensures
-        ∙ next_layer film c.film-film.result.now before (paths_of c.args.last.now) (paths_of c.in_ok-longest.longest) c.film-film.ensures c.in_ok-longest.ensures c.requires.layer.1) in
+    ∙ next_layer film c.film-film.result.now before (paths_of c.args.last.now) (paths_of c.in_ok-longest.longest) c.film-film.ensures c.in_ok-longest.ensures c.requires.layer.1) in
     record {
       apart = others_permuted (layer film (suc before)) (map path_data c.in_ok-tasks.tasks.items) are.same
           (layer_facts c.args.kept.now.kind film (subst IsFilm c.film-film.ensures c.keeps_limits.ensures) (suc before)).apart;
@@ -61,6 +61,6 @@ returns g c = λ before from.
     let film = c.args.kept.now.film.now in
     let kind = c.args.kept.now.kind in
     let are = c.in_ok-tasks.ensures (suc before) (ap (λ (paths : List Path). map path_data paths) c.paths.ensures
-        ∙ next_layer film c.film-film.result.now before (paths_of c.args.last.now) (paths_of c.in_ok-longest.longest) c.film-film.ensures c.in_ok-longest.ensures from) in
+    ∙ next_layer film c.film-film.result.now before (paths_of c.args.last.now) (paths_of c.in_ok-longest.longest) c.film-film.ensures c.in_ok-longest.ensures from) in
     IfOk-weaker c.of.result (λ by_set. by_set.paths ≡ c.in_ok-tasks.tasks) (λ tasks. AreTasksOf (rules_of kind film) (suc before) (paths_of tasks))
     (λ by_set same. subst (AreTasksOf (rules_of kind film) (suc before)) (sym (ap (λ list. map path_data list.items) same)) are) c.of.ensures
