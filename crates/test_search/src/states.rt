@@ -7,20 +7,26 @@ use crate::films::plain_triangle;
 use std::test::Fail;
 use strip_film::{Film, Path, Running, laws, ready};
 
+/// Whether the state is as worked by hand after a scene, after a second one, and when that was taken back.
+fn moves(film: &Film) -> bool {
+    let mut state = Running::of(film, &Path::start(film));
+    let first = takes(&mut state, film, 0) && is_after_the_first(&state, film);
+    let second = takes(&mut state, film, 1) && is_after_the_second(&state);
+    let back = takes_back(&mut state, film) && is_after_the_first(&state, film);
+    first && second && back
+}
+
 #[test]
 fn moves_forward_and_back(rt: HostRuntime) -> Result<(), Fail> {
     let film = plain_triangle(rt.alloc())?;
-    let mut state = Running::of(&film, &Path::start(&film));
-    assert!(&rt; takes(&mut state, &film, 0));
-    assert!(&rt; is_after_the_first(&state, &film));
-    assert!(&rt; takes(&mut state, &film, 1));
-    assert!(&rt; state.rest().0 == 0b100 && state.on().0 == 0b101 && state.paid() == 9);
-    assert!(&rt; takes_back(&mut state, &film));
-    assert!(&rt; is_after_the_first(&state, &film));
+    assert!(&rt; moves(&film));
     Ok(())
 }
 
-// False where the scene can't be shot next.
+fn is_after_the_second(state: &Running) -> bool {
+    state.rest().0 == 0b100 && state.on().0 == 0b101 && state.paid() == 9
+}
+
 fn takes(state: &mut Running, film: &Film, scene: u32) -> bool
     requires { IsRunning film.now (running_data state.old) }
     ensures { IsRunning film.now (running_data state.new) }

@@ -74,38 +74,58 @@ pub(crate) fn task_of_two(film: &Film) -> Option<Path>
     Some(one.extend(film, 1))
 }
 
-// The second pass is told of the first one's path before anything is joined.
+/// What the second of two passes is told, the first one offers and the second one then is told and offers, and
+/// its best path, each before anything is joined; and what it is told and its best path behind a join.
+fn told_of_a_cheaper_path(alloc: Global, film: &Film) -> Result<[u64; 7], Fail> {
+    let start = path(film, &[0, 1, 2])?;
+    let cheaper = path(film, &[0, 2, 1])?;
+    let (least, mut first) = Least::new(alloc, film, &start, 2)?;
+    let mut second = first.split(&least);
+    let before = second.look(&least);
+    let offered = first.offer(&least, &cheaper);
+    let behind = second.look(&least);
+    let dearer = second.offer(&least, &start);
+    let own = second.best().paid();
+    second.join(&least, first.split(&least));
+    let joined = second.look(&least);
+    Ok([
+        before,
+        offered,
+        behind,
+        dearer,
+        own,
+        joined,
+        second.best().paid(),
+    ])
+}
+
 #[test]
 fn passes_are_told_of_a_cheaper_path(rt: HostRuntime) -> Result<(), Fail> {
-    let alloc = rt.alloc();
-    let film = film(alloc, &[])?;
-    let start = path(&film, &[0, 1, 2])?;
-    let (least, mut first) = Least::new(alloc, &film, &start, 2)?;
-    let mut second = first.split(&least);
-    assert!(&rt; second.look(&least) == 70);
-    assert!(&rt; first.offer(&least, &path(&film, &[0, 2, 1])?) == 60);
-    assert!(&rt; second.look(&least) == 60);
-    assert!(&rt; second.offer(&least, &start) == 60);
-    assert!(&rt; second.best().paid() == 70);
-    second.join(&least, first.split(&least));
-    assert!(&rt; second.look(&least) == 60);
-    assert!(&rt; second.best().paid() == 60);
+    let film = film(rt.alloc(), &[])?;
+    assert!(&rt; told_of_a_cheaper_path(rt.alloc(), &film)? == [70, 60, 60, 60, 70, 60, 60]);
     Ok(())
+}
+
+/// What the first, the second and twice the first of two passes claim, and what the best path of both paid.
+fn claimed_in_turn(alloc: Global, film: &Film) -> Result<([Option<u32>; 4], u64), Fail> {
+    let (least, mut first) = Least::new(alloc, film, &path(film, &[0, 2, 1])?, 2)?;
+    let mut second = first.split(&least);
+    let claims = [
+        first.claim(&least),
+        second.claim(&least),
+        first.claim(&least),
+        first.claim(&least),
+    ];
+    first.join(&least, second);
+    first.settle(&least);
+    Ok((claims, first.best().paid()))
 }
 
 #[test]
 fn parts_are_claimed_in_turn(rt: HostRuntime) -> Result<(), Fail> {
-    let alloc = rt.alloc();
-    let film = film(alloc, &[])?;
-    let (least, mut first) = Least::new(alloc, &film, &path(&film, &[0, 2, 1])?, 2)?;
-    let mut second = first.split(&least);
-    assert!(&rt; first.claim(&least) == Some(0));
-    assert!(&rt; second.claim(&least) == Some(1));
-    assert!(&rt; first.claim(&least).is_none());
-    assert!(&rt; first.claim(&least).is_none());
-    first.join(&least, second);
-    first.settle(&least);
-    assert!(&rt; first.best().paid() == 60);
+    let film = film(rt.alloc(), &[])?;
+    let (claims, paid) = claimed_in_turn(rt.alloc(), &film)?;
+    assert!(&rt; claims == [Some(0), Some(1), None, None] && paid == 60);
     Ok(())
 }
 
@@ -175,17 +195,30 @@ fn are_numbers_below(count: u32, claims: &[u32]) -> bool {
     claims.len() == count as usize && (0..count).zip(claims).all(|(part, claim)| part == *claim)
 }
 
-#[test]
-fn four_workers_claim_each_part_once(rt: HostRuntime) -> Result<(), Fail> {
-    let alloc = rt.alloc();
-    let film = film(alloc, &[])?;
-    let (least, mut pass) = Least::new(alloc, &film, &path(&film, &[0, 1, 2])?, 1000)?;
+/// What four workers claim of a thousand parts, by rising number.
+fn claimed_by_four<R: Threads + Sync>(
+    rt: &R,
+    alloc: Global,
+    film: &Film,
+) -> Result<Vec<u32>, Fail> {
+    let (least, mut pass) = Least::new(alloc, film, &path(film, &[0, 1, 2])?, 1000)?;
     let passes = deal(alloc, &least, &mut pass, 4)?;
+    gathered(alloc, claim_beside(rt, alloc, &least, passes)?)
+}
+
+fn gathered(alloc: Global, all: Vec<Result<Vec<u32>, AllocError>>) -> Result<Vec<u32>, Fail> {
     let mut claims = Vec::new(alloc);
-    for claimed in claim_beside(&rt, alloc, &least, passes)? {
+    for claimed in all {
         claims.append(&mut claimed?)?;
     }
     claims.sort_unstable();
+    Ok(claims)
+}
+
+#[test]
+fn four_workers_claim_each_part_once(rt: HostRuntime) -> Result<(), Fail> {
+    let film = film(rt.alloc(), &[])?;
+    let claims = claimed_by_four(&rt, rt.alloc(), &film)?;
     assert!(&rt; are_numbers_below(1000, claims.as_slice()));
     Ok(())
 }
