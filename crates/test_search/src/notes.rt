@@ -5,6 +5,7 @@ ghost use Rattle.strip_bound.specs.StoredBound.{Keeps};
 
 use crate::films::eight;
 use crate::forgetful::Forgetful;
+use crate::searched::searched_by;
 use crate::walks::search;
 use std::alloc::Global;
 use std::test::Fail;
@@ -14,9 +15,7 @@ use strip_front::laws::tasks_are_starts;
 use strip_front::make_front;
 use strip_kind::Kind;
 use strip_mask::Mask;
-use strip_memo::Memo;
 use strip_start::{greedy, improve};
-use strip_worker::alone;
 use strip_world::{Limits, World};
 
 /// What a search comes to: the cost of its best order and its bound, in units of money, and its lines.
@@ -72,8 +71,7 @@ fn with_notes<F: Fn(u64, u64) -> u64>(
     requires keeps { Keeps (F.pre kept.now.f) (F.post kept.now.f) kept.now.kind kept.now.film.now }
     requires start { IsComplete kept.now.film.now (path_data start.now) }
 {
-    let mut memo = Memo::new(alloc, kept)?;
-    let ended = alone(alloc, kept, &mut memo, start, CAP, ENTRIES)?;
+    let ended = searched_by(alloc, kept, start, CAP, ENTRIES)?;
     Ok(Outcome {
         cost: ended.cost,
         bound: ended.bound,

@@ -1,5 +1,6 @@
 // A search of a film by one worker.
 ghost use Rattle.std.specs.Prelude.{◌≤◌};
+ghost use Rattle.strip_bound.specs.StoredBound.{Keeps};
 ghost use Rattle.strip_film.specs.Path.{IsComplete};
 ghost use Rattle.strip_film.specs.Shown.{path_data};
 
@@ -29,6 +30,22 @@ pub(crate) fn searched(
     let kept = StoredBound::new(film, kind, |q, need| {
         static_reach(film, &tables, kind, Mask(q), need)
     });
-    let mut memo = Memo::new(alloc, &kept)?;
-    alone(alloc, &kept, &mut memo, start, nodes, entries)
+    searched_by(alloc, &kept, start, nodes, entries)
+}
+
+/// The same by static bounds that are stored.
+pub(crate) fn searched_by<F: Fn(u64, u64) -> u64>(
+    alloc: Global,
+    kept: &StoredBound<F>,
+    start: &Path,
+    nodes: u32,
+    entries: u32,
+) -> Result<Ended, Memory>
+    requires keeps { Keeps (F.pre kept.now.f) (F.post kept.now.f) kept.now.kind kept.now.film.now }
+    requires start { IsComplete kept.now.film.now (path_data start.now) }
+    requires nodes { (1 ≤ nodes) × (nodes ≤ 16777216) }
+    requires entries { (64 ≤ entries) × (entries ≤ 4194304) }
+{
+    let mut memo = Memo::new(alloc, kept)?;
+    alone(alloc, kept, &mut memo, start, nodes, entries)
 }

@@ -1,5 +1,6 @@
 // The tasks that a search of a film is parted into.
 ghost use Rattle.std.specs.Prelude.{◌≤◌};
+ghost use Rattle.strip_bound.specs.StoredBound.{Keeps};
 
 use crate::films::{film, ring};
 use std::alloc::Global;
@@ -38,7 +39,19 @@ fn has_tasks(
     let kept = StoredBound::new(film, kind, |q, need| {
         static_reach(film, &tables, kind, Mask(q), need)
     });
-    let front = make_front(alloc, &kept, most)?;
+    makes_tasks(alloc, &kept, most, scenes)
+}
+
+fn makes_tasks<F: Fn(u64, u64) -> u64>(
+    alloc: Global,
+    kept: &StoredBound<F>,
+    most: usize,
+    scenes: &[&[u8]],
+) -> Result<bool, Fail>
+    requires keeps { Keeps (F.pre kept.now.f) (F.post kept.now.f) kept.now.kind kept.now.film.now }
+    requires most { (2 ≤ most) × (most ≤ 4) }
+{
+    let front = make_front(alloc, kept, most)?;
     Ok(are_along(&front, scenes))
 }
 

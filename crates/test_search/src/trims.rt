@@ -1,5 +1,6 @@
 // Films whose lines were trimmed by hand.
 ghost use Rattle.std.specs.Prelude.{◌≡◌, IfOk};
+ghost use Rattle.strip_bound.specs.StoredBound.{Keeps};
 ghost use Rattle.strip_lines.specs.Lines.{AreJustified, rules_of};
 ghost use Rattle.test_search.specs.Worked.{ring, triangle};
 
@@ -43,8 +44,19 @@ fn trimmed(alloc: Global, film: &Film, kind: Kind, lines: &[Line]) -> Result<Vec
         kind,
         |q, need| static_reach(film, &tables, kind, Mask(q), need),
     );
-    let mut memo = Memo::new(alloc, &kept)?;
-    let lines = trim(alloc, &kept, &mut memo, lines)?;
+    trimmed_by(alloc, &kept, lines)
+}
+
+fn trimmed_by<F: Fn(u64, u64) -> u64>(
+    alloc: Global,
+    kept: &StoredBound<F>,
+    lines: &[Line],
+) -> Result<Vec<Line>, Fail>
+    requires keeps { Keeps (F.pre kept.now.f) (F.post kept.now.f) kept.now.kind kept.now.film.now }
+    requires lines { AreJustified (rules_of kept.now.kind kept.now.film.now) lines.now }
+{
+    let mut memo = Memo::new(alloc, kept)?;
+    let lines = trim(alloc, kept, &mut memo, lines)?;
     Ok(lines)
 }
 
