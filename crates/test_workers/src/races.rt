@@ -6,6 +6,10 @@
 // behind. So the distances of the actors' scenes add up to eight days or more, of which five don't make
 // anybody wait; and each of the other three costs 1 or more, so that no order costs less.
 ghost use Rattle.std.specs.Prelude.{◌≤◌};
+ghost use Rattle.strip_bound.specs.StoredBound.{Keeps};
+ghost use Rattle.strip_film.specs.Path.{IsComplete};
+ghost use Rattle.strip_film.specs.Shown.{path_data};
+ghost use Rattle.strip_world.specs.Opened.{AreLimits};
 
 use crate::least::{film_of, path};
 use std::alloc::Global;
@@ -14,7 +18,7 @@ use std::test::Fail;
 use std::thread::Threads;
 use strip_bound::{BoundTables, StoredBound, static_reach};
 use strip_crew::race;
-use strip_film::Film;
+use strip_film::{Film, Path};
 use strip_kind::Kind;
 use strip_mask::Mask;
 use strip_memo::Memo;
@@ -52,13 +56,30 @@ pub(crate) fn raced<R: Threads + Wait + Sync, G: Gate>(
         Kind::Plain,
         |q, need| static_reach(&film, &tables, Kind::Plain, Mask(q), need),
     );
-    let mut memo = Memo::among(alloc, &kept, workers + 1)?;
     let limits = Limits {
         workers,
         cap,
         entries: 64,
     };
-    let ended = race(rt, alloc, &kept, &mut memo, &start, limits, steal, gate)?;
+    raced_by(rt, alloc, &kept, &start, limits, steal, gate)
+}
+
+/// The end of a race by static bounds that are stored.
+fn raced_by<R: Threads + Wait + Sync, F: Fn(u64, u64) -> u64 + Sync, G: Gate>(
+    rt: &R,
+    alloc: Global,
+    kept: &StoredBound<F>,
+    start: &Path,
+    limits: Limits,
+    steal: bool,
+    gate: &G,
+) -> Result<Ended, Fail>
+    requires keeps { Keeps (F.pre kept.now.f) (F.post kept.now.f) kept.now.kind kept.now.film.now }
+    requires start { IsComplete kept.now.film.now (path_data start.now) }
+    requires limits { AreLimits limits }
+{
+    let mut memo = Memo::among(alloc, kept, limits.workers + 1)?;
+    let ended = race(rt, alloc, kept, &mut memo, start, limits, steal, gate)?;
     Ok(ended)
 }
 
