@@ -3,15 +3,13 @@
 # checked by the second program. For each film, by number, scenes and actors, it prints the status, the
 # lines, and the seconds of solving and of checking; the least of three runs counts. Groups are asked for
 # the first film alone, with at most two million lines: on the others they don't end soon.
-# It works in a temporary folder, and builds the programs where they are missing.
+# It works in a temporary folder, and builds the programs if they aren't fresh.
 set -euo pipefail
 repository=$(cd "$(dirname "$0")/.." && pwd)
 work=$(mktemp -d)
 trap 'rm -rf "$work"' EXIT
-"$repository/bin/stripboard" gen 1 1 1 > "$work/film.csv"
-"$repository/bin/stripcheck" "$work/film.csv" /dev/null > "$work/first" || true
-solver="$repository/crates/stripboard/out/stripboard"
-checker="$repository/crates/stripcheck/out/stripcheck"
+solver=${STRIPBOARD:-$("$repository/bin/run" --path stripboard)}
+checker=${STRIPCHECK:-$("$repository/bin/run" --path stripcheck)}
 
 # Runs a command three times with its output in a file, and prints the seconds of the quickest.
 quickest() {

@@ -2,7 +2,7 @@
 # How long a proof of a million lines takes to be checked, and how much memory: a random film of 24 scenes
 # and 12 actors with casts of a third, solved by pairs and by groups with at most a million lines, and the
 # plan with its lines checked by the second program. The least of three runs counts.
-# It works in a temporary folder, and builds the programs where they are missing.
+# It works in a temporary folder, and builds the programs if they aren't fresh.
 set -euo pipefail
 repository=$(cd "$(dirname "$0")/.." && pwd)
 work=$(mktemp -d)
@@ -24,12 +24,13 @@ awk 'BEGIN {
     }
 }' > "$work/film.csv"
 
-"$repository/bin/stripcheck" "$work/film.csv" /dev/null > "$work/first" || true
+solver=${STRIPBOARD:-$("$repository/bin/run" --path stripboard)}
+checker=${STRIPCHECK:-$("$repository/bin/run" --path stripcheck)}
 for kind in pairs groups; do
-    "$repository/bin/stripboard" solve "$work/film.csv" --bounds "$kind" --nodes 1000000 --proof > "$work/plan.csv" || [ $? -eq 3 ]
+    "$solver" solve "$work/film.csv" --bounds "$kind" --nodes 1000000 --proof > "$work/plan.csv" || [ $? -eq 3 ]
     best=
     for _ in 1 2 3; do
-        /usr/bin/time -f '%e %M' -o "$work/time" "$repository/crates/stripcheck/out/stripcheck" "$work/film.csv" "$work/plan.csv" > "$work/verdict"
+        /usr/bin/time -f '%e %M' -o "$work/time" "$checker" "$work/film.csv" "$work/plan.csv" > "$work/verdict"
         read -r seconds memory < "$work/time"
         if [ -z "$best" ] || awk -v a="$seconds" -v b="$best" 'BEGIN { exit !(a < b) }'; then
             best=$seconds

@@ -7,13 +7,13 @@ set -euo pipefail
 repository=$(cd "$(dirname "$0")/.." && pwd)
 work=$(mktemp -d)
 trap 'rm -rf "$work"' EXIT
-stripboard=$repository/bin/stripboard
+solver=${STRIPBOARD:-$("$repository/bin/run" --path stripboard)}
 
 rustc -O -C target-cpu=x86-64-v3 -o "$work/varied" "$repository/bench/varied.rs"
 films=()
 for scenes in 36 48 64; do
     for actors in 10 16 24 32; do
-        "$stripboard" gen 5 $scenes $actors >"$work/gen-$scenes-$actors.csv"
+        "$solver" gen 5 $scenes $actors >"$work/gen-$scenes-$actors.csv"
         films+=("gen-$scenes-$actors")
     done
 done
@@ -39,7 +39,7 @@ solve() {
     local film=$1 plan=$2
     shift 2
     local begun=$EPOCHREALTIME
-    "$stripboard" solve "$work/$film.csv" "$@" >"$plan" || [ $? -eq 3 ]
+    "$solver" solve "$work/$film.csv" "$@" >"$plan" || [ $? -eq 3 ]
     echo "$begun $EPOCHREALTIME" | awk '{ printf "%.2f", $2 - $1 }'
 }
 

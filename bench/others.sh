@@ -6,7 +6,7 @@
 # optima differ. Who doesn't end within 120 seconds of processor time, or as many as the word says, is ended; what it
 # found till then is printed, and it gets no larger film. Further words name who is to run. It works in a temporary
 # folder, and takes minizinc with Gecode, clingo, cbc, python3 and g++. STRIPBOARD names the built program; without it,
-# it is built where it is missing.
+# it is that of bin/stripboard.
 #
 #     bench/others.sh 120 groups arrivals gecode clasp cbc plain
 set -euo pipefail
@@ -16,10 +16,7 @@ names=("${@:2}")
 [ ${#names[@]} -gt 0 ] || names=(groups arrivals gecode clasp cbc plain)
 work=$(mktemp -d)
 trap 'rm -rf "$work"' EXIT
-solver=${STRIPBOARD:-$repository/crates/stripboard/out/stripboard}
-if [ -z "${STRIPBOARD-}" ]; then
-    "$repository/bin/stripboard" gen 1 1 1 > "$work/film.csv"
-fi
+solver=${STRIPBOARD:-$("$repository/bin/run" --path stripboard)}
 g++ -O2 -std=c++17 "$repository/bench/others/plain.cpp" -o "$work/plain"
 
 # Runs a command by its limit, with what it prints in a file, and leaves its user seconds in another.

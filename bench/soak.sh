@@ -8,10 +8,12 @@ work=$(mktemp -d)
 trap 'rm -rf "$work"' EXIT
 runs=${1:-200}
 workers=${2:-64}
-"$repository/bin/stripboard" gen 11 16 8 > "$work/film.csv"
+solver=${STRIPBOARD:-$("$repository/bin/run" --path stripboard)}
+checker=${STRIPCHECK:-$("$repository/bin/run" --path stripcheck)}
+"$solver" gen 11 16 8 > "$work/film.csv"
 for ((run = 0; run < runs; run++)); do
-    "$repository/bin/stripboard" solve "$work/film.csv" --workers "$workers" --table 64 --proof > "$work/plan.csv"
-    "$repository/bin/stripcheck" "$work/film.csv" "$work/plan.csv" > /dev/null
+    "$solver" solve "$work/film.csv" --workers "$workers" --table 64 --proof > "$work/plan.csv"
+    "$checker" "$work/film.csv" "$work/plan.csv" > /dev/null
     sed -n 's/^cost,//p' "$work/plan.csv" >> "$work/costs"
 done
 sort "$work/costs" | uniq -c | sed 's/^ *//; s/ / runs of cost /'

@@ -2,11 +2,12 @@
 # How fast the program searches: random films of 24 scenes and 12 actors with casts of a third, and one of
 # 16 scenes and 8 actors, each solved by pairs and by groups. It prints the lines that were made, the
 # seconds, the making of room included, and the lines a second; the least of three runs counts.
-# It works in a temporary folder, and builds the program where it is missing.
+# It works in a temporary folder, and builds the program if it isn't fresh.
 set -euo pipefail
 repository=$(cd "$(dirname "$0")/.." && pwd)
 work=$(mktemp -d)
 trap 'rm -rf "$work"' EXIT
+solver=${STRIPBOARD:-$("$repository/bin/run" --path stripboard)}
 
 # A film of so many scenes and actors, by a number.
 film() {
@@ -33,7 +34,7 @@ solve() {
     shift
     for _ in 1 2 3; do
         start=$(date +%s%N)
-        "$repository/bin/stripboard" solve "$work/$name.csv" "$@" > "$work/plan" || [ $? -eq 3 ]
+        "$solver" solve "$work/$name.csv" "$@" > "$work/plan" || [ $? -eq 3 ]
         end=$(date +%s%N)
         seconds=$(awk -v ns=$((end - start)) 'BEGIN { printf "%.3f", ns / 1e9 }')
         if [ -z "$best" ] || awk -v a="$seconds" -v b="$best" 'BEGIN { exit !(a < b) }'; then

@@ -8,7 +8,7 @@ set -euo pipefail
 repository=$(cd "$(dirname "$0")/.." && pwd)
 work=$(mktemp -d)
 trap 'rm -rf "$work"' EXIT
-stripboard=$repository/bin/stripboard
+solver=${STRIPBOARD:-$("$repository/bin/run" --path stripboard)}
 steps=${1:-32}
 nodes=${2:-10000}
 
@@ -16,7 +16,7 @@ rustc -O -C target-cpu=x86-64-v3 -o "$work/varied" "$repository/bench/varied.rs"
 films=()
 for scenes in 36 48 64; do
     for actors in 10 16 24 32; do
-        "$stripboard" gen 5 $scenes $actors > "$work/gen-$scenes-$actors.csv"
+        "$solver" gen 5 $scenes $actors > "$work/gen-$scenes-$actors.csv"
         films+=("gen-$scenes-$actors")
     done
 done
@@ -46,7 +46,7 @@ solve() {
     local film=$1 climb=$2
     shift 2
     local plan=$work/plan begun=$EPOCHREALTIME seconds part
-    "$stripboard" solve "$work/$film.csv" --bounds arrivals "$@" > "$plan" || [ $? -eq 3 ]
+    "$solver" solve "$work/$film.csv" --bounds arrivals "$@" > "$plan" || [ $? -eq 3 ]
     seconds=$(echo "$begun $EPOCHREALTIME" | awk '{ printf "%.2f", $2 - $1 }')
     part=$(awk -v bound="$(row bound "$plan")" -v cost="$(row cost "$plan")" 'BEGIN { printf "%.2f", bound / cost * 100 }')
     echo "$part" >> "$work/parts-$climb"
@@ -66,7 +66,7 @@ done
 echo
 head_row
 for scenes in 24 28 32; do
-    "$stripboard" gen 5 $scenes 12 > "$work/gen-$scenes-12.csv"
+    "$solver" gen 5 $scenes 12 > "$work/gen-$scenes-12.csv"
     solve "gen-$scenes-12" none
     solve "gen-$scenes-12" "$steps" --steps "$steps"
 done

@@ -1,7 +1,7 @@
 #!/usr/bin/env bash
 # What several workers gain: made films solved by 1, 2 and 4 workers, or by as many as the words say. It prints
 # for each the lines that were made, the seconds that passed and the processor seconds of all workers; the
-# quickest of three runs counts. It works in a temporary folder, and builds the program where it is missing.
+# quickest of three runs counts. It works in a temporary folder, and builds the program if it isn't fresh.
 # Words that begin with a dash are options of the solver:
 #
 #     bench/workers.sh 2 4 --steal
@@ -9,6 +9,7 @@ set -euo pipefail
 repository=$(cd "$(dirname "$0")/.." && pwd)
 work=$(mktemp -d)
 trap 'rm -rf "$work"' EXIT
+solver=${STRIPBOARD:-$("$repository/bin/run" --path stripboard)}
 workers=()
 options=()
 for word in "$@"; do
@@ -24,7 +25,7 @@ TIMEFORMAT='%R %U %S'
 solve() {
     local film=$1 bounds=$2 count=$3 best= passed user system
     for _ in 1 2 3; do
-        { time "$repository/bin/stripboard" solve "$work/film.csv" --bounds "$bounds" --workers "$count" "${options[@]}" > "$work/plan"; } 2> "$work/time" || [ $? -eq 3 ]
+        { time "$solver" solve "$work/film.csv" --bounds "$bounds" --workers "$count" "${options[@]}" > "$work/plan"; } 2> "$work/time" || [ $? -eq 3 ]
         read -r passed user system < <(tail -n 1 "$work/time")
         if [ -z "$best" ] || awk -v a="$passed" -v b="${best%% *}" 'BEGIN { exit !(a < b) }'; then
             best="$passed $user $system"
@@ -38,7 +39,7 @@ solve() {
 }
 
 while read -r number scenes actors bounds; do
-    "$repository/bin/stripboard" gen "$number" "$scenes" "$actors" > "$work/film.csv" < /dev/null
+    "$solver" gen "$number" "$scenes" "$actors" > "$work/film.csv" < /dev/null
     for count in "${workers[@]}"; do
         solve "$number $scenes $actors" "$bounds" "$count" < /dev/null
     done
