@@ -1,8 +1,8 @@
 -- What is known of parties while they are asked.
-use Rattle.std.proofs.Common.{◌≡◌, ◌≢◌, ℕ, zero, suc, ◌+◌, ◌-◌, ◌*◌, ◌^◌, ◌<◌, ◌≤◌, ◌⊎◌, max, List, All, length, take, drop, replicate, slice_index, slice_set, inl, inr, refl, sym, ap, ◌∙◌, subst, arith}
+use Rattle.std.proofs.Common.{◌≡◌, ◌≢◌, ℕ, zero, suc, ◌+◌, ◌-◌, ◌^◌, ◌<◌, ◌≤◌, ◌⊎◌, max, List, length, take, replicate, slice_index, slice_set, inl, inr, refl, sym, ap, ◌∙◌, subst, arith}
 use Rattle.std.proofs.Math.Nat.{max-eq_left, max-eq_right, max-le, le-max_left, le-max_right}
 use Rattle.std.proofs.lemmas.Bool.{cases_lt, cases_eq}
-use Rattle.std.proofs.lemmas.List.{get_or-set_other, get_or-set_same, length-drop, length-set, take_all}
+use Rattle.std.proofs.lemmas.List.{get_or-set_other, get_or-set_same, length-set, take_all}
 use Rattle.strip_mask.specs.Set.{members, size}
 use Rattle.strip_mask.specs.Sums.{sum_below}
 use Rattle.strip_mask.proofs.Sizes.{length-members, size-le}
@@ -11,13 +11,12 @@ use Rattle.strip_kind.specs.declared.kind.Kind.TheVariants.{Arrivals}
 use Rattle.strip_pay.specs.Film.{FilmData}
 use Rattle.strip_film.specs.Film.{IsFilm, LiesIn}
 use Rattle.strip_film.specs.Shoot.{on_location}
-use Rattle.strip_bound.specs.declared.parties.Actors.{Actors}
 use Rattle.strip_bound.specs.declared.parties.Parties.{Parties}
 use Rattle.strip_arrivals.specs.Arrivals.{arrivals_value}
-use Rattle.strip_bound.specs.Bounds.{bound, greatest_below, group_at, group_data, located_by_hold, newcomers_at, newcomers_by_hold, number_of_parties, parties_extra, party_value, set_of}
-use Rattle.strip_bound.specs.Parties.{AreActors, AreAsked, AreParties}
+use Rattle.strip_bound.specs.Bounds.{bound, chosen, greatest_below, group_at, group_data, located_by_hold, newcomers_at, newcomers_of, number_of_parties, parties_extra, party_value, set_of}
+use Rattle.strip_bound.specs.declared.newcomers.Choices.{Choices}
+use Rattle.strip_bound.specs.Parties.{AreAsked, AreChoices, AreParties}
 use Rattle.strip_bound.proofs.Fall.{same_length}
-use Rattle.strip_bound.proofs.Party.{newcomers_small}
 use Rattle.strip_bound.proofs.Small.{bound_small}
 use Rattle.strip_mask.proofs.Lists.{zeros}
 
@@ -35,33 +34,17 @@ module _ (film : FilmData) (set : ℕ) where
         | inr other ↦ omega (arith, value_le_greatest many n count place (omega (arith, less, other)), le-max_left known last)
       ]
 
-  -- a party that has no more newcomers has no other value
-  pub no_more : (many count place : ℕ) → length (newcomers_by_hold film set) < place * 2 + count → 0 < count
-      → greatest_below film set many (suc count) place ≡ greatest_below film set many count place
-  no_more many zero place short some = absurd (omega (arith, some))
-  no_more many (suc n) place short some =
-      let rest : List ℕ = drop (place * 2) (newcomers_by_hold film set) in
-      let few : length rest ≤ n = omega (arith, short, length-drop (place * 2) (newcomers_by_hold film set)) in
-      let same : take (suc n) rest ≡ take n rest = take_all (suc n) rest (omega (arith, few)) ∙ sym (take_all n rest few) in
-      let value : party_value film set many (suc n) place ≡ party_value film set many n place
-      = ap (λ (actors : List ℕ). arrivals_value (group_data film) set (group_at film set many place) (set_of actors)) same in
-      max-eq_left (omega (arith, value, le-max_right (greatest_below film set many n place) (party_value film set many n place)))
-
-  -- nor has it with still more
-  pub no_more_from : (many before count place : ℕ) → length (newcomers_by_hold film set) < place * 2 + before → 0 < before → before ≤ suc count
-      → greatest_below film set many (suc count) place ≡ greatest_below film set many before place
-  no_more_from many before zero place short some fewer = (let same : 1 ≡ before = omega (arith, some, fewer) in ap (λ (n : ℕ). greatest_below film set many n place) same)
-  no_more_from many before (suc n) place short some fewer = elim (cases_eq before (suc (suc n))) [
-    | inl same ↦ ap (λ (k : ℕ). greatest_below film set many k place) (sym same)
-    | inr other ↦ (let less : before ≤ suc n = omega (arith, fewer, other) in
-        no_more many (suc n) place (omega (arith, short, less)) (omega arith) ∙ no_more_from many before n place short some less)
-  ]
-
   -- where a value is no lower with more newcomers, that with the most of them is the greatest
   module _ (many place : ℕ) (rises : (n : ℕ) → party_value film set many n place ≤ party_value film set many (suc n) place) where
     pub greatest_last : (count : ℕ) → greatest_below film set many (suc count) place ≡ party_value film set many count place
     greatest_last zero = max-eq_right (omega arith)
     greatest_last (suc n) = max-eq_right (omega (arith, greatest_last n, rises n))
+
+    -- a party that has no more newcomers has no other value
+    pub no_more : (before count : ℕ) → newcomers_at film set many count place ≡ newcomers_at film set many before place
+        → greatest_below film set many (suc count) place ≡ greatest_below film set many (suc before) place
+    no_more before count same = greatest_last count
+        ∙ ap (arrivals_value (group_data film) set (group_at film set many place)) same ∙ sym (greatest_last before)
 
     pub greatest_rises : (before count : ℕ) → before ≤ suc count → greatest_below film set many before place ≤ greatest_below film set many (suc count) place
     greatest_rises before zero fewer = elim (cases_eq before 1) [
@@ -193,13 +176,19 @@ module _ (film : FilmData) (set : ℕ) where
 
   -- ---- the newcomers of a party
 
-  pub coming_is : (count place : ℕ) (actors : Actors) → AreActors film set count actors
-      → set_of (take count (drop (place * 2) actors.newcomers.items)) ≡ newcomers_at film set count place
-  coming_is count place actors are = elim are.newcomers [
-    | inl none ↦ ap (λ (n : ℕ). set_of (take n (drop (place * 2) actors.newcomers.items))) none
-        ∙ sym (ap (λ (n : ℕ). newcomers_at film set n place) none)
-    | inr same ↦ ap (λ (xs : List ℕ). set_of (take count (drop (place * 2) xs))) same
+  pub coming_is : (many count place found : ℕ) (choices : Choices) → (count ≡ 0) ⊎ AreChoices film set many choices → place < number_of_parties film set many
+      → (count ≡ 0 → found ≡ 0) → (count ≡ 1 → found ≡ slice_index choices.first place) → (2 ≤ count → found ≡ slice_index choices.both place) → count ≤ 2
+      → found ≡ newcomers_at film set many count place
+  coming_is many zero place found choices are there none first both few = none refl
+  coming_is many (suc zero) place found choices are there none first both few = elim are [
+    | inl none_asked ↦ absurd (omega (arith, none_asked))
+    | inr each ↦ first refl ∙ each.first place there
   ]
+  coming_is many (suc (suc zero)) place found choices are there none first both few = elim are [
+    | inl none_asked ↦ absurd (omega (arith, none_asked))
+    | inr each ↦ both (omega arith) ∙ each.both place there
+  ]
+  coming_is many (suc (suc (suc n))) place found choices are there none first both few = absurd (omega (arith, few))
 
   -- ---- at first
 
@@ -212,14 +201,6 @@ module _ (film : FilmData) (set : ℕ) where
     long = refl;
     most = λ place. omega (arith, zeros 10 place);
     extra = sym (sum_below-none number (slice_index (replicate 10 0)) (λ place _. zeros 10 place));
-  }
-
-  pub actors_known : (count : ℕ) (actors : Actors) → IsFilm film → LiesIn film set → actors.located.items ≡ located_by_hold film set
-      → actors.newcomers.items ≡ newcomers_by_hold film set → AreActors film set count actors
-  actors_known count actors is lies located newcomers = record {
-    located = located;
-    known = subst (All (λ actor. actor < 64)) (sym newcomers) (newcomers_small film set is lies);
-    newcomers = inr newcomers;
   }
 
   -- ---- at the end
@@ -259,9 +240,12 @@ module _ (film : FilmData) (set : ℕ) where
       same_group = ap set_of (take_all 10 (located_by_hold film set) (omega (arith, located_count, few))
           ∙ sym (take_all 7 (located_by_hold film set) (omega (arith, located_count, few))))
 
+      same_newcomers : (n : ℕ) → newcomers_at film set 10 n 0 ≡ newcomers_at film set 7 n 0
+      same_newcomers n = ap (λ (group : ℕ). set_of (take n (chosen film set group (newcomers_of film set)))) same_group
+
       same_greatest : (n : ℕ) → greatest_below film set 10 n 0 ≡ greatest_below film set 7 n 0
       same_greatest zero = refl
-      same_greatest (suc n) = λ i. max (same_greatest n i) (arrivals_value (group_data film) set (same_group i) (newcomers_at film set n 0))
+      same_greatest (suc n) = λ i. max (same_greatest n i) (arrivals_value (group_data film) set (same_group i) (same_newcomers n i))
 
   pub all_of_few : (extra : ℕ) → size (on_location film set) ≤ 7 → extra ≡ parties_extra film set 7
       → extra ≡ max (parties_extra film set 7) (parties_extra film set 10)

@@ -4,7 +4,7 @@ use Rattle.strip_mask.specs.Set.{has, union, meet, minus, with, without, members
 use Rattle.strip_mask.specs.Sums.{sum_below}
 use Rattle.strip_pay.specs.Film.{FilmData}
 use Rattle.strip_kind.specs.declared.kind.Kind.TheVariants.{Plain, Pairs, Groups, Arrivals}
-use Rattle.strip_bound.specs.Bounds.{bound, newcomers_by_hold}
+use Rattle.strip_bound.specs.Bounds.{bound, newcomers_of}
 use Rattle.strip_bound.specs.Falling.{by_falling}
 
 -- both actors work in scene 0, and each in one of the scenes 1 and 2 alone
@@ -99,7 +99,7 @@ arrivals_of_coming = refl
 abbrev later : FilmData
 later = record { casts = 1 ∷ 3 ∷ 2 ∷ 4 ∷ []; days = 1 ∷ 1 ∷ 1 ∷ 1 ∷ []; rates = 1 ∷ 1 ∷ 1 ∷ []; holds = 1 ∷ 1 ∷ 1 ∷ []; pairs = [] }
 
-newcomers_of_later : newcomers_by_hold later 14 ≡ 1 ∷ []
+newcomers_of_later : newcomers_of later 14 ≡ 2
 unfolding has union meet minus with full members numbers_below
 newcomers_of_later = refl
 

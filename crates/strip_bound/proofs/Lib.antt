@@ -10,6 +10,7 @@ pub mod Fall
 pub mod Places
 pub mod Arriving
 pub mod Steps
+pub mod Coming
 pub mod Party
 pub mod Finish
 pub mod Small

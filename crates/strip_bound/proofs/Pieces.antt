@@ -130,6 +130,9 @@ from_set_of xs i there = elim (from_fold 0 xs i there) [
   | inr found ↦ found
 ]
 
+pub in_set_of : (xs : List ℕ) (i : ℕ) → Contains xs i → has (set_of xs) i ≡ true
+in_set_of xs i there = added_by_fold 0 xs i there
+
 IsSet-fold : (set low : ℕ) (xs : List ℕ) → IsSet set → Rising low xs → IsSet (fold with set xs)
 IsSet-fold set low [] is rising = is
 IsSet-fold set low (x ∷ xs) is rising = IsSet-fold (with set x) (suc x) xs (IsSet-with set x is rising.1) rising.2

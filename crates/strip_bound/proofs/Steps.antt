@@ -1,15 +1,13 @@
 -- What the turns of the loops over actors keep.
-use Rattle.std.proofs.Common.{◌≡◌, ℕ, zero, suc, ◌+◌, ◌-◌, ◌<◌, ◌≤◌, ◌⊎◌, Bool, true, false, cond, not, ◌&&◌, nat_lt, leb, List, [], ◌∷◌, ◌++◌, filter, fold, length, take, drop, insert, sum_by, slice_index, inl, inr, refl, sym, ap, ◌∙◌, arith}
+use Rattle.std.proofs.Common.{◌≡◌, ℕ, zero, suc, ◌+◌, ◌-◌, ◌<◌, ◌≤◌, ◌⊎◌, Bool, true, false, cond, ◌&&◌, nat_lt, leb, List, [], ◌∷◌, ◌++◌, filter, fold, length, take, drop, insert, slice_index, inl, inr, refl, sym, ap, ◌∙◌, arith}
 use Rattle.std.proofs.Math.Seq.{take-suc, take-nil}
 use Rattle.std.proofs.lemmas.Bool.{cases_lt, lt-ltb, le-ltb, le-leb, lt-leb, false_from_ne_true}
 use Rattle.std.proofs.lemmas.List.Elements.{filter-append, Contains-get_or}
 use Rattle.std.proofs.lemmas.List.Sums.{fold-append}
-use Rattle.strip_mask.specs.Set.{LiesBelow, has, meet, minus, with, members, numbers_below, size, sum_over}
-use Rattle.strip_mask.proofs.ByMembers.{has-meet, has-minus}
+use Rattle.strip_mask.specs.Set.{LiesBelow, has, meet, with, members, numbers_below, size}
+use Rattle.strip_mask.proofs.ByMembers.{has-meet}
 use Rattle.strip_mask.proofs.Members.{kept-more, length-numbers_below, members_is, numbers_rise}
 use Rattle.strip_mask.proofs.Sizes.{length-members}
-use Rattle.strip_mask.proofs.Sums.{sum_below-ext}
-use Rattle.strip_mask.proofs.Totals.{sum_over_is, sum_kept, sum_filter}
 use Rattle.strip_pay.specs.Film.{FilmData}
 use Rattle.strip_pay.specs.Pay.{works}
 use Rattle.strip_bound.specs.Falling.{by_falling, placed}
@@ -119,23 +117,6 @@ scenes_counted film plays set actor are =
     sym (length-members (meet (slice_index plays actor) set))
     ∙ ap length (members_is (meet (slice_index plays actor) set) ∙ (λ i. filter (λ s. both s i) (numbers_below 64))
     ∙ sym (ap (filter (works film actor)) (members_is set) ∙ filter_twice (works film actor) (has set) (numbers_below 64)))
-
-pub days_apart_from : (film : FilmData) (plays : List ℕ) (set actor : ℕ) → ArePlays film plays
-    → sum_over film.days (minus set (slice_index plays actor)) ≡ sum_by (slice_index film.days) (filter (λ scene. not (works film actor scene)) (members set))
-days_apart_from film plays set actor are =
-    let days : ℕ → ℕ = slice_index film.days in
-    let idle : ℕ → Bool = λ scene. not (works film actor scene) in
-    sum_over_is film.days (minus set (slice_index plays actor))
-    ∙ sum_below-ext 64 (λ s. cond (has (minus set (slice_index plays actor)) s) (days s) 0) (λ s. cond (has set s) (cond (idle s) (days s) 0) 0) (λ s _.
-    ap (λ t. cond t (days s) 0) (has-minus set (slice_index plays actor) s ∙ ap (λ b. has set s && not b) (are.each actor s))
-    ∙ cases (has set s) (idle s) (days s))
-    ∙ sym (sum_filter days idle (members set)
-    ∙ ap (sum_by (λ s. cond (idle s) (days s) 0)) (members_is set)
-    ∙ sum_kept (λ s. cond (idle s) (days s) 0) (has set) 64)
-  where
-    cases : (x y : Bool) (n : ℕ) → cond (x && y) n 0 ≡ cond x (cond y n 0) 0
-    cases true y n = refl
-    cases false y n = refl
 
 -- ---- a piece of a list as a set
 

@@ -1,13 +1,13 @@
 -- The static bounds of a set: what shooting it costs at least.
 use Rattle.std.specs.Prelude.{ℕ, zero, suc, ◌+◌, ◌-◌, ◌*◌, ◌/◌, min, max, Bool, not, ◌&&◌, nat_lt, List, [], ◌∷◌, length, map, take, drop, filter, fold, sum_by, slice_index}
-use Rattle.strip_mask.specs.Set.{has, with, members, numbers_below, size}
+use Rattle.strip_mask.specs.Set.{has, meet, minus, with, members, numbers_below, size}
 use Rattle.strip_mask.specs.Sums.{sum_below}
 use Rattle.strip_kind.specs.declared.kind.Kind.{Kind}
 use Rattle.strip_kind.specs.declared.kind.Kind.TheVariants.{Plain, Pairs, Groups, Arrivals}
 use Rattle.strip_pay.specs.Film.{FilmData}
 use Rattle.strip_pay.specs.Pay.{works}
 use Rattle.strip_film.specs.Bounds.{plain_bound}
-use Rattle.strip_film.specs.Shoot.{on_location}
+use Rattle.strip_film.specs.Shoot.{cast_of, on_location}
 use Rattle.strip_group.specs.Group.{GroupData, group_extra}
 use Rattle.strip_arrivals.specs.Arrivals.{arrivals_value}
 use Rattle.strip_bound.specs.Falling.{by_falling}
@@ -66,29 +66,57 @@ abbrev pub is_newcomer : FilmData → ℕ → ℕ → Bool
 is_newcomer film set actor = not (has (on_location film set) actor)
     && nat_lt 1 (length (filter (works film actor) (members set)))
 
--- what an actor would be paid for waiting on all days of the set's scenes without him
-abbrev pub hold_without : FilmData → ℕ → ℕ → ℕ
-hold_without film set actor =
-    slice_index film.holds actor * sum_by (slice_index film.days) (filter
-    (λ scene. not (works film actor scene)) (members set))
-
--- the newcomers, by how much that is, equals by number
-abbrev pub newcomers_by_hold : FilmData → ℕ → List ℕ
-newcomers_by_hold film set = by_falling (hold_without film set)
-    (filter (is_newcomer film set) (numbers_below (length film.rates)))
+-- the newcomers, as a set
+abbrev pub newcomers_of : FilmData → ℕ → ℕ
+newcomers_of film set = set_of (filter (is_newcomer film set) (numbers_below (length film.rates)))
 
 -- the group of the party at a place, where each has so many
 abbrev pub group_at : FilmData → ℕ → ℕ → ℕ → ℕ
 group_at film set many place = set_of (take many (drop (place * many) (located_by_hold film set)))
 
--- its newcomers, of whom each party has two: all, or the first alone, or none; past the last there are none
-abbrev pub newcomers_at : FilmData → ℕ → ℕ → ℕ → ℕ
-newcomers_at film set count place = set_of (take count (drop (place * 2) (newcomers_by_hold film set)))
+-- those of a group who work in a scene of the set with the newcomer
+abbrev pub company : FilmData → ℕ → ℕ → ℕ → ℕ
+company film set group newcomer = meet group (cast_of film (set_of (filter (works film newcomer) (members set))))
+
+-- whether one of the actors works in the scene
+abbrev pub works_any : FilmData → ℕ → ℕ → Bool
+works_any film actors scene = nat_lt 0 (length (filter (λ actor. works film actor scene) (members actors)))
+
+-- what the actors would be paid for waiting on all of the newcomer's days without them
+abbrev pub pay_of_company : FilmData → ℕ → ℕ → ℕ → ℕ
+pay_of_company film set actors newcomer =
+    sum_by (λ actor. slice_index film.holds actor * days_with_without film set newcomer actor) (members actors)
+
+-- what the newcomer would be paid for waiting on all days of the actors without him
+abbrev pub pay_of_newcomer : FilmData → ℕ → ℕ → ℕ → ℕ
+pay_of_newcomer film set actors newcomer =
+    slice_index film.holds newcomer * sum_by (slice_index film.days)
+    (filter (λ scene. works_any film actors scene && not (works film newcomer scene)) (members set))
+
+-- what a newcomer and his company in a group may cost while one waits for the other
+abbrev pub score : FilmData → ℕ → ℕ → ℕ → ℕ
+score film set group newcomer = min (pay_of_company film set (company film set group newcomer) newcomer)
+    (pay_of_newcomer film set (company film set group newcomer) newcomer)
+
+-- the two of some newcomers who have the greatest scores for a group, equals by number; of fewer all
+abbrev pub chosen : FilmData → ℕ → ℕ → ℕ → List ℕ
+chosen film set group newcomers = take 2 (by_falling (score film set group) (members newcomers))
+
+-- the newcomers whom no party before this place has
+abbrev pub left_at : FilmData → ℕ → ℕ → ℕ → ℕ
+left_at film set many zero = newcomers_of film set
+left_at film set many (suc place) = minus (left_at film set many place)
+    (set_of (chosen film set (group_at film set many place) (left_at film set many place)))
+
+-- the newcomers of the party at a place, of whom it has two at most: all, or the first alone, or none
+abbrev pub newcomers_at : FilmData → ℕ → ℕ → ℕ → ℕ → ℕ
+newcomers_at film set many count place =
+    set_of (take count (chosen film set (group_at film set many place) (left_at film set many place)))
 
 -- what the party is paid for waiting at least, with so many of its newcomers
 abbrev pub party_value : FilmData → ℕ → ℕ → ℕ → ℕ → ℕ
 party_value film set many count place = arrivals_value (group_data film) set (group_at film set many place)
-    (newcomers_at film set count place)
+    (newcomers_at film set many count place)
 
 -- the greatest of its values with fewer newcomers than that; 0 where there is none
 abbrev pub greatest_below : FilmData → ℕ → ℕ → ℕ → ℕ → ℕ

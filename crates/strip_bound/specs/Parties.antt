@@ -1,16 +1,17 @@
 -- What is known of the parties of a set.
-use Rattle.std.specs.Prelude.{◌≡◌, ℕ, ◌<◌, ◌≤◌, ◌⊎◌, All, length, slice_index}
+use Rattle.std.specs.Prelude.{◌≡◌, ℕ, ◌<◌, ◌≤◌, ◌⊎◌, length, slice_index}
 use Rattle.strip_mask.specs.Sums.{sum_below}
 use Rattle.strip_pay.specs.Film.{FilmData}
-use Rattle.strip_bound.specs.declared.parties.Actors.{Actors}
+use Rattle.strip_bound.specs.declared.newcomers.Choices.{Choices}
 use Rattle.strip_bound.specs.declared.parties.Parties.{Parties}
-use Rattle.strip_bound.specs.Bounds.{greatest_below, located_by_hold, newcomers_by_hold, number_of_parties}
+use Rattle.strip_bound.specs.Bounds.{greatest_below, newcomers_at, number_of_parties}
 
--- who is on location and, where parties are asked with newcomers, who is still to come
-pub record AreActors (film : FilmData) (set count : ℕ) (actors : Actors) : Type 0 where
-  pub located : actors.located.items ≡ located_by_hold film set
-  pub known : All (λ actor. actor < 64) actors.newcomers.items
-  pub newcomers : (count ≡ 0) ⊎ (actors.newcomers.items ≡ newcomers_by_hold film set)
+-- which newcomers each party was given: the first of them, and all, up to two
+pub record AreChoices (film : FilmData) (set many : ℕ) (choices : Choices) : Type 0 where
+  pub first : (place : ℕ) → place < number_of_parties film set many
+      → slice_index choices.first place ≡ newcomers_at film set many 1 place
+  pub both : (place : ℕ) → place < number_of_parties film set many
+      → slice_index choices.both place ≡ newcomers_at film set many 2 place
 
 -- the parties of so many actors each: no value is above the greatest of its party, and the extra is their sum
 pub record AreParties (film : FilmData) (set count : ℕ) (parties : Parties) : Type 0 where

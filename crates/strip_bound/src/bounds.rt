@@ -128,7 +128,7 @@ fn pair_extra(film: &Film, tables: &BoundTables, q: Mask, a: u32, b: u32) -> u64
 }
 
 /// The days of the set's scenes in which the first actor works and the second doesn't.
-fn days_apart(film: &Film, tables: &BoundTables, q: Mask, a: u32, b: u32) -> u64
+pub(crate) fn days_apart(film: &Film, tables: &BoundTables, q: Mask, a: u32, b: u32) -> u64
     requires tables { AreTables film.now tables.now }
     requires lies { LiesIn film.now q.0 }
     requires first { a < length film.now.rates }

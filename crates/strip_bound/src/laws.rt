@@ -1,5 +1,5 @@
 //! Laws of the definitions. Each function does nothing: its contract is the law.
-ghost use Rattle.std.specs.Prelude.{◌≡◌, ℕ, ◌↔◌, ◌⊎◌, ◌+◌, ◌<◌, ◌≤◌, true, Contains, List};
+ghost use Rattle.std.specs.Prelude.{◌≡◌, ℕ, ◌↔◌, ◌⊎◌, ◌+◌, ◌<◌, ◌≤◌, true, false, Contains, List};
 ghost use Rattle.std.specs.List.{AllPairs};
 ghost use Rattle.std.specs.List.Sorted.{IsStrictlyIncreasing};
 ghost use Rattle.strip_mask.specs.Set.{IsSet, has};
@@ -11,7 +11,7 @@ ghost use Rattle.strip_film.specs.Film.{IsFilm, LiesIn};
 ghost use Rattle.strip_film.specs.Finish.{IsAtMostFinish, steps_cost};
 ghost use Rattle.strip_film.specs.Shoot.{cast_of, on_location};
 ghost use Rattle.strip_group.specs.Group.{group_extra};
-ghost use Rattle.strip_bound.specs.Bounds.{bound, group_data, groups_extra};
+ghost use Rattle.strip_bound.specs.Bounds.{bound, group_data, groups_extra, newcomers_at};
 ghost use Rattle.strip_bound.specs.Falling.{by_falling};
 ghost use Rattle.strip_bound.specs.Waiting.{AreGroups, HasEach, wait_pay};
 
@@ -49,6 +49,15 @@ pub fn lists_fall_by_value()
 pub fn parties_bound_every_tail()
     ensures { (film : FilmData) (set : ℕ) (scenes : List ℕ) → IsFilm film → LiesIn film set → HasEach set scenes
         → bound Arrivals film set ≤ steps_cost film set scenes }
+{}
+
+/// Parties of one size share no newcomer, and none of their newcomers is on location.
+pub fn parties_share_no_newcomer()
+    ensures apart { (film : FilmData) (set many first later place other actor : ℕ) → place < other
+        → has (newcomers_at film set many first place) actor ≡ true
+        → ¬ (has (newcomers_at film set many later other) actor ≡ true) }
+    ensures away { (film : FilmData) (set many count place actor : ℕ)
+        → has (newcomers_at film set many count place) actor ≡ true → has (on_location film set) actor ≡ false }
 {}
 
 /// A wider bound is no lower, and each is at most the cost of finishing.

@@ -4,6 +4,7 @@
 mod bounds;
 mod falling;
 pub mod laws;
+mod newcomers;
 mod parties;
 mod stored_bound;
 mod tables;

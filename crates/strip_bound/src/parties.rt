@@ -3,14 +3,13 @@ ghost use Rattle.std.specs.Prelude.{◌≡◌, ℕ, ◌+◌, ◌-◌, ◌*◌, �
 ghost use Rattle.strip_mask.specs.Set.{LiesBelow, members};
 ghost use Rattle.strip_film.specs.Film.{LiesIn};
 ghost use Rattle.strip_film.specs.Shoot.{on_location};
-ghost use Rattle.strip_pay.specs.Pay.{works};
-ghost use Rattle.strip_bound.specs.Bounds.{hold_without, is_newcomer, newcomers_by_hold, parties_extra, set_of};
+ghost use Rattle.strip_bound.specs.Bounds.{located_by_hold, newcomers_at, number_of_parties, parties_extra, set_of};
 ghost use Rattle.strip_bound.specs.Falling.{by_falling};
-ghost use Rattle.strip_bound.specs.Parties.{AreActors, AreAsked, AreParties};
+ghost use Rattle.strip_bound.specs.Parties.{AreAsked, AreChoices, AreParties};
 ghost use Rattle.strip_bound.specs.Tables.{AreTables};
-ghost use Rattle.arrayvec.specs.ArrayVec.{array_vec_len};
 
-use crate::falling::{Falling, place};
+use crate::falling::Falling;
+use crate::newcomers::{Choices, newcomers};
 use crate::tables::BoundTables;
 use arrayvec::ArrayVec;
 use strip_arrivals::laws::fewer_newcomers_wait_no_more;
@@ -24,18 +23,7 @@ const FEW: usize = 7;
 const MANY: usize = 10;
 
 /// How many parties there are at most.
-const PARTIES: usize = 10;
-
-/// How many newcomers a party has at most.
-const NEWCOMERS: usize = 2;
-
-/// Who is on location, by falling hold rate, and the newcomers, by what they would be paid for waiting
-/// on all days without them.
-#[derive(Drop)]
-pub(crate) struct Actors {
-    pub(crate) located: Falling,
-    pub(crate) newcomers: Falling,
-}
+pub(crate) const PARTIES: usize = 10;
 
 /// The parties of a set: how many actors each of their groups has, but for the last one, how many
 /// parties there are, with fewer than how many newcomers each was asked for its value, the greatest value
@@ -62,29 +50,28 @@ pub(crate) fn extra_of_parties(film: &Film, tables: &BoundTables, q: Mask, need:
 {
     film.keeps_limits();
     let on = on(film, q);
-    let mut actors = Actors {
-        located: located(film, tables, on),
-        newcomers: ArrayVec::new(),
-    };
-    let mut few = Parties::new(film, q, &actors, FEW, need);
-    few.ask(film, tables, q, &actors, 0);
+    let located = located(film, tables, on);
+    let mut few = Parties::new(film, q, &located, FEW, need);
+    few.ask(film, tables, q, &located, &Choices::none(), 0);
     if few.extra >= need {
         return few.extra;
     }
-    actors.newcomers = newcomers(film, tables, q, on);
-    few.ask_all(film, tables, q, &actors);
-    if few.extra >= need || actors.located.len() <= FEW {
+    let newcomers = newcomers(film, tables, q, on);
+    let choices = Choices::of(film, tables, q, &located, newcomers, &few);
+    few.ask_all(film, tables, q, &located, &choices);
+    if few.extra >= need || located.len() <= FEW {
         return few.extra;
     }
-    let mut many = Parties::new(film, q, &actors, MANY, need);
-    many.ask(film, tables, q, &actors, 2);
+    let mut many = Parties::new(film, q, &located, MANY, need);
+    let choices = Choices::of(film, tables, q, &located, newcomers, &many);
+    many.ask(film, tables, q, &located, &choices, 2);
     few.extra.max(many.extra)
 }
 
 impl Parties {
     /// The parties, of none of which anything is known.
-    fn new(film: &Film, q: Mask, actors: &Actors, many: usize, need: u64) -> Parties
-        requires actors { AreActors film.now q.0 0 actors.now }
+    fn new(film: &Film, q: Mask, located: &[u32], many: usize, need: u64) -> Parties
+        requires located { located.now ≡ located_by_hold film.now q.0 }
         requires many { (many ≡ 7) ⊎ (many ≡ 10) }
         ensures parties { AreParties film.now q.0 many result }
         ensures asked { AreAsked film.now q.0 many result }
@@ -93,7 +80,7 @@ impl Parties {
     {
         Parties {
             many,
-            number: (actors.located.len() + (many - 1)) / many,
+            number: (located.len() + (many - 1)) / many,
             asked: 0,
             values: [0; PARTIES],
             extra: 0,
@@ -103,10 +90,18 @@ impl Parties {
 
     /// Asks each party for its value with all of its newcomers; with the first of them alone before, where
     /// the groups come near to what is needed.
-    fn ask_all(&mut self, film: &Film, tables: &BoundTables, q: Mask, actors: &Actors)
+    fn ask_all(
+        &mut self,
+        film: &Film,
+        tables: &BoundTables,
+        q: Mask,
+        located: &[u32],
+        choices: &Choices,
+    )
         requires tables { AreTables film.now tables.now }
         requires lies { LiesIn film.now q.0 }
-        requires actors { AreActors film.now q.0 2 actors.now }
+        requires located { located.now ≡ located_by_hold film.now q.0 }
+        requires choices { AreChoices film.now q.0 self.old.many choices.now }
         requires many { (self.old.many ≡ 7) ⊎ (self.old.many ≡ 10) }
         requires parties { AreParties film.now q.0 self.old.many self.old }
         requires asked { AreAsked film.now q.0 self.old.many self.old }
@@ -118,11 +113,11 @@ impl Parties {
         ensures all { self.new.asked ≡ 3 }
     {
         if !self.is_near() {
-            self.ask(film, tables, q, actors, 2);
+            self.ask(film, tables, q, located, choices, 2);
             return;
         }
-        self.ask(film, tables, q, actors, 1);
-        self.ask(film, tables, q, actors, 2);
+        self.ask(film, tables, q, located, choices, 1);
+        self.ask(film, tables, q, located, choices, 2);
     }
 
     /// Whether no more than a sixth of what is needed is lacking. The time alone depends on it.
@@ -132,10 +127,19 @@ impl Parties {
 
     /// Asks each party for its value with so many of its newcomers at most, until as much as is needed is
     /// known. One value for each party that has more of them than it was asked with.
-    fn ask(&mut self, film: &Film, tables: &BoundTables, q: Mask, actors: &Actors, count: usize)
+    fn ask(
+        &mut self,
+        film: &Film,
+        tables: &BoundTables,
+        q: Mask,
+        located: &[u32],
+        choices: &Choices,
+        count: usize,
+    )
         requires tables { AreTables film.now tables.now }
         requires lies { LiesIn film.now q.0 }
-        requires actors { AreActors film.now q.0 count actors.now }
+        requires located { located.now ≡ located_by_hold film.now q.0 }
+        requires choices { (count ≡ 0) ⊎ AreChoices film.now q.0 self.old.many choices.now }
         requires count { count ≤ 2 }
         requires many { (self.old.many ≡ 7) ⊎ (self.old.many ≡ 10) }
         requires parties { AreParties film.now q.0 self.old.many self.old }
@@ -149,31 +153,20 @@ impl Parties {
     {
         film.keeps_limits();
         fewer_newcomers_wait_no_more();
-        let with_more = self.with_more(actors);
+        let asked = self.asked;
         self.asked = count + 1;
-        for place in 0..with_more {
+        for place in 0..self.number {
             if self.extra >= self.need {
                 return;
             }
-            let group = set_from(&actors.located, place * self.many, self.many);
-            let newcomers = set_from(&actors.newcomers, place * NEWCOMERS, count);
+            let newcomers = choices.at(place, count);
+            if asked > 0 && choices.at(place, asked - 1).0 == newcomers.0 {
+                continue;
+            }
+            let group = set_from(located, place * self.many, self.many);
             let value = tables.arrivals.value(q, group, newcomers);
             self.raise(place, value);
         }
-    }
-
-    /// How many of the parties have more newcomers than they were asked with, all where none was asked:
-    /// they are the first ones.
-    fn with_more(&self, actors: &Actors) -> usize
-        requires { self.now.asked ≤ 2 }
-        ensures few { result ≤ self.now.number }
-        ensures rest { (place : ℕ) → result ≤ place → place < self.now.number
-            → (0 < self.now.asked) × (array_vec_len actors.now.newcomers < place * 2 + self.now.asked) }
-    {
-        if self.asked == 0 {
-            return self.number;
-        }
-        self.number.min((actors.newcomers.len() + (NEWCOMERS - self.asked)) / NEWCOMERS)
     }
 
     /// Keeps the value of the party at this place, where it is above what was known of it.
@@ -207,71 +200,9 @@ fn located(film: &Film, tables: &BoundTables, on: Mask) -> Falling
     located
 }
 
-/// The newcomers, by what they would be paid for waiting on all days without them. One turn for each
-/// actor of the film, and for each newcomer at most one for each of the others.
-fn newcomers(film: &Film, tables: &BoundTables, q: Mask, on: Mask) -> Falling
-    requires tables { AreTables film.now tables.now }
-    requires lies { LiesIn film.now q.0 }
-    requires on { on.0 ≡ on_location film.now q.0 }
-    ensures { result.items ≡ newcomers_by_hold film.now q.0 }
-{
-    film.keeps_limits();
-    let pay = pay_without(film, tables, q);
-    let mut newcomers = ArrayVec::new();
-    for actor in 0..film.rates().len() as u32 {
-        if is_newcomer(film, tables, q, on, actor) {
-            place(&mut newcomers, &pay, actor);
-        }
-    }
-    newcomers
-}
-
-/// Whether the actor isn't on location and has two or more scenes in the set.
-fn is_newcomer(film: &Film, tables: &BoundTables, q: Mask, on: Mask, actor: u32) -> bool
-    requires tables { AreTables film.now tables.now }
-    requires lies { LiesIn film.now q.0 }
-    requires on { on.0 ≡ on_location film.now q.0 }
-    requires known { actor < length film.now.rates }
-    ensures { result ≡ is_newcomer film.now q.0 actor }
-{
-    film.keeps_limits();
-    let scenes = Mask(tables.plays[actor as usize]).meet(q);
-    !on.has(actor) && scenes.size() >= 2
-}
-
-/// For each actor what he would be paid for waiting on all days of the set's scenes without him.
-fn pay_without(film: &Film, tables: &BoundTables, q: Mask) -> [u64; 64]
-    requires tables { AreTables film.now tables.now }
-    requires lies { LiesIn film.now q.0 }
-    ensures long { length result ≡ 64 }
-    ensures pay { (actor : ℕ) → slice_index result actor ≡ hold_without film.now q.0 actor }
-{
-    film.keeps_limits();
-    let holds = film.holds();
-    let mut pay = [0; 64];
-    for actor in 0..holds.len() {
-        pay[actor] = holds[actor] * days_without(film, tables, q, actor);
-    }
-    pay
-}
-
-/// The days of the set's scenes in which the actor doesn't work.
-fn days_without(film: &Film, tables: &BoundTables, q: Mask, actor: usize) -> u64
-    requires tables { AreTables film.now tables.now }
-    requires lies { LiesIn film.now q.0 }
-    requires known { actor < length film.now.rates }
-    ensures days { result ≡ sum_by (slice_index film.now.days) (filter
-        (λ scene. not (works film.now actor scene)) (members q.0)) }
-    ensures small { result ≤ 19_800 }
-{
-    film.keeps_limits();
-    let scenes = q.minus(Mask(tables.plays[actor]));
-    tables.groups.day_sums().sum(scenes)
-}
-
 /// The actors at so many places of a list from this one on, or at all of fewer, as a set. One turn for
 /// each.
-fn set_from(actors: &[u32], from: usize, count: usize) -> Mask
+pub(crate) fn set_from(actors: &[u32], from: usize, count: usize) -> Mask
     requires listed { All (λ actor. actor < 64) actors.now }
     requires fits { from + count < 2 ^ 63 }
     ensures { result.0 ≡ set_of (take count (drop from actors.now)) }

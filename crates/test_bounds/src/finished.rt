@@ -51,7 +51,7 @@ static FIRST: [Row; 11] = [
         days: &[1, 3, 3, 4, 1, 2, 4],
         rates: &[5, 3, 3, 2],
         holds: &[3, 3, 1, 2],
-        bounds: 7402,
+        bounds: 7404,
         costs: 7412,
     },
     Row {
@@ -67,7 +67,7 @@ static FIRST: [Row; 11] = [
         days: &[4, 2, 2, 2, 2],
         rates: &[2, 0, 1, 3, 3, 3, 0],
         holds: &[2, 0, 5, 1, 3, 3, 2],
-        bounds: 1474,
+        bounds: 1478,
         costs: 1490,
     },
     Row {
@@ -142,7 +142,7 @@ static SECOND: [Row; 11] = [
         days: &[4, 1, 1, 4, 2, 1],
         rates: &[8, 5, 3, 5, 1, 1, 2],
         holds: &[8, 5, 1, 5, 1, 9, 1],
-        bounds: 5671,
+        bounds: 5672,
         costs: 5673,
     },
     Row {
@@ -150,7 +150,7 @@ static SECOND: [Row; 11] = [
         days: &[3, 3, 2, 4, 3, 3, 3],
         rates: &[1, 1, 2, 0, 0, 2],
         holds: &[2, 1, 9, 9, 1, 2],
-        bounds: 5044,
+        bounds: 5047,
         costs: 5050,
     },
     Row {
@@ -209,7 +209,7 @@ static THIRD: [Row; 11] = [
         days: &[2, 2, 4, 1, 2, 3],
         rates: &[0, 8, 1, 0, 2],
         holds: &[0, 9, 3, 5, 2],
-        bounds: 2344,
+        bounds: 2338,
         costs: 2350,
     },
     Row {
@@ -249,7 +249,7 @@ static THIRD: [Row; 11] = [
         days: &[2, 4, 4, 4, 1, 3, 4],
         rates: &[1, 8, 8, 8, 0, 5],
         holds: &[1, 8, 8, 8, 9, 5],
-        bounds: 30540,
+        bounds: 30538,
         costs: 30643,
     },
     Row {
@@ -308,7 +308,7 @@ static FOURTH: [Row; 11] = [
         days: &[1, 3, 2, 4, 1, 3],
         rates: &[0, 2, 2, 8, 5],
         holds: &[0, 3, 2, 2, 5],
-        bounds: 5586,
+        bounds: 5582,
         costs: 5609,
     },
     Row {
@@ -372,7 +372,7 @@ static FOURTH: [Row; 11] = [
         days: &[4, 4, 3, 4, 1, 3],
         rates: &[3, 3, 5, 3],
         holds: &[2, 3, 5, 5],
-        bounds: 4500,
+        bounds: 4503,
         costs: 4513,
     },
     Row {

@@ -1,6 +1,6 @@
 //! Tests: what no clause says of bounds, by calls that no command makes. Bounds and open firsts of small films, worked by hand; the
-//! value of a group and its newcomers and the bound with arrivals, against values, bounds, costs and lists that another program
-//! worked out; and a store of bounds that workers share.
+//! value of a group and its newcomers, and the bound with arrivals by the newcomers whom each group takes, against values, bounds,
+//! costs and lists that another program worked out; and a store of bounds that workers share.
 #![tactic(auto)]
 
 #[cfg(test)]
@@ -11,6 +11,8 @@ mod companies;
 mod films;
 #[cfg(test)]
 mod finished;
+#[cfg(test)]
+mod newcomers;
 #[cfg(test)]
 mod rules;
 #[cfg(test)]

@@ -8,7 +8,7 @@ pub returns-clause-parties : goal.returns-clause-parties
 returns-clause-parties c =
     let film = c.args.film.now in
     let q = c.args.q.0 in
-    let count : c.len.result ≡ size (on_location film q) = c.len.ensures.value ∙ ap length c.requires.actors.located ∙ located_count film q in
-    let number : (c.len.result + (c.args.many - 1)) / c.args.many ≡ (size (on_location film q) + (c.args.many - 1)) / c.args.many
+    let count : length c.args.located.now ≡ size (on_location film q) = ap length c.requires.located ∙ located_count film q in
+    let number : (length c.args.located.now + (c.args.many - 1)) / c.args.many ≡ (size (on_location film q) + (c.args.many - 1)) / c.args.many
     = ap (λ (n : ℕ). (n + (c.args.many - 1)) / c.args.many) count in
-    none_known film q c.args.many ((c.len.result + (c.args.many - 1)) / c.args.many) c.args.need number c.requires.many
+    none_known film q c.args.many ((length c.args.located.now + (c.args.many - 1)) / c.args.many) c.args.need number c.requires.many

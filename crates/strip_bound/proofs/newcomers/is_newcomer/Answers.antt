@@ -4,7 +4,7 @@ use Rattle.strip_mask.specs.Set.{has, meet, members, size}
 use Rattle.strip_pay.specs.Pay.{works}
 use Rattle.strip_film.specs.Shoot.{on_location}
 use Rattle.strip_bound.proofs.Steps.{scenes_counted, two_or_more}
-use Rattle.strip_bound.proofs.parties.is_newcomer.Goals as goal
+use Rattle.strip_bound.proofs.newcomers.is_newcomer.Goals as goal
 
 pub returns-then-not-has : goal.returns-then-not-has
 returns-then-not-has c =

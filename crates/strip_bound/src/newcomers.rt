@@ -1,0 +1,226 @@
+// Which newcomers the parties of a set have.
+ghost use Rattle.std.specs.Prelude.{◌≡◌, ℕ, ◌+◌, ◌*◌, ◌^◌, ◌<◌, ◌≤◌, ◌⊎◌, true, All, length, slice_index};
+ghost use Rattle.strip_mask.specs.Set.{LiesBelow, has};
+ghost use Rattle.strip_film.specs.Film.{LiesIn};
+ghost use Rattle.strip_film.specs.Shoot.{on_location};
+ghost use Rattle.strip_bound.specs.Bounds.{chosen, company, is_newcomer, located_by_hold, newcomers_at, newcomers_of, number_of_parties, pay_of_company, pay_of_newcomer, score, works_any};
+ghost use Rattle.strip_bound.specs.Parties.{AreChoices, AreParties};
+ghost use Rattle.strip_bound.specs.Tables.{AreTables};
+
+use crate::bounds::days_apart;
+use crate::falling::{Falling, place};
+use crate::parties::{PARTIES, Parties, set_from};
+use crate::tables::BoundTables;
+use arrayvec::ArrayVec;
+use strip_film::{Film, cast_of};
+use strip_mask::Mask;
+
+/// How many newcomers a party has at most.
+const NEWCOMERS: usize = 2;
+
+/// The newcomers of each party, as sets: the first of them alone, and all, up to two.
+#[derive(Clone, Copy)]
+pub(crate) struct Choices {
+    pub(crate) first: [u64; PARTIES],
+    pub(crate) both: [u64; PARTIES],
+}
+
+impl Choices {
+    /// No newcomers.
+    pub(crate) fn none() -> Choices {
+        Choices {
+            first: [0; PARTIES],
+            both: [0; PARTIES],
+        }
+    }
+
+    /// The choices of the parties: one after the other takes of the newcomers that are left the two who have the
+    /// greatest scores for its group.
+    pub(crate) fn of(
+        film: &Film,
+        tables: &BoundTables,
+        q: Mask,
+        located: &[u32],
+        newcomers: Mask,
+        parties: &Parties,
+    ) -> Choices
+        requires tables { AreTables film.now tables.now }
+        requires lies { LiesIn film.now q.0 }
+        requires located { located.now ≡ located_by_hold film.now q.0 }
+        requires newcomers { newcomers.0 ≡ newcomers_of film.now q.0 }
+        requires many { (parties.now.many ≡ 7) ⊎ (parties.now.many ≡ 10) }
+        requires parties { AreParties film.now q.0 parties.now.many parties.now }
+        ensures { AreChoices film.now q.0 parties.now.many result }
+    {
+        film.keeps_limits();
+        let many = parties.many;
+        let mut choices = Choices::none();
+        let mut left = newcomers;
+        for place in 0..parties.number {
+            let group = set_from(located, place * many, many);
+            let chosen = chosen(film, tables, q, group, left);
+            let both = set_from(&chosen, 0, NEWCOMERS);
+            choices.first[place] = set_from(&chosen, 0, 1).0;
+            choices.both[place] = both.0;
+            left = left.minus(both);
+        }
+        choices
+    }
+
+    /// The newcomers of the party at this place, so many at most.
+    pub(crate) fn at(&self, place: usize, count: usize) -> Mask
+        requires place { place < 10 }
+        ensures none { count ≡ 0 → result.0 ≡ 0 }
+        ensures first { count ≡ 1 → result.0 ≡ slice_index self.now.first place }
+        ensures both { 2 ≤ count → result.0 ≡ slice_index self.now.both place }
+    {
+        match count {
+            0 => Mask(0),
+            1 => Mask(self.first[place]),
+            _ => Mask(self.both[place]),
+        }
+    }
+}
+
+/// The newcomers of the set. One turn for each actor of the film.
+pub(crate) fn newcomers(film: &Film, tables: &BoundTables, q: Mask, on: Mask) -> Mask
+    requires tables { AreTables film.now tables.now }
+    requires lies { LiesIn film.now q.0 }
+    requires on { on.0 ≡ on_location film.now q.0 }
+    ensures { result.0 ≡ newcomers_of film.now q.0 }
+{
+    film.keeps_limits();
+    let mut newcomers = Mask(0);
+    for actor in 0..film.rates().len() as u32 {
+        if is_newcomer(film, tables, q, on, actor) {
+            newcomers = newcomers.with(actor);
+        }
+    }
+    newcomers
+}
+
+/// Whether the actor isn't on location and has two or more scenes in the set.
+fn is_newcomer(film: &Film, tables: &BoundTables, q: Mask, on: Mask, actor: u32) -> bool
+    requires tables { AreTables film.now tables.now }
+    requires lies { LiesIn film.now q.0 }
+    requires on { on.0 ≡ on_location film.now q.0 }
+    requires known { actor < length film.now.rates }
+    ensures { result ≡ is_newcomer film.now q.0 actor }
+{
+    film.keeps_limits();
+    let scenes = Mask(tables.plays[actor as usize]).meet(q);
+    !on.has(actor) && scenes.size() >= 2
+}
+
+/// The two of these newcomers who have the greatest scores for the group, equals by number; of fewer all. One
+/// turn for each actor of the film, and a score for each newcomer.
+fn chosen(film: &Film, tables: &BoundTables, q: Mask, group: Mask, newcomers: Mask) -> Falling
+    requires tables { AreTables film.now tables.now }
+    requires lies { LiesIn film.now q.0 }
+    requires group { LiesBelow (length film.now.rates) group.0 }
+    requires newcomers { LiesBelow (length film.now.rates) newcomers.0 }
+    ensures { result.items ≡ chosen film.now q.0 group.0 newcomers.0 }
+{
+    film.keeps_limits();
+    let mut best = ArrayVec::new();
+    if newcomers.is_empty() {
+        return best;
+    }
+    let scores = scores(film, tables, q, group, newcomers);
+    for newcomer in newcomers.iter() {
+        place(&mut best, &scores, newcomer);
+        best.truncate(NEWCOMERS);
+    }
+    best
+}
+
+/// The score of each of these newcomers for the group, at his number.
+fn scores(film: &Film, tables: &BoundTables, q: Mask, group: Mask, newcomers: Mask) -> [u64; 64]
+    requires tables { AreTables film.now tables.now }
+    requires lies { LiesIn film.now q.0 }
+    requires group { LiesBelow (length film.now.rates) group.0 }
+    requires newcomers { LiesBelow (length film.now.rates) newcomers.0 }
+    ensures long { length result ≡ 64 }
+    ensures scores { (newcomer : ℕ) → has newcomers.0 newcomer ≡ true
+        → slice_index result newcomer ≡ score film.now q.0 group.0 newcomer }
+{
+    film.keeps_limits();
+    let mut scores = [0; 64];
+    for newcomer in newcomers.iter() {
+        scores[newcomer as usize] = score(film, tables, q, group, newcomer);
+    }
+    scores
+}
+
+/// What the newcomer and his company in the group may cost while one waits for the other. Some turns for each
+/// scene of the newcomer and each actor whom he meets.
+fn score(film: &Film, tables: &BoundTables, q: Mask, group: Mask, newcomer: u32) -> u64
+    requires tables { AreTables film.now tables.now }
+    requires lies { LiesIn film.now q.0 }
+    requires group { LiesBelow (length film.now.rates) group.0 }
+    requires known { newcomer < length film.now.rates }
+    ensures { result ≡ score film.now q.0 group.0 newcomer }
+{
+    let company = company(film, tables, q, group, newcomer);
+    let company_waits = pay_of_company(film, tables, q, company, newcomer);
+    company_waits.min(pay_of_newcomer(film, tables, q, company, newcomer))
+}
+
+/// Those of the group who work in a scene of the set with the newcomer.
+fn company(film: &Film, tables: &BoundTables, q: Mask, group: Mask, newcomer: u32) -> Mask
+    requires tables { AreTables film.now tables.now }
+    requires lies { LiesIn film.now q.0 }
+    requires group { LiesBelow (length film.now.rates) group.0 }
+    requires known { newcomer < length film.now.rates }
+    ensures company { result.0 ≡ company film.now q.0 group.0 newcomer }
+    ensures known { LiesBelow (length film.now.rates) result.0 }
+{
+    film.keeps_limits();
+    let scenes = Mask(tables.plays[newcomer as usize]).meet(q);
+    group.meet(cast_of(film, scenes))
+}
+
+/// What the actors would be paid for waiting on all of the newcomer's days without them.
+fn pay_of_company(film: &Film, tables: &BoundTables, q: Mask, actors: Mask, newcomer: u32) -> u64
+    requires tables { AreTables film.now tables.now }
+    requires lies { LiesIn film.now q.0 }
+    requires actors { LiesBelow (length film.now.rates) actors.0 }
+    requires known { newcomer < length film.now.rates }
+    ensures { result ≡ pay_of_company film.now q.0 actors.0 newcomer }
+{
+    film.keeps_limits();
+    let holds = film.holds();
+    let mut pay = 0;
+    for actor in actors.iter() {
+        pay += holds[actor as usize] * days_apart(film, tables, q, newcomer, actor);
+    }
+    pay
+}
+
+/// What the newcomer would be paid for waiting on all days of the actors without him.
+fn pay_of_newcomer(film: &Film, tables: &BoundTables, q: Mask, actors: Mask, newcomer: u32) -> u64
+    requires tables { AreTables film.now tables.now }
+    requires lies { LiesIn film.now q.0 }
+    requires actors { LiesBelow (length film.now.rates) actors.0 }
+    requires known { newcomer < length film.now.rates }
+    ensures { result ≡ pay_of_newcomer film.now q.0 actors.0 newcomer }
+{
+    film.keeps_limits();
+    let own = Mask(tables.plays[newcomer as usize]);
+    let without = scenes_with_any(film, tables, actors).meet(q).minus(own);
+    film.holds()[newcomer as usize] * tables.groups.day_sums().sum(without)
+}
+
+/// The scenes in which one of the actors works. One turn for each actor.
+fn scenes_with_any(film: &Film, tables: &BoundTables, actors: Mask) -> Mask
+    requires tables { AreTables film.now tables.now }
+    requires actors { LiesBelow (length film.now.rates) actors.0 }
+    ensures { (scene : ℕ) → has result.0 scene ≡ works_any film.now actors.0 scene }
+{
+    film.keeps_limits();
+    let mut scenes = Mask(0);
+    for actor in actors.iter() {
+        scenes = scenes.union(Mask(tables.plays[actor as usize]));
+    }
+    scenes
+}
