@@ -1,8 +1,9 @@
 // The order that a search begins with, found by the same steps as in strip_start, in plain Rust; and films with story
 // lines. It shares nothing with the crates.
 //
-//   varied start FILE TRIES [STATE]   reduces the film, makes the greedy order, improves and varies it; prints what it
-//                                     costs by then, its classes, how long varying took, and the order's scenes
+//   varied start FILE TRIES [STATE]   reduces the film, makes the greedy order, improves and varies it in several runs;
+//                                     prints what it costs by then, its classes, how long varying took, and the order's
+//                                     scenes
 //   varied story NUMBER SCENES        prints a film with story lines, leads and day players
 //   varied times SCENES ACTORS TRIES  prints how many tries a second are made
 use std::time::Instant;
@@ -273,7 +274,37 @@ impl Prices {
     }
 }
 
+/// The cheapest of the orders that the runs lead to, the first of those that pay the same: one run for each 100,000
+/// tries, at least one and at most 16.
 fn vary(film: &Film, start: &[usize], tries: u64, state: u64) -> Vec<usize> {
+    let runs = (tries / 100_000).clamp(1, 16);
+    let order = |run: u64| {
+        let mut words = Pcg32::new(state, 54 + run);
+        if runs == 1 {
+            return anneal(film, start, tries, &mut words, &|n| 1000 - n * 1000 / tries);
+        }
+        rounds(film, start, tries / runs + u64::from(run < tries % runs), &mut words)
+    };
+    (0..runs).map(order).min_by_key(|order| pay(film, order)).unwrap()
+}
+
+/// The order that one of several runs leads to: rounds of 100,000 tries, of which the last may be cut short. Each begins
+/// with the order of the one before.
+fn rounds(film: &Film, start: &[usize], tries: u64, words: &mut Pcg32) -> Vec<usize> {
+    let in_halves = |n: u64| match n / 100 {
+        gone if gone < 500 => 1000 - gone * 3 / 2,
+        gone => (1000 - gone) / 2,
+    };
+    let mut best = start.to_vec();
+    for begun in (0..tries).step_by(100_000) {
+        best = anneal(film, &best, (tries - begun).min(100_000), words, &in_halves);
+    }
+    best
+}
+
+/// The cheapest order that so many tries meet. The slack is at first a hundredth of what the given order pays for waiting,
+/// and later as many thousandths of that as `left` says.
+fn anneal(film: &Film, start: &[usize], tries: u64, words: &mut Pcg32, left: &dyn Fn(u64) -> u64) -> Vec<usize> {
     let k = start.len();
     if tries == 0 || k < 3 {
         return start.to_vec();
@@ -297,9 +328,8 @@ fn vary(film: &Film, start: &[usize], tries: u64, state: u64) -> Vec<usize> {
     let begun: u64 = now.waits[..k].iter().sum();
     let (mut waits, mut least, mut best) = (begun, begun, now.scenes);
     let mut next = now.clone();
-    let mut words = Pcg32::new(state, 54);
     for n in 0..tries {
-        let slack = begun / 100 * (1000 - n * 1000 / tries) / 1000;
+        let slack = begun / 100 * left(n) / 1000;
         let kind = words.next() % 3;
         let (first, end, front);
         if kind == 2 {

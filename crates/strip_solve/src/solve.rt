@@ -36,7 +36,7 @@ use strip_model::Instance;
 use strip_pay::laws::pays_stay_small;
 use strip_proof::{Plan, Status};
 use strip_reduce::{ReduceFault, Reduced, expand, orient, reduce};
-use strip_start::{greedy, improve, vary};
+use strip_start::{greedy, improve, vary, vary_beside};
 use strip_store::{Bounded, Store};
 use strip_trim::trim;
 use strip_worker::{Ended, Gate, OpenGate};
@@ -183,7 +183,7 @@ fn search<G: Gate>(
     let kept = StoredBound::new(film, options.kind, |q, need| {
         static_reach(film, &tables, options.kind, Mask(q), need)
     });
-    let begun = varied(&kept, start, options.tries);
+    let begun = vary(film, start, useful_tries(&kept, start, options.tries));
     let mut memo = Memo::new(alloc, &kept)?;
     let ended = end_alone(alloc, &kept, &mut memo, &begun, options, gate)?;
     let trimmed = trimmed(alloc, &kept, &mut memo, &ended)?;
@@ -245,7 +245,8 @@ fn search_stored<
         kept.kind(),
         |q, need| store.reach(rt, kept, Mask(q), need),
     );
-    let begun = varied(&stored, start, options.tries);
+    let tries = useful_tries(&stored, start, options.tries);
+    let begun = vary_beside(rt, kept.film(), start, tries, workers);
     // The caller has a memo too.
     let mut memo = Memo::among(alloc, &stored, workers + 1)?;
     let ended = end_beside(
@@ -278,19 +279,21 @@ fn trimmed<F: Fn(u64, u64) -> u64>(
     }
 }
 
-/// What varying the path gives; nothing is tried where the static bound of all scenes says that none is cheaper.
-fn varied<F: Fn(u64, u64) -> u64>(kept: &StoredBound<F>, start: &Path, tries: Option<u32>) -> Path
+/// How often the path is to be varied: as often as asked for, 5,000 times for each class if nothing is said, and never
+/// if the static bound of all scenes says that no path is cheaper.
+fn useful_tries<F: Fn(u64, u64) -> u64>(
+    kept: &StoredBound<F>,
+    start: &Path,
+    asked: Option<u32>,
+) -> u32
     requires keeps { Keeps (F.pre kept.now.f) (F.post kept.now.f) kept.now.kind kept.now.film.now }
-    requires start { IsComplete kept.now.film.now (path_data start.now) }
-    ensures { IsVaried kept.now.film.now (path_data start.now) (path_data result) }
 {
     let film = kept.film();
     film.keeps_limits();
     if kept.reach(film.all(), start.paid()) >= start.paid() {
-        return *start;
+        return 0;
     }
-    let tries = tries.unwrap_or(TRIES_A_CLASS * film.scenes() as u32);
-    vary(film, start, tries)
+    asked.unwrap_or(TRIES_A_CLASS * film.scenes() as u32)
 }
 
 /// The plan of the instance that the end of its classes' search stands for.

@@ -11,3 +11,4 @@ pub mod Small
 pub mod Onward
 pub mod Chosen
 pub mod Examples
+pub mod Cheapest

@@ -6,9 +6,9 @@ use rand_core::utils::NextWord;
 use rand_pcg::Pcg32;
 use strip_film::MAX_COUNT;
 
-/// The generator's stream. State and stream are the same for every film, so that the same film is varied in
-/// the same way.
-const STREAM: u64 = 54;
+/// The generator's stream in the first run; each further run has the next. State and stream are the same for every
+/// film, so that the same film is varied in the same way.
+const FIRST_STREAM: u64 = 54;
 
 /// Where changes are drawn from.
 #[derive(Drop)]
@@ -17,9 +17,10 @@ pub(crate) struct Draws {
 }
 
 impl Draws {
-    pub(crate) fn new() -> Draws {
+    /// What is drawn from in the run of this number, 0 for the first.
+    pub(crate) fn of_run(run: usize) -> Draws {
         Draws {
-            words: Pcg32::new(0, STREAM),
+            words: Pcg32::new(0, FIRST_STREAM.wrapping_add(run as u64)),
         }
     }
 

@@ -1,8 +1,11 @@
 //! The order that a search begins with, found quickly: a greedy one, improved by moves and then varied.
 #![tactic(auto)]
 
+mod annealing;
+mod beside;
 mod change;
 mod choose;
+mod cooling;
 mod draws;
 pub mod laws;
 mod moves;
@@ -12,6 +15,7 @@ mod scan;
 mod sides;
 mod varying;
 
+pub use beside::vary_beside;
 pub use choose::greedy;
 pub use moves::improve;
 pub use varying::vary;

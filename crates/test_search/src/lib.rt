@@ -20,6 +20,8 @@ mod paths;
 #[cfg(test)]
 mod ranks;
 #[cfg(test)]
+mod runs;
+#[cfg(test)]
 mod searched;
 #[cfg(test)]
 mod starts;

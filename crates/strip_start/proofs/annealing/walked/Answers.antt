@@ -1,7 +1,7 @@
 use Rattle.std.proofs.Common.{sym, subst}
 use Rattle.strip_film.specs.Film.{LiesIn}
 use Rattle.strip_film.specs.Shown.{path_data}
-use Rattle.strip_start.proofs.varying.walked.Goals as goal
+use Rattle.strip_start.proofs.annealing.walked.Goals as goal
 
 pub ready-requires : goal.ready-requires
 ready-requires c =
