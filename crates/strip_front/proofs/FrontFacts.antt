@@ -18,10 +18,11 @@ use Rattle.strip_lines.specs.Lines.{rules_of}
 use Rattle.strip_count.specs.Paths.{path_along}
 use Rattle.strip_hand.specs.Search.{SearchData, depth_of}
 use Rattle.strip_count.specs.Parts.{no_task}
+use Rattle.strip_paths.proofs.After.{more_leaves, more_open, more_pays, one_more}
+use Rattle.strip_paths.proofs.Rests.{others_permuted}
 use Rattle.strip_front.specs.Layers.{layer}
 use Rattle.strip_front.proofs.Facts.{LayerFacts}
-use Rattle.strip_front.proofs.Layered.{layer_facts, more_leaves, more_open, more_pays, one_more}
-use Rattle.strip_front.proofs.Rests.{others_permuted}
+use Rattle.strip_front.proofs.Layered.{layer_facts}
 use Rattle.strip_front.proofs.ShorterPaths.{counted, first_is_empty, shorter_apart, shorter_least, shorter_open, shorter_rest, shorter_short}
 use Rattle.strip_front.specs.Front.{FrontData, IsFrontOf, path_at, task_at}
 

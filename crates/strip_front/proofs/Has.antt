@@ -7,7 +7,7 @@ use Rattle.std.proofs.lemmas.List.Quantifiers.{position-Some}
 use Rattle.strip_pay.specs.Film.{FilmData}
 use Rattle.strip_film.specs.Path.{IsPath, PathData}
 use Rattle.strip_film.proofs.Started.{same_path}
-use Rattle.strip_front.proofs.Placed.{leaves, none_leaves}
+use Rattle.strip_paths.proofs.Placed.{leaves, none_leaves}
 use Rattle.strip_front.proofs.ShorterPaths.{apart_same}
 
 module _ (paths : List PathData) (path : PathData) (rest : ℕ) (is : rest ≡ path.rest) where

@@ -3,11 +3,11 @@ use Rattle.std.proofs.Common.{◌≡◌, ◌≢◌, ℕ, zero, suc, ◌+◌, ◌
 use Rattle.std.specs.List.{AllPairs, flat_map}
 use Rattle.std.proofs.lemmas.List.{length-map, length_push}
 use Rattle.std.proofs.lemmas.List.Concat.{length-flat_map}
-use Rattle.std.proofs.lemmas.List.Elements.{All-nil, All-cons, All-map, All-contains, Contains-get_or}
+use Rattle.std.proofs.lemmas.List.Elements.{All-nil, All-cons, All-contains, Contains-get_or}
 use Rattle.std.proofs.lemmas.List.Sums.{sum_by-le}
 use Rattle.strip_mask.specs.Set.{has, members, size, without}
 use Rattle.strip_mask.proofs.Below.{IsSet-full}
-use Rattle.strip_mask.proofs.Members.{All-members, Contains-members}
+use Rattle.strip_mask.proofs.Members.{Contains-members}
 use Rattle.strip_mask.proofs.Sizes.{length-members, size-empty, size-le}
 use Rattle.strip_mask.proofs.Below.{size-full}
 use Rattle.strip_kind.specs.declared.kind.Kind.{Kind}
@@ -19,7 +19,7 @@ use Rattle.strip_film.specs.Finish.{AreFirsts, rest_after}
 use Rattle.strip_film.specs.Path.{IsPath, PathData}
 use Rattle.strip_film.specs.Rules.{IsOpen}
 use Rattle.strip_film.specs.Shoot.{ready, step_cost}
-use Rattle.strip_film.proofs.Lists.{AllRemained-from_ready, AreFirsts-append, rest_after-append, size-rest_after, steps_cost-append}
+use Rattle.strip_film.proofs.Lists.{AllRemained-from_ready, size-rest_after}
 use Rattle.strip_film.proofs.Paths.{rest_lies}
 use Rattle.strip_rule.specs.Rule.{open_firsts}
 use Rattle.strip_rule.proofs.Open.{open_begins_least}
@@ -27,11 +27,12 @@ use Rattle.strip_rule.proofs.Firsts.{firsts_set}
 use Rattle.strip_lines.specs.Lines.{rules_of}
 use Rattle.strip_count.specs.Paths.{path_along}
 use Rattle.strip_count.specs.Parts.{no_task}
-use Rattle.strip_front.specs.Layers.{layer, paths_after}
-use Rattle.strip_front.proofs.Added.{Differs, Pays, apart_of, each_of, more_of, pairs_of, pays_of}
+use Rattle.strip_paths.specs.Paths.{paths_after}
+use Rattle.strip_paths.proofs.Added.{Differs, Pays, apart_of, each_of, more_of, pairs_of, pays_of}
+use Rattle.strip_paths.proofs.After.{each_after, more_leaves, more_open, more_pays, one_more, path_is}
+use Rattle.strip_paths.proofs.Lists.{All-flat_map, Contains-flat_map, Contains-map}
+use Rattle.strip_front.specs.Layers.{layer}
 use Rattle.strip_front.proofs.Facts.{LayerFacts}
-use Rattle.strip_front.proofs.Lists.{All-flat_map, Contains-flat_map, Contains-map}
-use Rattle.strip_front.proofs.Open.{first_ready}
 
 -- ---- lists, by their last scene
 
@@ -48,54 +49,19 @@ firsts_parts firsts set scene (other ∷ scenes) are =
     let later = firsts_parts firsts (without set other) scene scenes are.1 in
     ((are.0, later.0), later.1)
 
--- ---- paths with one scene more
-
--- a path of a film is the one along its scenes
-pub path_is : (film : FilmData) (path : PathData) → IsPath film path → path ≡ path_along film path.scenes
-path_is film path is = λ i. record { scenes = path.scenes; rest = is.left i; paid = is.steps i }
-
-abbrev pub one_more : FilmData → PathData → ℕ → PathData
-one_more film path scene = path_along film (path.scenes ++ scene ∷ [])
-
--- what remains after it, and what it paid
-pub more_leaves : (film : FilmData) (path : PathData) (scene : ℕ) → IsPath film path → (one_more film path scene).rest ≡ without path.rest scene
-more_leaves film path scene is = rest_after-append (all_scenes film) scene path.scenes ∙ ap (λ (q : ℕ). without q scene) (sym is.left)
-
-pub more_pays : (film : FilmData) (path : PathData) (scene : ℕ) → IsPath film path → (one_more film path scene).paid ≡ path.paid + step_cost film path.rest scene
-more_pays film path scene is =
-    steps_cost-append film (all_scenes film) scene path.scenes
-    ∙ ap (λ (n : ℕ). n + step_cost film (rest_after (all_scenes film) path.scenes) scene) (sym is.steps)
-    ∙ ap (λ (q : ℕ). path.paid + step_cost film q scene) (sym is.left)
+-- ---- the paths of a layer
 
 module _ (kind : Kind) (film : FilmData) where
   abbrev IsOne : PathData → Type 0
   IsOne = IsOpen (rules_of kind film)
 
-  pub more_open : (path : PathData) (scene : ℕ) → IsOne path → has (open_firsts film path.rest) scene ≡ true → IsOne (one_more film path scene)
-  more_open path scene is member =
-      let here : has (open_firsts film (rest_after (all_scenes film) path.scenes)) scene ≡ true = subst (λ (q : ℕ). has (open_firsts film q) scene ≡ true) is.0.left member in (
-        record {
-          remained = AreFirsts-append (ready film) (all_scenes film) scene path.scenes is.0.remained
-              (first_ready film (rest_after (all_scenes film) path.scenes) scene here);
-          left = refl;
-          steps = refl;
-        },
-        AreFirsts-append (open_firsts film) (all_scenes film) scene path.scenes is.1 here,
-      )
-
-  -- what holds of each path that goes on from one
-  each_after : (P : PathData → Type 0) (path : PathData) → ((scene : ℕ) → has (open_firsts film path.rest) scene ≡ true → P (one_more film path scene))
-      → All P (paths_after film path)
-  each_after P path holds = All-map P (one_more film path) (members (open_firsts film path.rest))
-      (All-members (λ scene. P (one_more film path scene)) (open_firsts film path.rest) holds)
-
-  -- and so of each path of a layer, by the path of the layer before that it goes on from
+  -- what holds of each path of a layer, by the path of the layer before that it goes on from
   each_later : (P : PathData → Type 0) (depth : ℕ)
       → ((path : PathData) → Contains (layer film depth) path → (scene : ℕ) → has (open_firsts film path.rest) scene ≡ true → P (one_more film path scene))
       → All P (layer film (suc depth))
   each_later P depth holds = each_of P [] (flat_map (paths_after film) (layer film depth)) (All-nil P)
       (All-flat_map P (paths_after film) (layer film depth)
-      (All-from_contains (λ path. All P (paths_after film path)) (layer film depth) (λ path there. each_after P path (holds path there))))
+      (All-from_contains (λ path. All P (paths_after film path)) (layer film depth) (λ path there. each_after film P path (holds path there))))
 
   empty_open : IsOne (path_along film [])
   empty_open = (record { remained = tt; left = refl; steps = refl }, tt)
@@ -103,7 +69,7 @@ module _ (kind : Kind) (film : FilmData) where
   layer_open : (depth : ℕ) → All IsOne (layer film depth)
   layer_open zero = All-cons IsOne (path_along film []) [] empty_open (All-nil IsOne)
   layer_open (suc depth) = each_later IsOne depth (λ path there scene member.
-      more_open path scene (All-contains IsOne (layer film depth) path (layer_open depth) there) member)
+      more_open kind film path scene (All-contains IsOne (layer film depth) path (layer_open depth) there) member)
 
   abbrev IsLong : ℕ → PathData → Type 0
   IsLong depth path = length path.scenes ≡ depth

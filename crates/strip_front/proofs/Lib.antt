@@ -1,11 +1,5 @@
 pub mod Facts
-pub mod Lists
-pub mod Added
-pub mod Rests
-pub mod Placed
-pub mod Open
 pub mod Layered
-pub mod Extended
 pub mod Rising
 pub mod Starts
 pub mod Reaches

@@ -26,11 +26,11 @@ use Rattle.strip_lines.proofs.Grown.{known-grows, known-static}
 use Rattle.strip_hand.specs.Calls.{MayRaise}
 use Rattle.strip_hand.specs.Hand.{HandData, IsHand}
 use Rattle.strip_hand.specs.Search.{search_rules}
+use Rattle.strip_paths.proofs.Open.{set_is}
 use Rattle.strip_front.specs.Calls.{AllReach, AreFound, Learns}
 use Rattle.strip_front.specs.Filled.{HasLine, IsFilled, IsWhole}
 use Rattle.strip_front.specs.Front.{FrontData, IsFrontOf, is_wanted, line_of, path_at, root_of}
 use Rattle.strip_front.specs.Raised.{AreRaised, IsNumberOf, ReachesBy, ReachesFrom}
-use Rattle.strip_front.proofs.Open.{set_is}
 use Rattle.strip_front.proofs.FrontFacts.{FrontFacts, IsPathAfter, IsTaskAfter}
 use Rattle.strip_front.proofs.Small.{bound-empty, known_small, line_makes_known}
 use Rattle.strip_front.proofs.Tried.{none_isnt, some_is}

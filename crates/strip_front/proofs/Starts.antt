@@ -10,11 +10,11 @@ use Rattle.strip_film.specs.Path.{IsPath, PathData}
 use Rattle.strip_film.specs.Rules.{IsOpen, Rules}
 use Rattle.strip_count.specs.Parts.{no_task}
 use Rattle.strip_hand.specs.Search.{AreStarts, SearchData, depth_of, search_rules}
+use Rattle.strip_paths.proofs.Rests.{others_permuted}
 use Rattle.strip_front.specs.Front.{IsDepth}
 use Rattle.strip_front.specs.Layers.{AreTasksOf, layer, promise_of}
 use Rattle.strip_front.proofs.Facts.{LayerFacts}
 use Rattle.strip_front.proofs.Layered.{layer_facts}
-use Rattle.strip_front.proofs.Rests.{others_permuted}
 
 few_by_depth : (depth count : ℕ) → count ≤ 64 ^ depth → depth ≤ 4 → count ≤ 16777216
 few_by_depth zero count few within = omega (arith, few)

@@ -2,15 +2,14 @@
 ghost use Rattle.std.specs.Prelude.{◌≡◌, [], All, fold, IfOk};
 ghost use Rattle.std.specs.List.{flat_map};
 ghost use Rattle.strip_film.specs.Path.{IsPath};
-ghost use Rattle.strip_film.specs.Shown.{path_data};
-ghost use Rattle.strip_front.specs.Layers.{layer, paths_after, with_path};
-ghost use Rattle.strip_front.specs.Shown.{paths_of};
+ghost use Rattle.strip_paths.specs.Paths.{paths_after, with_path};
+ghost use Rattle.strip_paths.specs.Shown.{paths_of};
+ghost use Rattle.strip_front.specs.Layers.{layer};
 
-use crate::by_set::PathsBySet;
 use std::alloc::Global;
 use strip_film::{Film, Path};
 use strip_io::Memory;
-use strip_rule::open_firsts;
+use strip_paths::{PathsBySet, put_paths_after};
 
 /// The layer of no scenes: the empty path.
 pub(crate) fn first_layer(alloc: Global, film: &Film) -> Result<PathsBySet, Memory>
@@ -36,17 +35,4 @@ pub(crate) fn layer_after(
         put_paths_after(film, path, &mut after)?;
     }
     Ok(after)
-}
-
-/// Puts the open paths that go on from this one with one scene more to the others.
-fn put_paths_after(film: &Film, path: &Path, paths: &mut PathsBySet) -> Result<(), Memory>
-    requires path { IsPath film.now (path_data path.now) }
-    ensures { IfOk result (λ _. paths_of paths.new ≡ fold with_path (paths_of paths.old)
-        (paths_after film.now (path_data path.now))) }
-{
-    film.keeps_limits();
-    for scene in open_firsts(film, path.rest()).iter() {
-        paths.put(&path.extend(film, scene))?;
-    }
-    Ok(())
 }

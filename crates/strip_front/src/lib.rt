@@ -1,7 +1,6 @@
 //! The front of a search: the tasks that it is parted into, and the lines of the paths before these.
 #![tactic(auto)]
 
-mod by_set;
 mod down;
 mod front;
 pub mod laws;
@@ -12,7 +11,6 @@ mod shorter;
 mod tasks;
 mod up;
 
-pub use by_set::PathsBySet;
 pub use down::go_down;
 pub use front::Front;
 pub use opening::make_front;

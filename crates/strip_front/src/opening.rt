@@ -2,11 +2,11 @@
 ghost use Rattle.std.specs.Prelude.{◌≡◌, ◌≤◌, ℕ, suc, false, None, min, length, replicate, IfOk};
 ghost use Rattle.strip_bound.specs.StoredBound.{Keeps};
 ghost use Rattle.strip_lines.specs.Lines.{rules_of};
+ghost use Rattle.strip_paths.specs.Shown.{paths_of};
 ghost use Rattle.strip_front.specs.Front.{IsEmptyFront};
 ghost use Rattle.strip_front.specs.Layers.{AreTasksOf, layer};
-ghost use Rattle.strip_front.specs.Shown.{front_data, paths_of};
+ghost use Rattle.strip_front.specs.Shown.{front_data};
 
-use crate::by_set::PathsBySet;
 use crate::front::Front;
 use crate::layer::layer_after;
 use crate::shorter::shorter_paths;
@@ -14,6 +14,7 @@ use crate::tasks::by_promise;
 use std::alloc::Global;
 use strip_bound::StoredBound;
 use strip_io::Memory;
+use strip_paths::PathsBySet;
 
 /// The front of the film, with no task asked for and no lines. The tasks are paths of `most` scenes, 2 to 4,
 /// or of as many as the film has: for each set of scenes that can remain after as many open firsts, one that

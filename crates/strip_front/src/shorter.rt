@@ -10,18 +10,18 @@ ghost use Rattle.strip_film.specs.Turns.{GoBy};
 ghost use Rattle.strip_bound.specs.StoredBound.{Keeps};
 ghost use Rattle.strip_rule.specs.Rule.{open_firsts};
 ghost use Rattle.strip_lines.specs.Lines.{rules_of};
+ghost use Rattle.strip_paths.specs.Shown.{paths_of};
 ghost use Rattle.strip_front.specs.Front.{AreShorter, IsDepth};
 ghost use Rattle.strip_front.specs.Layers.{layer};
 ghost use Rattle.strip_front.specs.Onward.{AreOnward};
-ghost use Rattle.strip_front.specs.Shown.{paths_of};
 
-use crate::by_set::PathsBySet;
 use crate::layer::{first_layer, layer_after};
 use std::alloc::Global;
 use strip_bound::StoredBound;
 use strip_film::{MAX_COUNT, Path, Turns};
 use strip_io::Memory;
 use strip_mask::Mask;
+use strip_paths::PathsBySet;
 use strip_rule::open_firsts;
 
 /// The paths that are shorter than so many scenes, each before those that come after it, and the last of

@@ -6,9 +6,9 @@ use Rattle.strip_film.specs.declared.path.Path.{Path}
 use Rattle.strip_film.specs.Path.{IsPath, PathData}
 use Rattle.strip_film.specs.Shown.{path_data}
 use Rattle.strip_count.specs.Parts.{no_task}
-use Rattle.strip_front.specs.Layers.{paths_after, with_path}
-use Rattle.strip_front.specs.Shown.{paths_of}
-use Rattle.strip_front.proofs.Lists.{fold_flat_map}
+use Rattle.strip_paths.specs.Paths.{paths_after, with_path}
+use Rattle.strip_paths.specs.Shown.{paths_of}
+use Rattle.strip_paths.proofs.Lists.{fold_flat_map}
 use Rattle.strip_front.proofs.layer.layer_after.Goals as goal
 use Rattle.strip_front.proofs.layer.layer_after.Goals.{After-path-item}
 

@@ -1,6 +1,6 @@
 use Rattle.std.proofs.Common.{◌≡◌, [], fold, take}
-use Rattle.strip_front.specs.Layers.{paths_after, with_path}
-use Rattle.strip_front.specs.Shown.{paths_of}
+use Rattle.strip_paths.specs.Paths.{paths_after, with_path}
+use Rattle.strip_paths.specs.Shown.{paths_of}
 use Rattle.strip_front.proofs.layer.layer_after.Given as goal
 
 -- the paths that go on from those so far

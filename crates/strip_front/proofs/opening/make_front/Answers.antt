@@ -1,14 +1,13 @@
 use Rattle.std.proofs.Common.{◌≡◌, ◌∙◌, ◌-◌, ℕ, suc, false, None, List, length, map, min, replicate, rules, refl, sym, ap, subst, arith}
 use Rattle.std.proofs.lemmas.Result.{IfOk-weaker}
-use Rattle.strip_kind.specs.declared.kind.Kind.{Kind}
-use Rattle.strip_pay.specs.Film.{FilmData}
 use Rattle.strip_film.specs.Film.{IsFilm}
 use Rattle.strip_film.specs.Path.{PathData}
 use Rattle.strip_film.specs.Shown.{path_data}
 use Rattle.strip_lines.specs.Lines.{rules_of}
+use Rattle.strip_paths.specs.Shown.{paths_of}
 use Rattle.strip_front.specs.Front.{AreShorter, FrontData, IsDepth, IsEmptyFront}
 use Rattle.strip_front.specs.Layers.{AreTasksOf}
-use Rattle.strip_front.specs.Shown.{front_data, paths_of}
+use Rattle.strip_front.specs.Shown.{front_data}
 use Rattle.strip_front.proofs.Emptied.{empty_front, is_depth}
 use Rattle.strip_front.proofs.Layered.{layer_facts}
 use Rattle.strip_front.proofs.ShorterPaths.{shorter_apart}

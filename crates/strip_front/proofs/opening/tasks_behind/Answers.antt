@@ -10,10 +10,11 @@ use Rattle.strip_film.specs.Path.{IsPath, PathData}
 use Rattle.strip_film.specs.Rules.{IsOpen}
 use Rattle.strip_film.specs.Shown.{path_data}
 use Rattle.strip_lines.specs.Lines.{rules_of}
-use Rattle.strip_front.specs.Layers.{AreTasksOf, layer, paths_after, with_path}
-use Rattle.strip_front.specs.Shown.{paths_of}
+use Rattle.strip_paths.specs.Paths.{paths_after, with_path}
+use Rattle.strip_paths.specs.Shown.{paths_of}
+use Rattle.strip_paths.proofs.Rests.{others_permuted}
+use Rattle.strip_front.specs.Layers.{AreTasksOf, layer}
 use Rattle.strip_front.proofs.Layered.{layer_facts}
-use Rattle.strip_front.proofs.Rests.{others_permuted}
 use Rattle.strip_front.proofs.opening.tasks_behind.Goals as goal
 
 -- the paths of a layer are paths of the film

@@ -2,8 +2,8 @@ use Rattle.std.proofs.Common.{◌≡◌, ◌∙◌, ℕ, false, None, List, leng
 use Rattle.std.proofs.lemmas.List.{length-map}
 use Rattle.strip_film.specs.declared.path.Path.{Path}
 use Rattle.strip_film.specs.Shown.{path_data}
-use Rattle.strip_front.specs.declared.by_set.PathsBySet.{PathsBySet}
-use Rattle.strip_front.specs.Shown.{paths_of}
+use Rattle.strip_paths.specs.declared.by_set.PathsBySet.{PathsBySet}
+use Rattle.strip_paths.specs.Shown.{paths_of}
 use Rattle.strip_front.proofs.opening.unfilled.Goals as goal
 
 -- as many of one thing as there are paths

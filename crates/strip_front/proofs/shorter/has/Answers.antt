@@ -6,9 +6,9 @@ use Rattle.std.proofs.lemmas.List.Quantifiers.{position-Some}
 use Rattle.std.proofs.lemmas.Slice.Eq.{bytes_eq-Decides}
 use Rattle.strip_film.specs.declared.path.Path.{Path}
 use Rattle.strip_film.specs.Shown.{path_data}
-use Rattle.strip_front.specs.Shown.{paths_of}
+use Rattle.strip_paths.specs.Shown.{paths_of}
+use Rattle.strip_paths.proofs.Placed.{leaves}
 use Rattle.strip_front.proofs.Has.{none_there, scenes_there, there_by_scenes}
-use Rattle.strip_front.proofs.Placed.{leaves}
 use Rattle.strip_front.proofs.shorter.has.Goals as goal
 
 pub returns-in-Some : goal.returns-in-Some

@@ -11,10 +11,10 @@ use Rattle.strip_rule.specs.Rule.{open_firsts}
 use Rattle.strip_rule.proofs.Firsts.{first_there}
 use Rattle.strip_lines.specs.Lines.{rules_of}
 use Rattle.strip_count.specs.Paths.{path_along}
-use Rattle.strip_front.specs.Shown.{paths_of}
-use Rattle.strip_front.proofs.Layered.{path_is}
+use Rattle.strip_paths.specs.Shown.{paths_of}
+use Rattle.strip_paths.proofs.After.{path_is}
+use Rattle.strip_paths.proofs.Open.{first_ready, set_is}
 use Rattle.strip_front.proofs.Onward.{AreWaiting, found_all, found_first, found_one, found_past, longer, pushed_more, wait_first, wait_still}
-use Rattle.strip_front.proofs.Open.{first_ready, set_is}
 use Rattle.strip_front.proofs.shorter.push_kept.Given.{Over}
 use Rattle.strip_front.proofs.shorter.push_kept.Goals as goal
 use Rattle.strip_front.proofs.shorter.push_kept.Goals.{After-has, In-Some}

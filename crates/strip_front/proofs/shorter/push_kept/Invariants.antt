@@ -3,7 +3,7 @@ use Rattle.strip_mask.specs.Set.{size}
 use Rattle.strip_film.specs.Path.{PathData}
 use Rattle.strip_film.specs.Shown.{path_data, turns_data}
 use Rattle.strip_lines.specs.Lines.{rules_of}
-use Rattle.strip_front.specs.Shown.{paths_of}
+use Rattle.strip_paths.specs.Shown.{paths_of}
 use Rattle.strip_front.proofs.Onward.{AreFound, AreWaiting}
 use Rattle.strip_front.proofs.shorter.push_kept.Given as goal
 

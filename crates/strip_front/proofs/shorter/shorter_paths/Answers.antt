@@ -6,9 +6,10 @@ use Rattle.strip_film.specs.Path.{IsPath, PathData}
 use Rattle.strip_film.specs.Rules.{IsOpen}
 use Rattle.strip_film.specs.Shown.{path_data}
 use Rattle.strip_lines.specs.Lines.{rules_of}
+use Rattle.strip_paths.specs.Paths.{paths_after, with_path}
+use Rattle.strip_paths.specs.Shown.{paths_of}
 use Rattle.strip_front.specs.Front.{AreShorter}
-use Rattle.strip_front.specs.Layers.{layer, paths_after, with_path}
-use Rattle.strip_front.specs.Shown.{paths_of}
+use Rattle.strip_front.specs.Layers.{layer}
 use Rattle.strip_front.proofs.Layered.{layer_facts}
 use Rattle.strip_front.proofs.ShorterPaths.{only_empty}
 use Rattle.strip_front.proofs.shorter.shorter_paths.Given.{Over}

@@ -1,9 +1,9 @@
 use Rattle.std.proofs.Common.{◌≡◌, ◌+◌, ◌≤◌, ℕ, map}
 use Rattle.strip_film.specs.Shown.{path_data}
 use Rattle.strip_lines.specs.Lines.{rules_of}
+use Rattle.strip_paths.specs.Shown.{paths_of}
 use Rattle.strip_front.specs.Front.{AreShorter}
 use Rattle.strip_front.specs.Layers.{layer}
-use Rattle.strip_front.specs.Shown.{paths_of}
 use Rattle.strip_front.proofs.shorter.shorter_paths.Given as goal
 
 -- the paths of fewer scenes so far, and the last of their layers

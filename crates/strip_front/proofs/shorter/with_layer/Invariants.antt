@@ -1,7 +1,7 @@
 use Rattle.std.proofs.Common.{map, take}
 use Rattle.strip_film.specs.Shown.{path_data}
 use Rattle.strip_lines.specs.Lines.{rules_of}
-use Rattle.strip_front.specs.Shown.{paths_of}
+use Rattle.strip_paths.specs.Shown.{paths_of}
 use Rattle.strip_front.proofs.Onward.{AreFollowed}
 use Rattle.strip_front.proofs.shorter.with_layer.Given as goal
 

@@ -19,11 +19,11 @@ pub struct PathsBySet {
 }
 
 impl PathsBySet {
-    ghost use Rattle.strip_front.specs.Layers.{with_path};
-    ghost use Rattle.strip_front.specs.Shown.{paths_of};
+    ghost use Rattle.strip_paths.specs.Paths.{with_path};
+    ghost use Rattle.strip_paths.specs.Shown.{paths_of};
 
     /// No paths.
-    pub(crate) fn new(alloc: Global) -> PathsBySet
+    pub fn new(alloc: Global) -> PathsBySet
         ensures { paths_of result ≡ [] }
     {
         PathsBySet {
@@ -33,7 +33,7 @@ impl PathsBySet {
     }
 
     /// These paths, in their order.
-    pub(crate) fn of(alloc: Global, paths: Vec<Path>) -> Result<PathsBySet, Memory>
+    pub fn of(alloc: Global, paths: Vec<Path>) -> Result<PathsBySet, Memory>
         requires apart { AllPairs (λ a b. a.rest ≢ b.rest) (map path_data paths.items) }
         ensures { IfOk result (λ by_set. by_set.paths ≡ paths) }
     {
@@ -58,9 +58,17 @@ impl PathsBySet {
         self.sets.get_index_of(&rest.0)
     }
 
+    /// The sets that the paths leave, in the order of the paths.
+    pub fn into_sets(self) -> IndexSet<u64>
+        ensures { result.keys ≡ map (λ path. path.rest) (paths_of self) }
+    {
+        let PathsBySet { sets, .. } = self;
+        sets
+    }
+
     /// Adds the path behind the others, or puts it in the place of the one that leaves the same scenes and
     /// pays more.
-    pub(crate) fn put(&mut self, path: &Path) -> Result<(), Memory>
+    pub fn put(&mut self, path: &Path) -> Result<(), Memory>
         ensures { IfOk result (λ _. paths_of self.new ≡ with_path (paths_of self.old) (path_data path.now)) }
     {
         match self.place_of(path.rest()) {

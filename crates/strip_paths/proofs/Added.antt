@@ -5,7 +5,7 @@ use Rattle.std.proofs.lemmas.Bool.{cond_both, eqb-true, eqb-false, ltb-true, ltb
 use Rattle.std.proofs.lemmas.List.Elements.{All-nil, All-cons, All-head, All-tail}
 use Rattle.strip_pay.proofs.Lists.{contains_cases, contains_here, contains_later, contains_none}
 use Rattle.strip_film.specs.Path.{PathData}
-use Rattle.strip_front.specs.Layers.{with_path}
+use Rattle.strip_paths.specs.Paths.{with_path}
 
 -- the one that stays at a place: the path, where it pays less than the task
 abbrev cheaper : PathData → PathData → PathData
@@ -41,7 +41,7 @@ EachPair R (task ∷ tasks) = All (R task) tasks × EachPair R tasks
 abbrev pub AreApart : List PathData → Type 0
 AreApart tasks = EachPair Differs tasks
 
-apart_with : (tasks : List PathData) (path : PathData) → AreApart tasks → AreApart (with_path tasks path)
+pub apart_with : (tasks : List PathData) (path : PathData) → AreApart tasks → AreApart (with_path tasks path)
 apart_with [] path apart = (All-nil (Differs path), tt)
 apart_with (task ∷ tasks) path apart =
     cond_both (eqb task.rest path.rest) (cheaper path task ∷ tasks) (task ∷ with_path tasks path) AreApart
@@ -89,7 +89,7 @@ cheaper_pays path task tasks rest most same is one =
       | inr that ↦ that
     ]))
 
-pays_still : (tasks : List PathData) (path : PathData) (rest most : ℕ) → Pays tasks rest most → Pays (with_path tasks path) rest most
+pub pays_still : (tasks : List PathData) (path : PathData) (rest most : ℕ) → Pays tasks rest most → Pays (with_path tasks path) rest most
 pays_still [] path rest most found = absurd (contains_none found.0 found.1)
 pays_still (task ∷ tasks) path rest most found =
     cond_both (eqb task.rest path.rest) (cheaper path task ∷ tasks) (task ∷ with_path tasks path) (λ all. Pays all rest most)
@@ -105,14 +105,14 @@ pays_still (task ∷ tasks) path rest most found =
       | inr later ↦ pays_later task (with_path tasks path) rest most (pays_still tasks path rest most (found.0, later, found.2, found.3))
     ])
 
-pays_new : (tasks : List PathData) (path : PathData) → Pays (with_path tasks path) path.rest path.paid
+pub pays_new : (tasks : List PathData) (path : PathData) → Pays (with_path tasks path) path.rest path.paid
 pays_new [] path = pays_here path [] path.rest path.paid refl (omega arith)
 pays_new (task ∷ tasks) path =
     cond_both (eqb task.rest path.rest) (cheaper path task ∷ tasks) (task ∷ with_path tasks path) (λ all. Pays all path.rest path.paid)
     (λ same. cheaper_pays path task tasks path.rest path.paid (eqb-true task.rest path.rest same) (eqb-true task.rest path.rest same) (inl (omega arith)))
     (λ other. pays_later task (with_path tasks path) path.rest path.paid (pays_new tasks path))
 
-pays_kept : (tasks paths : List PathData) (rest most : ℕ) → Pays tasks rest most → Pays (fold with_path tasks paths) rest most
+pub pays_kept : (tasks paths : List PathData) (rest most : ℕ) → Pays tasks rest most → Pays (fold with_path tasks paths) rest most
 pays_kept tasks [] rest most found = found
 pays_kept tasks (path ∷ paths) rest most found = pays_kept (with_path tasks path) paths rest most (pays_still tasks path rest most found)
 

@@ -4,10 +4,10 @@ use Rattle.std.proofs.lemmas.List.{get_or-map, length-map, map-append, map-set}
 use Rattle.strip_film.specs.declared.path.Path.{Path}
 use Rattle.strip_film.specs.Path.{PathData}
 use Rattle.strip_film.specs.Shown.{path_data}
-use Rattle.strip_front.specs.Shown.{paths_of}
-use Rattle.strip_front.proofs.Placed.{leaves, place_within, put_end, put_nowhere, put_there, same_rests}
-use Rattle.strip_front.proofs.Rests.{rests}
-use Rattle.strip_front.proofs.by_set.PathsBySet.put.Goals as goal
+use Rattle.strip_paths.specs.Shown.{paths_of}
+use Rattle.strip_paths.proofs.Placed.{leaves, place_within, put_end, put_nowhere, put_there, same_rests}
+use Rattle.strip_paths.proofs.Rests.{rests}
+use Rattle.strip_paths.proofs.by_set.PathsBySet.put.Goals as goal
 
 -- the path at a place, as it is seen
 stands : (items : List Path) (there : Path) (path : PathData) (rest place : ℕ) → rest ≡ path.rest → position (leaves rest) (map path_data items) ≡ Some place

@@ -3,8 +3,8 @@ use Rattle.std.proofs.lemmas.List.{get_or-map, length-map}
 use Rattle.strip_film.specs.declared.path.Path.{Path}
 use Rattle.strip_film.specs.Path.{PathData}
 use Rattle.strip_film.specs.Shown.{path_data}
-use Rattle.strip_front.proofs.Rests.{LeaveOthers, others_from, rests, rests_taken}
-use Rattle.strip_front.proofs.by_set.PathsBySet.of.Goals as goal
+use Rattle.strip_paths.proofs.Rests.{LeaveOthers, others_from, rests, rests_taken}
+use Rattle.strip_paths.proofs.by_set.PathsBySet.of.Goals as goal
 
 -- how many sets there are, and which is the one of a path
 count : (items : List Path) → length (rests (map path_data items)) ≡ length items

@@ -3,9 +3,9 @@ use Rattle.std.specs.Result.{IsOk, OnOk}
 use Rattle.std.proofs.lemmas.List.{map-append}
 use Rattle.indexmap.specs.IndexSet.{insert_key}
 use Rattle.strip_film.specs.Shown.{path_data}
-use Rattle.strip_front.specs.Shown.{paths_of}
-use Rattle.strip_front.proofs.Rests.{rests, rests_pushed}
-use Rattle.strip_front.proofs.by_set.PathsBySet.push.Goals as goal
+use Rattle.strip_paths.specs.Shown.{paths_of}
+use Rattle.strip_paths.proofs.Rests.{rests, rests_pushed}
+use Rattle.strip_paths.proofs.by_set.PathsBySet.push.Goals as goal
 
 -- what holds where there is a value, where there is one
 on_ok : {T E : Type 0} (result : Result T E) (P : Type 0) → IsOk result → OnOk result P → P

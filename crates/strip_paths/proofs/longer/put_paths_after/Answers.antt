@@ -5,11 +5,11 @@ use Rattle.strip_film.specs.Path.{PathData}
 use Rattle.strip_film.specs.Shown.{path_data}
 use Rattle.strip_film.proofs.Paths.{rest_lies}
 use Rattle.strip_rule.specs.Rule.{open_firsts}
-use Rattle.strip_front.specs.Layers.{with_path}
-use Rattle.strip_front.specs.Shown.{paths_of}
-use Rattle.strip_front.proofs.Extended.{all_extended, extended}
-use Rattle.strip_front.proofs.Open.{first_ready}
-use Rattle.strip_front.proofs.layer.put_paths_after.Goals as goal
+use Rattle.strip_paths.specs.Paths.{with_path}
+use Rattle.strip_paths.specs.Shown.{paths_of}
+use Rattle.strip_paths.proofs.After.{all_extended, extended}
+use Rattle.strip_paths.proofs.Open.{first_ready}
+use Rattle.strip_paths.proofs.longer.put_paths_after.Goals as goal
 
 pub open_firsts-requires : goal.open_firsts-requires
 open_firsts-requires c = rw c.rest.ensures (rest_lies c.args.film.now (path_data c.args.path.now) c.requires.path)

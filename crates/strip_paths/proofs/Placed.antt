@@ -7,7 +7,7 @@ use Rattle.std.proofs.lemmas.List.Quantifiers.{position-Some}
 use Rattle.std.proofs.lemmas.List.Sums.{fails_before_first}
 use Rattle.std.proofs.Math.Seq.{map-set_same}
 use Rattle.strip_film.specs.Path.{PathData}
-use Rattle.strip_front.specs.Layers.{with_path}
+use Rattle.strip_paths.specs.Paths.{with_path}
 
 -- the path leaves this set
 abbrev pub leaves : ℕ → PathData → Bool

@@ -1,7 +1,7 @@
 use Rattle.std.proofs.Common.{◌≡◌, map, take}
 use Rattle.strip_film.specs.Shown.{path_data}
-use Rattle.strip_front.proofs.Rests.{rests}
-use Rattle.strip_front.proofs.by_set.PathsBySet.of.Given as goal
+use Rattle.strip_paths.proofs.Rests.{rests}
+use Rattle.strip_paths.proofs.by_set.PathsBySet.of.Given as goal
 
 -- the sets of the paths so far
 abbrev pub invariant-loop-path : goal.invariant-loop-path
