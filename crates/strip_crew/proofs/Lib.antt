@@ -9,3 +9,5 @@ pub mod Dealt
 pub mod Queued
 pub mod Pooled
 pub mod Once
+pub mod Spread
+pub mod Taken

@@ -1,3 +1,4 @@
 pub mod Sources
 pub mod Crew
 pub mod Race
+pub mod Spread

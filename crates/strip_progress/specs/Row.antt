@@ -1,6 +1,7 @@
 -- The text of a row.
 use Rattle.std.specs.Prelude.{ℕ, List, ◌++◌, ◌==◌, codes, if◌then◌else◌}
 use Rattle.std.specs.Fmt.{decimal}
+use Rattle.strip_worker.specs.declared.gate.Limit.{Limit}
 use Rattle.strip_progress.specs.declared.row.Row.{Row}
 
 -- the word behind so many
@@ -12,3 +13,10 @@ abbrev pub row_text : Row → List ℕ
 row_text row =
     decimal row.begun ++ (codes " of " ++ (decimal row.wanted ++ (codes " tasks begun, by "
     ++ (decimal row.workers ++ (codes " " ++ workers_word row.workers)))))
+
+-- as "limit 5 of 16: cost 104319, bound 85504, 1444 of 20000 lines"
+abbrev pub limit_text : Limit → List ℕ
+limit_text limit =
+    codes "limit " ++ (decimal limit.number ++ (codes " of " ++ (decimal limit.steps ++ (codes ": cost "
+    ++ (decimal limit.cost ++ (codes ", bound " ++ (decimal limit.bound ++ (codes ", "
+    ++ (decimal limit.lines ++ (codes " of " ++ (decimal limit.most ++ codes " lines")))))))))))

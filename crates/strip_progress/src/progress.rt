@@ -1,11 +1,12 @@
 // A gate that tells how a search gets on.
 use crate::counts::Counts;
-use strip_worker::Gate;
+use crate::row::LimitRow;
+use strip_worker::{Gate, Limit};
 
 /// A gate that holds nobody and tells on standard error how a search gets on: with each further fortieth
 /// of the tasks that are asked for, how many of them were begun and by how many workers. Where workers
-/// begin tasks at the same time, the later of two rows may come first. A row that can't be written is
-/// passed over.
+/// begin tasks at the same time, the later of two rows may come first. Of a search by layers it tells each limit
+/// that was reached. A row that can't be written is passed over.
 #[derive(Drop)]
 pub struct Progress<'r, R: Eprint> {
     host: &'r R,
@@ -31,5 +32,9 @@ impl<'r, R: Eprint + Sync> Gate for Progress<'r, R> {
         if let Some(row) = self.counts.begin(worker) {
             let _ = self.host.eprintln(row);
         }
+    }
+
+    fn reached(&self, limit: &Limit) {
+        let _ = self.host.eprintln(LimitRow { limit: *limit });
     }
 }

@@ -3,6 +3,7 @@ ghost use Rattle.std.specs.Prelude.{◌≡◌};
 ghost use Rattle.strip_progress.specs.Row.{workers_word};
 
 use std::fmt;
+use strip_worker::Limit;
 
 /// How many tasks were begun, how many are asked for, and how many workers began them.
 #[derive(Drop)]
@@ -26,6 +27,34 @@ impl fmt::Display for Row {
         } = self;
         let word = workers_word(*workers);
         write!(f, "{begun} of {wanted} tasks begun, by {workers} {word}")
+    }
+}
+
+/// A limit that a search by layers reached.
+#[derive(Drop)]
+pub(crate) struct LimitRow {
+    pub(crate) limit: Limit,
+}
+
+impl fmt::Display for LimitRow {
+    ghost use Rattle.std.specs.Prelude.{Some};
+    ghost use Rattle.strip_progress.specs.Row.{limit_text};
+
+    ghost output = { λ row. Some (limit_text row.limit) };
+
+    fn fmt<W: fmt::Write>(&self, f: &mut fmt::Formatter<W>) -> fmt::Result {
+        let Limit {
+            number,
+            steps,
+            cost,
+            bound,
+            lines,
+            most,
+        } = self.limit;
+        write!(
+            f,
+            "limit {number} of {steps}: cost {cost}, bound {bound}, {lines} of {most} lines"
+        )
     }
 }
 

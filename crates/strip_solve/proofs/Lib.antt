@@ -1,3 +1,3 @@
 mod Back
 mod Readable
-mod Climbs
+mod Given_on

@@ -1,4 +1,3 @@
 pub mod Solved
 pub mod Searched
 pub mod Answer
-pub mod Outset

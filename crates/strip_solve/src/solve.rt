@@ -16,15 +16,17 @@ ghost use Rattle.strip_worker.specs.Shown.{ended_data};
 ghost use Rattle.strip_proof.specs.Plan.{plan_data};
 ghost use Rattle.strip_solve.specs.Answer.{IsAnswerFor, MayBe};
 ghost use Rattle.strip_solve.specs.Searched.{IsProofOf, IsSearchedFrom, IsTrimmed};
-ghost use Rattle.strip_solve.specs.Solved.{IsSolved, IsStart, IsVaried};
+ghost use Rattle.strip_solve.specs.Solved.{IsSolved, IsStart};
 
-use crate::outset::{end_alone, end_beside};
+use crate::ending::{end_alone, layers_beside};
+use crate::told::Told;
 use std::alloc::Global;
 use std::marker::Brand;
 use std::sync::Wait;
 use std::thread::Threads;
 use strip_bound::{BoundTables, StoredBound, static_reach};
 use strip_count::laws::paths_are_few;
+use strip_crew::race;
 use strip_film::laws::{a_least_tail_exists, finishing_everything_is_the_optimum};
 use strip_film::{Film, Line, Path};
 use strip_io::Memory;
@@ -40,6 +42,7 @@ use strip_start::{greedy, improve, vary, vary_beside};
 use strip_store::{Bounded, Store};
 use strip_trim::trim;
 use strip_worker::{Ended, Gate, OpenGate};
+use strip_world::Limits;
 
 /// How often the order that a search begins with is varied for each class, where nothing is said of it.
 const TRIES_A_CLASS: u32 = 5_000;
@@ -56,7 +59,7 @@ pub struct SearchOptions {
     /// How often the order that the search begins with is varied before, 5,000 times for each class where
     /// nothing is said.
     pub tries: Option<u32>,
-    /// In how many steps the bound of all scenes is raised before the search; nothing where it isn't raised so.
+    /// In how many steps the bound of all scenes is raised by a search by layers; none if the search goes path by path.
     pub steps: Option<u32>,
     /// Whether each of several workers has a queue of tasks and takes from the others' where his own is empty.
     pub steal: bool,
@@ -133,7 +136,11 @@ fn solve_classes<G: Gate>(
     let film = &reduced.film;
     film.keeps_limits();
     let start = improve(film, &greedy(film));
-    let searched = search(alloc, film, &start, options, gate)?;
+    let told = Told {
+        gate,
+        apart: reduced.apart,
+    };
+    let searched = search(alloc, film, &start, options, &told)?;
     plan_of(alloc, reduced, &start, options, searched)
 }
 
@@ -154,7 +161,11 @@ fn solve_classes_beside<R: Threads + Wait + Sync, G: Gate>(
     let film = &reduced.film;
     film.keeps_limits();
     let start = improve(film, &greedy(film));
-    let searched = search_beside(rt, alloc, film, &start, options, workers, gate)?;
+    let told = Told {
+        gate,
+        apart: reduced.apart,
+    };
+    let searched = search_beside(rt, alloc, film, &start, options, workers, &told)?;
     plan_of(alloc, reduced, &start, options, searched)
 }
 
@@ -173,7 +184,7 @@ fn search<G: Gate>(
     film: &Film,
     start: &Path,
     options: SearchOptions,
-    gate: &G,
+    gate: &Told<G>,
 ) -> Result<Searched, Memory>
     requires start { IsComplete film.now (path_data start.now) }
     requires options { MayBe options }
@@ -202,7 +213,7 @@ fn search_beside<R: Threads + Wait + Sync, G: Gate>(
     start: &Path,
     options: SearchOptions,
     workers: u32,
-    gate: &G,
+    gate: &Told<G>,
 ) -> Result<Searched, Memory>
     requires start { IsComplete film.now (path_data start.now) }
     requires options { MayBe options }
@@ -213,7 +224,39 @@ fn search_beside<R: Threads + Wait + Sync, G: Gate>(
     let kept = StoredBound::new(film, options.kind, |q, need| {
         static_reach(film, &tables, options.kind, Mask(q), need)
     });
-    search_stored::<Brand, R, _, G>(rt, alloc, &kept, start, options, workers, gate)
+    match options.steps {
+        None => search_stored::<Brand, R, _, G>(rt, alloc, &kept, start, options, workers, gate),
+        Some(steps) => search_layers(rt, alloc, &kept, start, options, steps, workers, gate),
+    }
+}
+
+/// The same by layers, in so many steps. Workers then share nothing but answers, so that no store is made.
+fn search_layers<R: Threads + Wait + Sync, F: Fn(u64, u64) -> u64 + Sync, G: Gate>(
+    rt: &R,
+    alloc: Global,
+    kept: &StoredBound<F>,
+    start: &Path,
+    options: SearchOptions,
+    steps: u32,
+    workers: u32,
+    gate: &Told<G>,
+) -> Result<Searched, Memory>
+    requires keeps { Keeps (F.pre kept.now.f) (F.post kept.now.f) kept.now.kind kept.now.film.now }
+    requires start { IsComplete kept.now.film.now (path_data start.now) }
+    requires options { MayBe options }
+    requires workers { (2 ≤ workers) × (workers ≤ 64) }
+    ensures { IfOk result (IsSearchedFrom kept.now.kind kept.now.film.now (path_data start.now) options.nodes) }
+{
+    let tries = useful_tries(kept, start, options.tries);
+    let begun = vary_beside(rt, kept.film(), start, tries, workers);
+    let ended = layers_beside(rt, alloc, kept, &begun, steps, options.nodes, workers, gate)?;
+    let mut memo = Memo::new(alloc, kept)?;
+    let trimmed = trimmed(alloc, kept, &mut memo, &ended)?;
+    Ok(Searched {
+        begun,
+        ended,
+        trimmed,
+    })
 }
 
 /// The same by a bound that is at hand, where the locks of the store know whose bounds they guard.
@@ -229,7 +272,7 @@ fn search_stored<
     start: &Path,
     options: SearchOptions,
     workers: u32,
-    gate: &G,
+    gate: &Told<G>,
 ) -> Result<Searched, Memory>
     requires kind { kept.now.kind ≡ N.kind }
     requires film { kept.now.film.now ≡ N.film }
@@ -249,8 +292,20 @@ fn search_stored<
     let begun = vary_beside(rt, kept.film(), start, tries, workers);
     // The caller has a memo too.
     let mut memo = Memo::among(alloc, &stored, workers + 1)?;
-    let ended = end_beside(
-        rt, alloc, &stored, &mut memo, &begun, options, workers, gate,
+    let limits = Limits {
+        workers,
+        cap: options.nodes,
+        entries: options.entries,
+    };
+    let ended = race(
+        rt,
+        alloc,
+        &stored,
+        &mut memo,
+        &begun,
+        limits,
+        options.steal,
+        gate,
     )?;
     let trimmed = trimmed(alloc, &stored, &mut memo, &ended)?;
     Ok(Searched {

@@ -1,5 +1,5 @@
 -- A search ends: its front is closed up, and what is known of all scenes is the bound.
-use Rattle.std.proofs.Common.{◌≡◌, ℕ, suc, ◌<◌, ◌≤◌, Bool, true, false, Some, Result, Ok, Err, IfOk, List, length, count_by, eqb, inl, inr, refl, sym, ap, ◌∙◌, subst, arith}
+use Rattle.std.proofs.Common.{◌≡◌, ℕ, suc, ◌<◌, ◌≤◌, Bool, true, false, Result, Ok, Err, IfOk, List, length, count_by, eqb, inl, inr, refl, sym, ap, ◌∙◌, subst, arith}
 use Rattle.std.proofs.lemmas.Bool.{cases_Bool}
 use Rattle.strip_io.specs.declared.files.Memory.{Memory}
 use Rattle.strip_mask.proofs.Below.{LiesBelow-full}
@@ -15,7 +15,7 @@ use Rattle.strip_film.specs.Rules.{BeginLeast, BoundsFinish}
 use Rattle.strip_film.specs.Shown.{CursorData}
 use Rattle.strip_film.proofs.Orders.{AllOnce-from_order, kept_from_ready, ready_from_order}
 use Rattle.strip_film.proofs.StepSum.{steps_are_pay}
-use Rattle.strip_lines.specs.Lines.{ahead, known, line_at, rules_of}
+use Rattle.strip_lines.specs.Lines.{known, rules_of}
 use Rattle.strip_lines.proofs.Grown.{known-grows}
 use Rattle.strip_lines.proofs.Justified.{known_is_true}
 use Rattle.strip_count.specs.Paths.{candidate_count, leaving_count}
@@ -25,7 +25,6 @@ use Rattle.strip_hand.specs.Search.{GoesBy, SearchData, depth_of, search_rules}
 use Rattle.strip_world.proofs.True.{tasks_apart}
 use Rattle.strip_front.specs.Calls.{AllReach, GoesDown, IsClosedUp, Learns}
 use Rattle.strip_front.specs.Front.{FrontData, root_of}
-use Rattle.strip_front.specs.Filled.{IsWhole}
 use Rattle.strip_worker.specs.Closed.{EndsFrom, HasAll, IsClosed, IsSettled, known_of_all, record_in}
 use Rattle.strip_worker.specs.declared.ended.Ended.{Ended}
 use Rattle.strip_worker.specs.Ended.{EndedData, IsEnded}

@@ -5,7 +5,7 @@ use std::sync::Wait;
 use std::sync::atomic::{AtomicBool, AtomicU32, AtomicU64, Ordering};
 use std::test::Fail;
 use std::thread::Threads;
-use strip_worker::Gate;
+use strip_worker::{Gate, Limit};
 
 /// Holds the worker that begins a task first until another one begins a task, for a bounded number of turns.
 #[derive(Drop)]
@@ -57,6 +57,8 @@ impl Gate for Meeting {
             self.hold(own);
         }
     }
+
+    fn reached(&self, _limit: &Limit) {}
 }
 
 /// Whether two workers met in a race of two.
@@ -134,6 +136,8 @@ impl Gate for Holding {
             self.fell.store(true, Ordering::SeqCst);
         }
     }
+
+    fn reached(&self, _limit: &Limit) {}
 }
 
 /// The least part that a worker begins.
@@ -148,6 +152,8 @@ impl Gate for Least {
     fn enter(&self, _worker: u32, part: u32) {
         self.part.fetch_min(part, Ordering::SeqCst);
     }
+
+    fn reached(&self, _limit: &Limit) {}
 }
 
 /// Whether the tasks that are begun beside the first, which is held, come in another order than that of their

@@ -1,4 +1,0 @@
-pub mod Ascent
-pub mod Begun
-pub mod Climbed
-pub mod Shown

@@ -1,0 +1,158 @@
+// Asks that several workers answer at once.
+ghost use Rattle.std.specs.Prelude.{◌≡◌, ◌*◌, ◌<◌, ◌≤◌, ◌^◌, All, IfOk, false, length};
+ghost use Rattle.strip_kind.specs.declared.kind.Kind.{Kind};
+ghost use Rattle.strip_pay.specs.Film.{FilmData};
+ghost use Rattle.strip_film.specs.Film.{LiesIn};
+ghost use Rattle.strip_bound.specs.StoredBound.{Keeps};
+ghost use Rattle.strip_layers.specs.Asks.{AreAnswered, IsAnswer, Suffices};
+ghost use Rattle.strip_crew.specs.Spread.{AnswersAll, AreValues, IsValue, ask_of};
+
+use std::alloc::Global;
+use std::thread;
+use std::thread::Threads;
+use strip_bound::StoredBound;
+use strip_film::Film;
+use strip_io::Memory;
+use strip_layers::{Answers, Ask, answer_in_turn};
+use strip_mask::Mask;
+
+/// With fewer sets than this that aren't known, no threads are started.
+const FEW: usize = 64;
+
+/// Several workers, who answer the sets of a layer at once, each in a thread: `by` is a closure that calls
+/// `answer_beside`. It is made by who has the workers, as a method of a trait can't hand the stored bound to threads.
+#[derive(Drop)]
+pub struct Beside<'k, 'f, F: Fn(u64, u64) -> u64, G: Fn(&mut [Ask]) -> Result<(), Memory>> {
+    pub kept: &'k StoredBound<'f, F>,
+    pub by: G,
+}
+
+impl<'k, 'f, F: Fn(u64, u64) -> u64, G: Fn(&mut [Ask]) -> Result<(), Memory>> Answers
+    for Beside<'k, 'f, F, G> {
+    ghost film = { λ beside. beside.kept.now.film.now };
+
+    ghost kind = { λ beside. beside.kept.now.kind };
+
+    ghost is_ready = { λ beside.
+        Keeps (F.pre beside.kept.now.f) (F.post beside.kept.now.f) beside.kept.now.kind beside.kept.now.film.now
+        × AnswersAll (G.pre beside.by) (G.post beside.by) beside.kept.now.kind beside.kept.now.film.now };
+
+    fn film(&self) -> &Film {
+        self.kept.film()
+    }
+
+    fn bound(&self, set: Mask) -> u64 {
+        self.kept.at(set)
+    }
+
+    fn answer(&self, asks: &mut [Ask]) -> Result<(), Memory> {
+        (self.by)(asks)
+    }
+}
+
+/// Answers each ask that isn't known, by so many workers at once, or by the caller alone where fewer than `FEW` aren't.
+/// It asks the stored bound once for each of them, and keeps one number for each ask and at most one more for each
+/// worker.
+pub fn answer_beside<R: Threads + Sync, F: Fn(u64, u64) -> u64 + Sync>(
+    rt: &R,
+    alloc: Global,
+    kept: &StoredBound<F>,
+    workers: u32,
+    asks: &mut [Ask],
+) -> Result<(), Memory>
+    requires workers { 0 < workers }
+    requires keeps { Keeps (F.pre kept.now.f) (F.post kept.now.f) kept.now.kind kept.now.film.now }
+    requires lies { All (λ ask. LiesIn kept.now.film.now ask.set) asks.old }
+    ensures { IfOk result (λ _. AreAnswered kept.now.kind kept.now.film.now asks.old asks.new) }
+{
+    if unknown_count(asks) < FEW {
+        answer_in_turn(kept, asks);
+        return Ok(());
+    }
+    let workers = workers as usize;
+    let turns = asks.len().div_ceil(workers);
+    let mut room = vec![in alloc; 0u64; turns * workers]?;
+    let values = &mut room[..];
+    find_values(rt, kept, asks, turns, workers, values);
+    take_values(asks, turns, workers, values);
+    Ok(())
+}
+
+/// How many asks aren't known.
+fn unknown_count(asks: &[Ask]) -> usize {
+    asks.iter().filter(|ask| !ask.is_known).count()
+}
+
+/// Finds the value of each ask that isn't known, by so many workers at once. Neighbours, which cost about the same, go
+/// to the workers by turns, and each worker has `turns` values in a row.
+fn find_values<R: Threads + Sync, F: Fn(u64, u64) -> u64 + Sync>(
+    rt: &R,
+    kept: &StoredBound<F>,
+    asks: &[Ask],
+    turns: usize,
+    workers: usize,
+    values: &mut [u64],
+)
+    requires workers { 0 < workers }
+    requires room { length values.old ≡ turns * workers }
+    requires keeps { Keeps (F.pre kept.now.f) (F.post kept.now.f) kept.now.kind kept.now.film.now }
+    requires lies { All (λ ask. LiesIn kept.now.film.now ask.set) asks.now }
+    ensures { AreValues kept.now.kind kept.now.film.now asks.now turns workers values.new }
+{
+    thread::for_each_mut(
+        rt,
+        values,
+        workers,
+        &|place, value| {
+            *value = value_at(kept, asks, turns, workers, place);
+        },
+    );
+}
+
+/// The value of the ask that stands at this place, where there is one that isn't known, else 0. It asks the stored
+/// bound at most once.
+fn value_at<F: Fn(u64, u64) -> u64>(
+    kept: &StoredBound<F>,
+    asks: &[Ask],
+    turns: usize,
+    workers: usize,
+    place: usize,
+) -> u64
+    requires room { turns * workers < 2 ^ 64 }
+    requires place { place < turns * workers }
+    requires keeps { Keeps (F.pre kept.now.f) (F.post kept.now.f) kept.now.kind kept.now.film.now }
+    requires lies { All (λ ask. LiesIn kept.now.film.now ask.set) asks.now }
+    ensures { IsValue kept.now.kind kept.now.film.now asks.now (ask_of turns workers place) result }
+{
+    match asks.get(place % turns * workers + place / turns) {
+        Some(ask) if !ask.is_known => kept.reach(Mask(ask.set), ask.need),
+        _ => 0,
+    }
+}
+
+/// Writes each value to its ask, where that isn't known: one pass over the asks.
+fn take_values(asks: &mut [Ask], turns: usize, workers: usize, values: &[u64])
+    requires workers { 0 < workers }
+    requires turns { length asks.old ≤ turns * workers }
+    requires room { length values.now ≡ turns * workers }
+    ensures { (kind : Kind) (film : FilmData) → AreValues kind film asks.old turns workers values.now
+        → AreAnswered kind film asks.old asks.new }
+{
+    for number in 0..asks.len() {
+        take_value(
+            &mut asks[number],
+            values[number % workers * turns + number / workers],
+        );
+    }
+}
+
+/// Writes a value to an ask, if that isn't known.
+fn take_value(ask: &mut Ask, value: u64)
+    ensures { (kind : Kind) (film : FilmData)
+        → (ask.old.is_known ≡ false → Suffices kind film ask.old.set ask.old.need value)
+        → IsAnswer kind film ask.old ask.new }
+{
+    if !ask.is_known {
+        ask.value = value;
+    }
+}

@@ -1,0 +1,16 @@
+pub mod Sets
+pub mod Apart
+pub mod Grown
+pub mod Opened
+pub mod Looked
+pub mod Leasts
+pub mod Places
+pub mod Raised
+pub mod Rising
+pub mod Answered
+pub mod Going
+pub mod Complete
+pub mod Opening
+pub mod Behind
+pub mod Asked
+pub mod Ended

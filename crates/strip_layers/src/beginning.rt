@@ -1,0 +1,59 @@
+// How a search by layers begins.
+ghost use Rattle.std.specs.Prelude.{◌≡◌, ◌<◌, ◌≤◌, IfOk, false};
+ghost use Rattle.strip_film.specs.Film.{all_scenes};
+ghost use Rattle.strip_film.specs.Path.{IsComplete};
+ghost use Rattle.strip_film.specs.Shown.{path_data};
+ghost use Rattle.strip_bound.specs.Bounds.{bound};
+ghost use Rattle.strip_lines.specs.Lines.{rules_of};
+ghost use Rattle.strip_layers.specs.Begun.{HasBegun, LooksAhead};
+ghost use Rattle.strip_layers.specs.Search.{AreTrue};
+ghost use Rattle.strip_layers.specs.Shown.{search_data};
+
+use crate::ask::Answers;
+use crate::state::Search;
+use std::alloc::Global;
+use strip_film::{Path, on, step_with};
+use strip_io::Memory;
+use strip_rule::open_firsts_with;
+
+/// A search with one line, that of all scenes, which has their look-ahead.
+pub(crate) fn begin<A: Answers>(
+    alloc: Global,
+    answers: &A,
+    start: &Path,
+    cap: u32,
+    static_bound: u64,
+) -> Result<Search, Memory>
+    requires ready { A.is_ready answers.now }
+    requires start { IsComplete (A.film answers.now) (path_data start.now) }
+    requires some { 1 ≤ cap }
+    requires bound { static_bound ≡ bound (A.kind answers.now) (A.film answers.now) (all_scenes (A.film answers.now)) }
+    requires below { static_bound < (path_data start.now).paid }
+    ensures found { IfOk result (λ search. AreTrue (A.kind answers.now) (A.film answers.now) search.found.entries) }
+    ensures begun { IfOk result (λ search. HasBegun (rules_of (A.kind answers.now) (A.film answers.now)) (path_data start.now) cap
+        (search_data search)) }
+{
+    let film = answers.film();
+    film.keeps_limits();
+    let mut search = Search::new(alloc, start, cap);
+    search.add(film.all(), static_bound)?;
+    search.raise(0, look_ahead(answers));
+    Ok(search)
+}
+
+/// The least, over the open firsts of all scenes, of a step and the static bound of what then remains, in units of money.
+fn look_ahead<A: Answers>(answers: &A) -> u64
+    requires { A.is_ready answers.now }
+    ensures { LooksAhead (rules_of (A.kind answers.now) (A.film answers.now)) result }
+{
+    let film = answers.film();
+    film.keeps_limits();
+    let all = film.all();
+    let on = on(film, all);
+    let mut least = u64::MAX;
+    for s in open_firsts_with(film, all, on).iter() {
+        let behind = answers.bound(all.without(s));
+        least = least.min(step_with(film, on, s).saturating_add(behind));
+    }
+    least
+}

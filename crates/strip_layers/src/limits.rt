@@ -1,0 +1,92 @@
+// The limits that a search rises by, and what is told of them.
+ghost use Rattle.std.specs.Prelude.{◌≡◌, ◌<◌, ◌≤◌, ◌==◌, ◌+◌};
+
+/// How many times the step is halved before a walk may use up the lines.
+const HALVINGS: u32 = 2;
+
+/// What is told of a limit that was reached: its number, counted in whole steps, and how many steps there are; what the
+/// best path pays and the bound of all scenes, in units of money; how many lines there are, and how many there may be.
+#[derive(Clone, Copy, Debug)]
+pub struct Reached {
+    pub number: u64,
+    pub steps: u32,
+    pub cost: u64,
+    pub bound: u64,
+    pub lines: usize,
+    pub most: u32,
+}
+
+/// Who is told how a search by layers gets on.
+pub trait Watch {
+    /// A limit was reached. The search goes on once the call returns.
+    fn reached(&self, at: &Reached);
+}
+
+/// A walk below a limit, in units of money, and whether it may use up the lines.
+#[derive(Clone, Copy, Debug)]
+pub(crate) struct Walk {
+    pub limit: u64,
+    pub may_spend: bool,
+}
+
+/// The limits of a search. They rise by a step from what is proved; a step that needs too many lines is halved.
+#[derive(Clone, Copy, Debug)]
+pub(crate) struct Limits {
+    ahead: u64,
+    whole_step: u64,
+    steps: u32,
+    step: u64,
+    halvings: u32,
+    pub ghost some: { 0 < step },
+    pub ghost few: { halvings ≤ 2 },
+}
+
+impl Limits {
+    /// So many equal steps, at least one, from the look-ahead of all scenes to what the path at the start pays.
+    pub(crate) fn new(ahead: u64, goal: u64, steps: u32) -> Limits
+        ensures { result.halvings ≡ 0 }
+    {
+        let steps = steps.max(1);
+        let step = goal.saturating_sub(ahead).div_ceil(u64::from(steps)).max(1);
+        Limits {
+            ahead,
+            whole_step: step,
+            steps,
+            step,
+            halvings: 0,
+        }
+    }
+
+    /// The next walk: a step above what is proved, and at most what the best path pays.
+    pub(crate) fn next(&self, proved: u64, cost: u64) -> Walk
+        requires { proved < cost }
+        ensures more { proved < result.limit }
+        ensures most { result.limit ≤ cost }
+        ensures spend { result.may_spend ≡ (self.now.halvings == 2) }
+    {
+        Walk {
+            limit: proved.saturating_add(self.step).min(cost),
+            may_spend: self.halvings == HALVINGS,
+        }
+    }
+
+    /// Halves the step.
+    pub(crate) fn halve(&mut self)
+        requires { self.old.halvings < 2 }
+        ensures { self.new.halvings ≡ self.old.halvings + 1 }
+    {
+        self.step = self.step.div_ceil(2);
+        self.halvings += 1;
+    }
+
+    /// How many whole steps lie below what is proved.
+    pub(crate) fn number(&self, proved: u64) -> u64 {
+        let gone = proved.saturating_sub(self.ahead) / self.whole_step.max(1);
+        gone.min(u64::from(self.steps))
+    }
+
+    /// How many steps there are.
+    pub(crate) fn steps(&self) -> u32 {
+        self.steps
+    }
+}

@@ -1,0 +1,125 @@
+// The whole search by layers.
+ghost use Rattle.std.specs.Prelude.{◌≡◌, ◌<◌, ◌≤◌, ℕ, IfOk, OnOk, false, length};
+ghost use Rattle.strip_kind.specs.declared.kind.Kind.{Kind};
+ghost use Rattle.strip_pay.specs.Film.{FilmData};
+ghost use Rattle.strip_film.specs.Film.{IsFilm};
+ghost use Rattle.strip_film.specs.Path.{IsComplete, PathData};
+ghost use Rattle.strip_film.specs.Shown.{path_data};
+ghost use Rattle.strip_lines.specs.Lines.{rules_of};
+ghost use Rattle.strip_layers.specs.Layered.{HasEnded, IsEnd, IsLayered};
+ghost use Rattle.strip_layers.specs.Search.{AreTrue, IsSearch, Rises};
+ghost use Rattle.strip_layers.specs.Shown.{layered_data, search_data};
+
+use crate::ask::Answers;
+use crate::beginning::begin;
+use crate::layered::Layered;
+use crate::limits::{Limits, Reached, Watch};
+use crate::state::Search;
+use crate::walking::walk_whole;
+use std::alloc::Global;
+use strip_count::laws::lines_of_different_sets_are_few;
+use strip_film::Path;
+use strip_film::laws::{kept_orders_are_ready_lists, steps_add_up_to_the_pay};
+use strip_io::Memory;
+
+/// Searches the film for a cheapest order, from a complete path, with at most `cap` lines. The film is walked below
+/// limits that rise from the look-ahead of all scenes to what the best path pays, in so many equal steps at first. A walk
+/// that needs more lines than there may be is undone, and the step halved; after two halvings a walk may use up the
+/// lines, which ends the search.
+///
+/// It ends when the bound of all scenes is what the best path pays, or when a line is wanted and there are `cap`. No set
+/// has two lines, so that there are no more than sets. It takes some 150 bytes for each set that is looked at.
+pub fn search_by_layers<A: Answers, W: Watch>(
+    alloc: Global,
+    answers: &A,
+    watch: &W,
+    start: &Path,
+    steps: u32,
+    cap: u32,
+) -> Result<Layered, Memory>
+    requires ready { A.is_ready answers.now }
+    requires start { IsComplete (A.film answers.now) (path_data start.now) }
+    requires some { 1 ≤ cap }
+    ensures { IfOk result (λ layered. IsLayered (A.kind answers.now) (A.film answers.now) (path_data start.now) cap
+        (layered_data layered)) }
+{
+    kept_orders_are_ready_lists();
+    steps_add_up_to_the_pay();
+    lines_of_different_sets_are_few();
+    let film = answers.film();
+    film.keeps_limits();
+    let bound = answers.bound(film.all());
+    if bound >= start.paid() {
+        return Ok(Layered {
+            lines: Vec::new(alloc),
+            bound,
+            best: *start,
+            is_spent: false,
+        });
+    }
+    let mut search = begin(alloc, answers, start, cap, bound)?;
+    rise(alloc, answers, watch, &mut search, steps)?;
+    Ok(end(search))
+}
+
+/// Walks the film below limits that rise, until the bound of all scenes is what the best path pays, or the lines are used
+/// up.
+fn rise<A: Answers, W: Watch>(
+    alloc: Global,
+    answers: &A,
+    watch: &W,
+    search: &mut Search,
+    steps: u32,
+) -> Result<(), Memory>
+    requires ready { A.is_ready answers.now }
+    requires found { AreTrue (A.kind answers.now) (A.film answers.now) search.old.found.entries }
+    requires search { IsSearch (rules_of (A.kind answers.now) (A.film answers.now)) (search_data search.old) }
+    requires unspent { (search_data search.old).spent ≡ false }
+    ensures search { OnOk result (IsSearch (rules_of (A.kind answers.now) (A.film answers.now)) (search_data search.new)) }
+    ensures rises { OnOk result (Rises (search_data search.old) (search_data search.new)) }
+    ensures ended { OnOk result (HasEnded (search_data search.new)) }
+{
+    let mut limits = Limits::new(search.proved(), search.goal, steps);
+    while search.proved() < search.best.paid() {
+        let walk = limits.next(search.proved(), search.best.paid());
+        if walk_whole(alloc, answers, search, walk)? {
+            tell(watch, search, &limits);
+            if search.spent {
+                return Ok(());
+            }
+        } else {
+            limits.halve();
+        }
+    }
+    Ok(())
+}
+
+/// Tells that a limit was reached.
+fn tell<W: Watch>(watch: &W, search: &Search, limits: &Limits)
+    requires { 0 < length (search_data search.now).lines }
+{
+    watch.reached(&Reached {
+        number: limits.number(search.proved()),
+        steps: limits.steps(),
+        cost: search.best.paid(),
+        bound: search.proved(),
+        lines: search.sheet.len(),
+        most: search.cap,
+    });
+}
+
+/// What the search ends with.
+fn end(search: Search) -> Layered
+    requires { 0 < length (search_data search).lines }
+    ensures { IsEnd (search_data search) (layered_data result) }
+{
+    let bound = search.proved();
+    let is_spent = search.spent && bound < search.best.paid();
+    let Search { sheet, best, .. } = search;
+    Layered {
+        lines: sheet.into_lines(),
+        bound,
+        best,
+        is_spent,
+    }
+}
