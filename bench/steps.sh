@@ -1,16 +1,20 @@
 #!/usr/bin/env bash
-# What a climb before the search gains: the 12 random films and the 6 with story lines of large.sh, each by 10,000 lines
-# with arrivals, some ten seconds, without a climb and with one of 32 steps; or by as many steps and lines as the words
-# say. It prints for each the cost, the bound, how much of the cost the bound is, the lines and the seconds, and last how
-# much it is on average. Then three films that are solved to the end, with and without. One run each. It works in a
-# temporary folder, and takes rustc and the built program.
+# How good the bounds of a search in steps are, and how long it takes. The 12 random films and the 6 with story lines of
+# large.sh are searched with arrivals in 16 steps by 20,000 lines and four workers, or by the numbers that the words say:
+#
+#     bench/steps.sh 16 20000 4
+#
+# It prints for each the cost, the bound, how much of the cost the bound is, the lines, the seconds and the memory, and last
+# the mean and the least of that part. Then six films are solved to the end by one worker and by as many, the quickest of
+# three runs. It works in a temporary folder, and takes rustc, GNU time and the built program.
 set -euo pipefail
 repository=$(cd "$(dirname "$0")/.." && pwd)
 work=$(mktemp -d)
 trap 'rm -rf "$work"' EXIT
 solver=${STRIPBOARD:-$("$repository/bin/run" --path stripboard)}
-steps=${1:-32}
-nodes=${2:-10000}
+steps=${1:-16}
+nodes=${2:-20000}
+workers=${3:-4}
 
 rustc -O -C target-cpu=x86-64-v3 -o "$work/varied" "$repository/bench/varied.rs"
 films=()
@@ -37,36 +41,32 @@ row() {
     sed -n "s/^$1,//p" "$2"
 }
 
-head_row() {
-    printf '%-12s %-9s %-8s %10s %10s %8s %9s %9s\n' film climb status cost bound of-cost lines seconds
-}
-
-# Solves a film with these options, prints what came of it, and keeps how much of the cost the bound is.
+# Searches a film with these options, and prints its plan's rows, the seconds and the memory.
 solve() {
-    local film=$1 climb=$2
-    shift 2
-    local plan=$work/plan begun=$EPOCHREALTIME seconds part
-    "$solver" solve "$work/$film.csv" --bounds arrivals "$@" > "$plan" || [ $? -eq 3 ]
-    seconds=$(echo "$begun $EPOCHREALTIME" | awk '{ printf "%.2f", $2 - $1 }')
-    part=$(awk -v bound="$(row bound "$plan")" -v cost="$(row cost "$plan")" 'BEGIN { printf "%.2f", bound / cost * 100 }')
-    echo "$part" >> "$work/parts-$climb"
-    printf '%-12s %-9s %-8s %10s %10s %7s%% %9s %9s\n' "$film" "$climb" "$(row status "$plan")" "$(row cost "$plan")" \
-        "$(row bound "$plan")" "$part" "$(row lines "$plan")" "$seconds"
+    local film=$1
+    shift
+    local plan=$work/plan seconds memory
+    command time -o "$work/time" -f '%e %M' "$solver" solve "$work/$film.csv" --bounds arrivals --steps "$steps" "$@" >"$plan" || [ $? -eq 3 ]
+    read -r seconds memory < <(tail -n 1 "$work/time")
+    awk -v film="$film" -v status="$(row status "$plan")" -v cost="$(row cost "$plan")" -v bound="$(row bound "$plan")" \
+        -v lines="$(row lines "$plan")" -v seconds="$seconds" -v memory="$memory" \
+        'BEGIN { printf "%-12s %-8s %10d %10d %7.2f%% %9d %8.2f %7d\n", film, status, cost, bound, bound / cost * 100, lines, seconds, memory / 1024 }'
 }
 
-head_row
+printf '%-12s %-8s %10s %10s %8s %9s %8s %7s\n' film status cost bound of-cost lines seconds MB
 for film in "${films[@]}"; do
-    solve "$film" none --nodes "$nodes"
-    solve "$film" "$steps" --nodes "$nodes" --steps "$steps"
-done
-for climb in none "$steps"; do
-    awk -v climb="$climb" '{ sum += $1 } END { printf "%s: the bound is %.2f%% of the cost on average\n", climb, sum / NR }' "$work/parts-$climb"
-done
+    solve "$film" --nodes "$nodes" --workers "$workers"
+done | tee "$work/rows"
+awk '{ part = $5 + 0; sum += part; if (NR == 1 || part < least) least = part }
+    END { printf "the bound is %.2f%% of the cost on average, and at least %.2f%%\n", sum / NR, least }' "$work/rows"
 
 echo
-head_row
-for scenes in 24 28 32; do
-    "$solver" gen 5 $scenes 12 > "$work/gen-$scenes-12.csv"
-    solve "gen-$scenes-12" none
-    solve "gen-$scenes-12" "$steps" --steps "$steps"
+for film in '5 24 12' '5 28 12' '5 32 12' '7 24 16' '7 20 20' '9 26 14'; do
+    # shellcheck disable=SC2086 # three words
+    "$solver" gen $film >"$work/${film// /-}.csv"
+    for count in 1 "$workers"; do
+        for _ in 1 2 3; do
+            solve "${film// /-}" --workers "$count"
+        done | sort -k 7,7n | head -n 1 | sed "s/$/ $count workers/"
+    done
 done
