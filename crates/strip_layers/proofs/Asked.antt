@@ -1,7 +1,6 @@
--- What was found of static bounds, and what is asked.
-use Rattle.std.proofs.Common.{◌≡◌, ℕ, ◌<◌, ◌≤◌, [], ◌++◌, All, cond, drop, get_or, length, nat_eq, List, Some, None, inl, inr, take, sym, ap, ◌∙◌, subst, append-nil, arith}
-use Rattle.std.specs.Map.{lookup}
-use Rattle.std.proofs.lemmas.Bool.{cases_Bool, cond_both, eqb-true}
+-- What is asked of paths, once it is answered.
+use Rattle.std.proofs.Common.{◌≡◌, ℕ, ◌<◌, ◌++◌, All, drop, get_or, length, List, inl, inr, take, sym, ap, ◌∙◌, subst, append-nil, arith}
+use Rattle.std.proofs.lemmas.Bool.{cases_Bool}
 use Rattle.std.proofs.lemmas.List.{drop_all, take_all}
 use Rattle.strip_kind.specs.declared.kind.Kind.{Kind}
 use Rattle.strip_pay.specs.Film.{FilmData}
@@ -14,25 +13,8 @@ use Rattle.strip_lines.proofs.Grown.{known-static}
 use Rattle.strip_count.specs.Parts.{no_task}
 use Rattle.strip_layers.specs.declared.ask.Ask.{Ask}
 use Rattle.strip_layers.specs.Asks.{AreAnswered, IsAnswer, Suffices}
-use Rattle.strip_layers.specs.Search.{AreTrue, AskedIsTrue}
+use Rattle.strip_layers.specs.Search.{AskedIsTrue}
 use Rattle.strip_layers.specs.Walked.{AreAsksFor, AreLooked, IsAskFor, IsLooked}
-
-pub true_none : (kind : Kind) (film : FilmData) (found : List (ℕ × ℕ)) → found ≡ [] → AreTrue kind film found
-true_none kind film found none set value some =
-    absurd (let e : lookup (nat_eq set) [] ≡ Some value = ap (lookup (nat_eq set)) (sym none) ∙ some in
-    let f : None ≡ Some value = e in cc)
-
--- one more value
-pub true_more : (kind : Kind) (film : FilmData) (found more : List (ℕ × ℕ)) (set value : ℕ) → AreTrue kind film found → value ≤ bound kind film set
-    → ((other : ℕ) → lookup (nat_eq other) more ≡ cond (nat_eq set other) (Some value) (lookup (nat_eq other) found)) → AreTrue kind film more
-true_more kind film found more set value are most updates other v some =
-    cond_both (nat_eq set other) (Some value) (lookup (nat_eq other) found) (λ r. r ≡ Some v → v ≤ bound kind film other)
-    (λ same is. (let e : value ≡ v = (let f : Some value ≡ Some v = is in cc) in
-    subst (λ (q : ℕ). v ≤ bound kind film q) (eqb-true set other same) (omega (arith, most, e))))
-    (λ _ is. are other v is)
-    (sym (updates other) ∙ some)
-
--- ---- what is asked of paths, once it is answered
 
 -- what a list has after it was written through a slice of its own length
 pub written : (len : ℕ) (items more : List Ask) → len ≡ length items → length more ≡ length items → take len (more ++ drop (length more) items) ≡ more
@@ -68,7 +50,8 @@ module _ (kind : Kind) (film : FilmData) (lines : List Line) (limit : ℕ) (path
   true_from : AskedIsTrue kind film answer
   true_from unknown =
       let suffices : Suffices kind film ask.set ask.need answer.value = is.asked (sym is.is_known ∙ unknown) in
-      omega (arith, suffices.most, ap (bound kind film) is.set)
+      subst (λ (q : ℕ). Suffices kind film q answer.need answer.value) (sym is.set)
+      (subst (λ (n : ℕ). Suffices kind film ask.set n answer.value) (sym is.need) suffices)
 
 module _ (kind : Kind) (film : FilmData) (lines : List Line) (limit : ℕ) (paths : List PathData) (asks answers : List Ask)
     (asked : AreAsksFor kind film lines limit paths asks) where

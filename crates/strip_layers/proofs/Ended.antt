@@ -110,6 +110,7 @@ module _ (kind : Kind) (film : FilmData) (start : PathData) (cap : ℕ) (search 
       full = full.full ∙ cap_is;
       fewer = omega (arith, full.fewer, cap_is, ap (candidate_count rules) goal_is);
       reaches = omega (arith, is.whole.ahead, is_end.bound);
+      below = is_end.below spent;
     });
     closed = closed;
   })

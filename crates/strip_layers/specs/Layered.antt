@@ -17,12 +17,13 @@ pub record LayeredData : Type 0 where
   pub best : PathData
   pub is_spent : Bool
 
--- the search was cut short: there are as many lines as there may be, and fewer than candidates of the start; and the
--- bound is at least the look-ahead of all scenes
+-- the search was cut short: the bound is below what the best path pays, and at least the look-ahead of all scenes; and
+-- there are as many lines as there may be, and fewer than candidates of the start
 pub record WasCutShort (kind : Kind) (film : FilmData) (start : PathData) (cap : ℕ) (layered : LayeredData) : Type 0 where
   pub full : length layered.lines ≡ cap
   pub fewer : cap < candidate_count (rules_of kind film) start.paid
   pub reaches : ahead (rules_of kind film) (all_scenes film) ≤ layered.bound
+  pub below : layered.bound < layered.best.paid
 
 -- the best path is complete and no dearer than the start; the lines are justified, no two of one set, each of a set
 -- that a candidate of the start leaves, at most as many as there may be, and so at most as many as candidates of
@@ -53,4 +54,5 @@ pub record IsEnd (search : SearchData) (layered : LayeredData) : Type 0 where
   pub bound : layered.bound ≡ (line_at search.lines 0).bound
   pub best : layered.best ≡ search.best
   pub spent : layered.is_spent ≡ true → search.spent ≡ true
+  pub below : layered.is_spent ≡ true → layered.bound < search.best.paid
   pub closed : layered.is_spent ≡ false → (search.spent ≡ false) ⊎ (search.best.paid ≤ layered.bound)

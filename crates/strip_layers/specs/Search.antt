@@ -13,6 +13,8 @@ use Rattle.strip_lines.specs.Lines.{AreJustified, GrowTo, ahead, line_at}
 use Rattle.strip_count.specs.Apart.{AreApart, IsLeft}
 use Rattle.strip_count.specs.Paths.{candidate_count}
 use Rattle.strip_layers.specs.declared.ask.Ask.{Ask}
+use Rattle.strip_layers.specs.declared.found.Lowest.{Lowest}
+use Rattle.strip_layers.specs.Asks.{Suffices}
 
 -- the lines, the cheapest complete path, what the path paid that the search began with, how many lines there may be,
 -- and whether one more was wanted
@@ -69,12 +71,16 @@ pub record HasLine (lines : List Line) (rest place : ℕ) : Type 0 where
   pub set : (line_at lines place).set ≡ rest
 
 -- what was found of static bounds is at most these
-abbrev pub AreTrue : Kind → FilmData → List (ℕ × ℕ) → Type 0
-AreTrue kind film found = (set value : ℕ) → lookup (nat_eq set) found ≡ Some value → value ≤ bound kind film set
+pub record IsLowest (kind : Kind) (film : FilmData) (set : ℕ) (lowest : Lowest) : Type 0 where
+  pub most : lowest.value ≤ bound kind film set
+  pub whole : lowest.is_whole ≡ true → lowest.value ≡ bound kind film set
 
--- the value of a set that was asked for is at most its static bound
+abbrev pub AreTrue : Kind → FilmData → List (ℕ × Lowest) → Type 0
+AreTrue kind film found = (set : ℕ) (lowest : Lowest) → lookup (nat_eq set) found ≡ Some lowest → IsLowest kind film set lowest
+
+-- the value of a set that was asked for suffices
 abbrev pub AskedIsTrue : Kind → FilmData → Ask → Type 0
-AskedIsTrue kind film ask = ask.is_known ≡ false → ask.value ≤ bound kind film ask.set
+AskedIsTrue kind film ask = ask.is_known ≡ false → Suffices kind film ask.set ask.need ask.value
 
 -- the line was added behind the others, or there were as many as there may be
 abbrev pub Adds : SearchData → Line → Option ℕ → SearchData → Type 0

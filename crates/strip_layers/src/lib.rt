@@ -4,6 +4,7 @@
 
 mod ask;
 mod beginning;
+mod found;
 pub mod laws;
 mod layer;
 mod layered;
@@ -16,6 +17,7 @@ mod state;
 mod walking;
 
 pub use ask::{Alone, Answers, Ask, answer_in_turn};
+pub use found::Found;
 pub use layered::Layered;
 pub use limits::{Reached, Watch};
 pub use searching::search_by_layers;

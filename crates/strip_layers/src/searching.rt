@@ -12,10 +12,12 @@ ghost use Rattle.strip_layers.specs.Shown.{layered_data, search_data};
 
 use crate::ask::Answers;
 use crate::beginning::begin;
+use crate::found::Found;
 use crate::layered::Layered;
 use crate::limits::{Limits, Reached, Watch};
 use crate::state::Search;
 use crate::walking::walk_whole;
+use indexmap::IndexMap;
 use std::alloc::Global;
 use strip_count::laws::lines_of_different_sets_are_few;
 use strip_film::Path;
@@ -40,8 +42,9 @@ pub fn search_by_layers<A: Answers, W: Watch>(
     requires ready { A.is_ready answers.now }
     requires start { IsComplete (A.film answers.now) (path_data start.now) }
     requires some { 1 ≤ cap }
-    ensures { IfOk result (λ layered. IsLayered (A.kind answers.now) (A.film answers.now) (path_data start.now) cap
+    ensures layered { IfOk result (λ layered. IsLayered (A.kind answers.now) (A.film answers.now) (path_data start.now) cap
         (layered_data layered)) }
+    ensures found { IfOk result (λ layered. AreTrue (A.kind answers.now) (A.film answers.now) layered.found.values.entries) }
 {
     kept_orders_are_ready_lists();
     steps_add_up_to_the_pay();
@@ -55,6 +58,9 @@ pub fn search_by_layers<A: Answers, W: Watch>(
             bound,
             best: *start,
             is_spent: false,
+            found: Found {
+                values: IndexMap::new(alloc),
+            },
         });
     }
     let mut search = begin(alloc, answers, start, cap, bound)?;
@@ -75,6 +81,7 @@ fn rise<A: Answers, W: Watch>(
     requires found { AreTrue (A.kind answers.now) (A.film answers.now) search.old.found.entries }
     requires search { IsSearch (rules_of (A.kind answers.now) (A.film answers.now)) (search_data search.old) }
     requires unspent { (search_data search.old).spent ≡ false }
+    ensures found { OnOk result (AreTrue (A.kind answers.now) (A.film answers.now) search.new.found.entries) }
     ensures search { OnOk result (IsSearch (rules_of (A.kind answers.now) (A.film answers.now)) (search_data search.new)) }
     ensures rises { OnOk result (Rises (search_data search.old) (search_data search.new)) }
     ensures ended { OnOk result (HasEnded (search_data search.new)) }
@@ -111,15 +118,22 @@ fn tell<W: Watch>(watch: &W, search: &Search, limits: &Limits)
 /// What the search ends with.
 fn end(search: Search) -> Layered
     requires { 0 < length (search_data search).lines }
-    ensures { IsEnd (search_data search) (layered_data result) }
+    ensures ended { IsEnd (search_data search) (layered_data result) }
+    ensures found { result.found.values.entries ≡ search.found.entries }
 {
     let bound = search.proved();
     let is_spent = search.spent && bound < search.best.paid();
-    let Search { sheet, best, .. } = search;
+    let Search {
+        sheet,
+        best,
+        found,
+        ..
+    } = search;
     Layered {
         lines: sheet.into_lines(),
         bound,
         best,
         is_spent,
+        found: Found { values: found },
     }
 }

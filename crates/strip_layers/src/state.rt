@@ -12,6 +12,7 @@ ghost use Rattle.strip_layers.specs.Walked.{IsAskFor, Stands};
 ghost use Rattle.strip_layers.specs.Shown.{search_data};
 
 use crate::ask::Ask;
+use crate::found::Lowest;
 use crate::layer::Standing;
 use crate::sheet::Sheet;
 use indexmap::IndexMap;
@@ -27,7 +28,7 @@ use strip_mask::Mask;
 pub(crate) struct Search {
     pub sheet: Sheet,
     // For each set that was asked for, a number that is at most its static bound.
-    pub found: IndexMap<u64, u64>,
+    pub found: IndexMap<u64, Lowest>,
     pub best: Path,
     pub goal: u64,
     pub cap: u32,
@@ -107,7 +108,7 @@ impl Search {
         ensures { (kind : Kind) (film : FilmData) → AreTrue kind film self.now.found.entries → result ≤ bound kind film set.0 }
     {
         match self.found.get(&set.0) {
-            Some(value) => *value,
+            Some(lowest) => lowest.value,
             None => 0,
         }
     }
@@ -120,7 +121,11 @@ impl Search {
     {
         for ask in asks {
             if !ask.is_known {
-                self.found.insert(ask.set, ask.value)?;
+                let lowest = Lowest {
+                    value: ask.value,
+                    is_whole: ask.value < ask.need,
+                };
+                self.found.insert(ask.set, lowest)?;
             }
         }
         Ok(())

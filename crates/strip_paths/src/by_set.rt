@@ -1,6 +1,7 @@
 // Paths by what they leave.
-ghost use Rattle.std.specs.Prelude.{◌≡◌, ◌≢◌, ◌==◌, [], ◌++◌, ◌∷◌, None, map, IfOk};
+ghost use Rattle.std.specs.Prelude.{◌≡◌, ◌≢◌, ◌==◌, [], ◌++◌, ◌∷◌, None, map, IfOk, IsTrue};
 ghost use Rattle.std.specs.List.{AllPairs, position};
+ghost use Rattle.strip_film.specs.Path.{PathData};
 ghost use Rattle.strip_film.specs.Shown.{path_data};
 
 use indexmap::IndexSet;
@@ -56,6 +57,18 @@ impl PathsBySet {
         ensures { result ≡ position (λ path. path.rest == rest.0) (paths_of self.now) }
     {
         self.sets.get_index_of(&rest.0)
+    }
+
+    /// Whether a path leaves these scenes and pays no more than this, in units of money: then one that leaves them and
+    /// pays this changes nothing.
+    pub fn has_as_cheap(&self, rest: Mask, paid: u64) -> bool
+        ensures { IsTrue result → (path : PathData) → path.rest ≡ rest.0 → path.paid ≡ paid
+            → with_path (paths_of self.now) path ≡ paths_of self.now }
+    {
+        match self.place_of(rest) {
+            None => false,
+            Some(place) => self.paths[place].paid() <= paid,
+        }
     }
 
     /// The sets that the paths leave, in the order of the paths.

@@ -1,14 +1,17 @@
 // Paths with one scene more.
-ghost use Rattle.std.specs.Prelude.{◌≡◌, fold, IfOk};
+ghost use Rattle.std.specs.Prelude.{◌≡◌, ◌+◌, [], ◌∷◌, ◌++◌, true, fold, IfOk};
+ghost use Rattle.strip_mask.specs.Set.{has, without};
 ghost use Rattle.strip_film.specs.Path.{IsPath};
+ghost use Rattle.strip_film.specs.Shoot.{on_location, ready, step_cost};
 ghost use Rattle.strip_film.specs.Shown.{path_data};
 ghost use Rattle.strip_paths.specs.Paths.{paths_after, with_path};
 ghost use Rattle.strip_paths.specs.Shown.{paths_of};
 
 use crate::by_set::PathsBySet;
-use strip_film::{Film, Path};
+use strip_film::{Film, Path, on, step_with};
 use strip_io::Memory;
-use strip_rule::open_firsts;
+use strip_mask::Mask;
+use strip_rule::open_firsts_with;
 
 /// Puts the open paths that go on from this one with one scene more to the others.
 pub fn put_paths_after(film: &Film, path: &Path, paths: &mut PathsBySet) -> Result<(), Memory>
@@ -17,8 +20,37 @@ pub fn put_paths_after(film: &Film, path: &Path, paths: &mut PathsBySet) -> Resu
         (paths_after film.now (path_data path.now))) }
 {
     film.keeps_limits();
-    for scene in open_firsts(film, path.rest()).iter() {
-        paths.put(&path.extend(film, scene))?;
+    let rest = path.rest();
+    let on = on(film, rest);
+    for scene in open_firsts_with(film, rest, on).iter() {
+        put_longer(film, path, on, scene, paths)?;
     }
+    Ok(())
+}
+
+/// Puts the path with this scene more to the others. Mostly one stands there already that leaves the same scenes and pays
+/// no more; then no path is made.
+fn put_longer(
+    film: &Film,
+    path: &Path,
+    on: Mask,
+    scene: u32,
+    paths: &mut PathsBySet,
+) -> Result<(), Memory>
+    requires path { IsPath film.now (path_data path.now) }
+    requires on { on.0 ≡ on_location film.now (path_data path.now).rest }
+    requires ready { has (ready film.now (path_data path.now).rest) scene ≡ true }
+    ensures { IfOk result (λ _. paths_of paths.new ≡ with_path (paths_of paths.old) (record {
+      scenes = (path_data path.now).scenes ++ scene ∷ [];
+      rest = without (path_data path.now).rest scene;
+      paid = (path_data path.now).paid + step_cost film.now (path_data path.now).rest scene;
+    })) }
+{
+    film.keeps_limits();
+    let paid = path.paid() + step_with(film, on, scene);
+    if paths.has_as_cheap(path.rest().without(scene), paid) {
+        return Ok(());
+    }
+    paths.put(&path.extend(film, scene))?;
     Ok(())
 }

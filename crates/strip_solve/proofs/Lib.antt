@@ -1,3 +1,2 @@
 mod Back
 mod Readable
-mod Given_on

@@ -12,6 +12,7 @@ use Rattle.strip_worker.specs.Ended.{EndedData, IsEnded}
 use Rattle.strip_worker.specs.Shown.{ended_data}
 use Rattle.strip_proof.specs.declared.plan.Status.{Status}
 use Rattle.strip_proof.specs.declared.plan.Status.TheVariants.{Optimal, Bounded}
+use Rattle.strip_solve.specs.declared.ending.Closed.{Closed}
 use Rattle.strip_solve.specs.declared.solve.Searched.{Searched}
 use Rattle.strip_solve.specs.Solved.{IsVaried}
 
@@ -20,6 +21,11 @@ abbrev pub IsTrimmed : Kind → FilmData → EndedData → Option (Vec Line Glob
 IsTrimmed kind film ended (Some lines) = (ended.bound ≡ ended.cost)
     × AreTrimmed (rules_of kind film) ended.lines lines.items
 IsTrimmed kind film ended None = ended.bound ≢ ended.cost
+
+-- a search that began with a path has ended so, and its lines are trimmed
+pub record IsClosed (kind : Kind) (film : FilmData) (begun : PathData) (most : ℕ) (closed : Closed) : Type 0 where
+  pub ended : IsEnded kind film begun most (ended_data closed.ended)
+  pub trimmed : IsTrimmed kind film (ended_data closed.ended) closed.trimmed
 
 -- the search of a film began with a path that varying the start gave, and ended as a search that begins with it
 pub record IsSearchedFrom (kind : Kind) (film : FilmData) (start : PathData) (most : ℕ) (searched : Searched) : Type 0 where

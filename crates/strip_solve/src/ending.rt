@@ -1,19 +1,20 @@
 // How the search of a film ends that begins with a path.
 ghost use denote.Param.Send.{IsSync};
 ghost use Rattle.std.specs.Prelude.{◌≡◌, ℕ, ◌<◌, ◌≤◌, All, IfOk};
-ghost use Rattle.strip_kind.specs.declared.kind.Kind.{Kind};
-ghost use Rattle.strip_pay.specs.Film.{FilmData};
-ghost use Rattle.strip_film.specs.Film.{IsFilm, LiesIn};
-ghost use Rattle.strip_film.specs.Path.{IsComplete, PathData};
+ghost use Rattle.strip_film.specs.Film.{LiesIn};
+ghost use Rattle.strip_film.specs.Path.{IsComplete};
 ghost use Rattle.strip_film.specs.Shown.{path_data};
 ghost use Rattle.strip_bound.specs.StoredBound.{Keeps};
 ghost use Rattle.strip_memo.specs.Memo.{IsMemo};
 ghost use Rattle.strip_layers.specs.Asks.{AreAnswered};
 ghost use Rattle.strip_layers.specs.Layered.{IsLayered};
+ghost use Rattle.strip_layers.specs.Search.{AreTrue};
 ghost use Rattle.strip_layers.specs.Shown.{layered_data};
+ghost use Rattle.strip_lines.specs.Lines.{AreJustified, rules_of};
 ghost use Rattle.strip_worker.specs.Ended.{IsEnded};
 ghost use Rattle.strip_worker.specs.Shown.{ended_data};
 ghost use Rattle.strip_solve.specs.Answer.{MayBe};
+ghost use Rattle.strip_solve.specs.Searched.{IsClosed, IsTrimmed};
 
 use crate::solve::SearchOptions;
 use crate::told::Told;
@@ -21,43 +22,67 @@ use std::alloc::Global;
 use std::thread::Threads;
 use strip_bound::StoredBound;
 use strip_crew::{Beside, answer_beside};
-use strip_film::Path;
 use strip_film::laws::{kept_orders_are_ready_lists, steps_add_up_to_the_pay};
+use strip_film::{Line, Path};
 use strip_io::Memory;
 use strip_layers::{Alone, Ask, Layered, search_by_layers};
+use strip_mask::Mask;
 use strip_memo::Memo;
+use strip_trim::trim;
 use strip_worker::{Ended, Gate, alone_through};
+
+/// The end of a search, and where its bound is its cost, those of its lines that the bound needs.
+#[derive(Debug, Drop)]
+pub(crate) struct Closed {
+    pub ended: Ended,
+    pub trimmed: Option<Vec<Line>>,
+}
 
 /// The end of the search that begins with this path, by one worker: by layers if the options have steps, and else path
 /// by path.
 pub(crate) fn end_alone<F: Fn(u64, u64) -> u64, G: Gate>(
     alloc: Global,
     kept: &StoredBound<F>,
-    memo: &mut Memo,
     begun: &Path,
     options: SearchOptions,
     gate: &Told<G>,
-) -> Result<Ended, Memory>
+) -> Result<Closed, Memory>
     requires keeps { Keeps (F.pre kept.now.f) (F.post kept.now.f) kept.now.kind kept.now.film.now }
-    requires memo { IsMemo kept.now.kind kept.now.film.now memo.old }
     requires begun { IsComplete kept.now.film.now (path_data begun.now) }
     requires options { MayBe options }
-    ensures memo { IsMemo kept.now.kind kept.now.film.now memo.new }
-    ensures ended { IfOk result (λ ended. IsEnded kept.now.kind kept.now.film.now (path_data begun.now) options.nodes
-        (ended_data ended)) }
+    ensures { IfOk result (IsClosed kept.now.kind kept.now.film.now (path_data begun.now) options.nodes) }
 {
     match options.steps {
-        None => alone_through(
-            alloc,
-            kept,
-            memo,
-            begun,
-            options.nodes,
-            options.entries,
-            gate,
-        ),
+        None => walk_alone(alloc, kept, begun, options, gate),
         Some(steps) => layers_alone(alloc, kept, begun, steps, options.nodes, gate),
     }
+}
+
+/// The end of the search path by path, by one worker.
+fn walk_alone<F: Fn(u64, u64) -> u64, G: Gate>(
+    alloc: Global,
+    kept: &StoredBound<F>,
+    begun: &Path,
+    options: SearchOptions,
+    gate: &Told<G>,
+) -> Result<Closed, Memory>
+    requires keeps { Keeps (F.pre kept.now.f) (F.post kept.now.f) kept.now.kind kept.now.film.now }
+    requires begun { IsComplete kept.now.film.now (path_data begun.now) }
+    requires options { MayBe options }
+    ensures { IfOk result (IsClosed kept.now.kind kept.now.film.now (path_data begun.now) options.nodes) }
+{
+    let mut memo = Memo::new(alloc, kept)?;
+    let ended = alone_through(
+        alloc,
+        kept,
+        &mut memo,
+        begun,
+        options.nodes,
+        options.entries,
+        gate,
+    )?;
+    let trimmed = trimmed(alloc, kept, &mut memo, &ended)?;
+    Ok(Closed { ended, trimmed })
 }
 
 /// The end of the search by layers, in so many steps and with at most so many lines, by one worker.
@@ -68,15 +93,14 @@ fn layers_alone<F: Fn(u64, u64) -> u64, G: Gate>(
     steps: u32,
     most: u32,
     gate: &Told<G>,
-) -> Result<Ended, Memory>
+) -> Result<Closed, Memory>
     requires keeps { Keeps (F.pre kept.now.f) (F.post kept.now.f) kept.now.kind kept.now.film.now }
     requires begun { IsComplete kept.now.film.now (path_data begun.now) }
     requires some { 1 ≤ most }
-    ensures { IfOk result (λ ended. IsEnded kept.now.kind kept.now.film.now (path_data begun.now) most (ended_data ended)) }
+    ensures { IfOk result (IsClosed kept.now.kind kept.now.film.now (path_data begun.now) most) }
 {
-    kept.film().keeps_limits();
     let layered = search_by_layers(alloc, &Alone { kept }, gate, begun, steps, most)?;
-    ended_of(alloc, layered)
+    close_layers(alloc, kept, begun, most, layered)
 }
 
 /// The same by several workers, who answer the sets of each layer at once. The end is the same for any number of them.
@@ -89,14 +113,13 @@ pub(crate) fn layers_beside<R: Threads + Sync, F: Fn(u64, u64) -> u64 + Sync, G:
     most: u32,
     workers: u32,
     gate: &Told<G>,
-) -> Result<Ended, Memory>
+) -> Result<Closed, Memory>
     requires keeps { Keeps (F.pre kept.now.f) (F.post kept.now.f) kept.now.kind kept.now.film.now }
     requires begun { IsComplete kept.now.film.now (path_data begun.now) }
     requires some { 1 ≤ most }
     requires workers { 0 < workers }
-    ensures { IfOk result (λ ended. IsEnded kept.now.kind kept.now.film.now (path_data begun.now) most (ended_data ended)) }
+    ensures { IfOk result (IsClosed kept.now.kind kept.now.film.now (path_data begun.now) most) }
 {
-    kept.film().keeps_limits();
     let by = |asks: &mut [Ask]| -> Result<(), Memory>
         requires { IsSync R.row × IsSync F.row × (0 < workers)
             × Keeps (F.pre kept.now.f) (F.post kept.now.f) kept.now.kind kept.now.film.now
@@ -104,22 +127,63 @@ pub(crate) fn layers_beside<R: Threads + Sync, F: Fn(u64, u64) -> u64 + Sync, G:
         ensures { IfOk result (λ _. AreAnswered kept.entry.now.kind kept.entry.now.film.now asks.old asks.new) }
     { answer_beside(rt, alloc, kept, workers, asks) };
     let layered = search_by_layers(alloc, &Beside { kept, by }, gate, begun, steps, most)?;
-    ended_of(alloc, layered)
+    close_layers(alloc, kept, begun, most, layered)
 }
 
-/// The end of a search, of what a search by layers ends with.
-fn ended_of(alloc: Global, layered: Layered) -> Result<Ended, Memory>
-    ensures { IfOk result (λ ended. (kind : Kind) (film : FilmData) (begun : PathData) (most : ℕ) → IsFilm film
-        → IsLayered kind film begun most (layered_data layered) → IsEnded kind film begun most (ended_data ended)) }
+/// The end of a search by layers that began with this path. Its lines are trimmed by what it found of static bounds.
+fn close_layers<F: Fn(u64, u64) -> u64>(
+    alloc: Global,
+    kept: &StoredBound<F>,
+    begun: &Path,
+    most: u32,
+    layered: Layered,
+) -> Result<Closed, Memory>
+    requires keeps { Keeps (F.pre kept.now.f) (F.post kept.now.f) kept.now.kind kept.now.film.now }
+    requires layered { IsLayered kept.now.kind kept.now.film.now (path_data begun.now) most (layered_data layered) }
+    requires found { AreTrue kept.now.kind kept.now.film.now layered.found.values.entries }
+    ensures { IfOk result (IsClosed kept.now.kind kept.now.film.now (path_data begun.now) most) }
 {
-    kept_orders_are_ready_lists();
-    steps_add_up_to_the_pay();
+    kept.film().keeps_limits();
     let Layered {
         lines,
         bound,
         best,
         is_spent,
+        found,
     } = layered;
+    let ended = ended_of(alloc, kept, begun, most, lines, bound, &best, is_spent)?;
+    let known = StoredBound::new(
+        kept.film(),
+        kept.kind(),
+        |q, need| found.reach(kept, Mask(q), need),
+    );
+    let mut memo = Memo::new(alloc, &known)?;
+    let trimmed = trimmed(alloc, &known, &mut memo, &ended)?;
+    Ok(Closed { ended, trimmed })
+}
+
+/// The end of a search that has these lines, this bound, and this path as the cheapest.
+fn ended_of<F: Fn(u64, u64) -> u64>(
+    alloc: Global,
+    kept: &StoredBound<F>,
+    begun: &Path,
+    most: u32,
+    lines: Vec<Line>,
+    bound: u64,
+    best: &Path,
+    is_spent: bool,
+) -> Result<Ended, Memory>
+    requires { IsLayered kept.now.kind kept.now.film.now (path_data begun.now) most (record {
+      lines = lines.items;
+      bound = bound;
+      best = path_data best.now;
+      is_spent = is_spent;
+    }) }
+    ensures { IfOk result (λ ended. IsEnded kept.now.kind kept.now.film.now (path_data begun.now) most (ended_data ended)) }
+{
+    kept_orders_are_ready_lists();
+    steps_add_up_to_the_pay();
+    kept.film().keeps_limits();
     Ok(Ended {
         order: best.scenes().to_vec(alloc)?,
         cost: best.paid(),
@@ -128,4 +192,23 @@ fn ended_of(alloc: Global, layered: Layered) -> Result<Ended, Memory>
         lines,
         spent: is_spent,
     })
+}
+
+/// The lines that the bound needs, where it is the cost.
+pub(crate) fn trimmed<F: Fn(u64, u64) -> u64>(
+    alloc: Global,
+    kept: &StoredBound<F>,
+    memo: &mut Memo,
+    ended: &Ended,
+) -> Result<Option<Vec<Line>>, Memory>
+    requires keeps { Keeps (F.pre kept.now.f) (F.post kept.now.f) kept.now.kind kept.now.film.now }
+    requires memo { IsMemo kept.now.kind kept.now.film.now memo.old }
+    requires lines { AreJustified (rules_of kept.now.kind kept.now.film.now) ended.now.lines.items }
+    ensures { IfOk result (IsTrimmed kept.now.kind kept.now.film.now (ended_data ended.now)) }
+{
+    if ended.bound == ended.cost {
+        Ok(Some(trim(alloc, kept, memo, &ended.lines)?))
+    } else {
+        Ok(None)
+    }
 }

@@ -10,15 +10,12 @@ ghost use Rattle.strip_reduce.specs.Oriented.{oriented};
 ghost use Rattle.strip_reduce.specs.Reduction.{reduced as reduction};
 ghost use Rattle.strip_reduce.specs.Shown.{reduced_data};
 ghost use Rattle.strip_bound.specs.StoredBound.{Keeps};
-ghost use Rattle.strip_lines.specs.Lines.{AreJustified, rules_of};
-ghost use Rattle.strip_memo.specs.Memo.{IsMemo};
-ghost use Rattle.strip_worker.specs.Shown.{ended_data};
 ghost use Rattle.strip_proof.specs.Plan.{plan_data};
 ghost use Rattle.strip_solve.specs.Answer.{IsAnswerFor, MayBe};
-ghost use Rattle.strip_solve.specs.Searched.{IsProofOf, IsSearchedFrom, IsTrimmed};
+ghost use Rattle.strip_solve.specs.Searched.{IsProofOf, IsSearchedFrom};
 ghost use Rattle.strip_solve.specs.Solved.{IsSolved, IsStart};
 
-use crate::ending::{end_alone, layers_beside};
+use crate::ending::{Closed, end_alone, layers_beside, trimmed};
 use crate::told::Told;
 use std::alloc::Global;
 use std::marker::Brand;
@@ -40,7 +37,6 @@ use strip_proof::{Plan, Status};
 use strip_reduce::{ReduceFault, Reduced, expand, orient, reduce};
 use strip_start::{greedy, improve, vary, vary_beside};
 use strip_store::{Bounded, Store};
-use strip_trim::trim;
 use strip_worker::{Ended, Gate, OpenGate};
 use strip_world::Limits;
 
@@ -195,9 +191,7 @@ fn search<G: Gate>(
         static_reach(film, &tables, options.kind, Mask(q), need)
     });
     let begun = vary(film, start, useful_tries(&kept, start, options.tries));
-    let mut memo = Memo::new(alloc, &kept)?;
-    let ended = end_alone(alloc, &kept, &mut memo, &begun, options, gate)?;
-    let trimmed = trimmed(alloc, &kept, &mut memo, &ended)?;
+    let Closed { ended, trimmed } = end_alone(alloc, &kept, &begun, options, gate)?;
     Ok(Searched {
         begun,
         ended,
@@ -249,9 +243,16 @@ fn search_layers<R: Threads + Wait + Sync, F: Fn(u64, u64) -> u64 + Sync, G: Gat
 {
     let tries = useful_tries(kept, start, options.tries);
     let begun = vary_beside(rt, kept.film(), start, tries, workers);
-    let ended = layers_beside(rt, alloc, kept, &begun, steps, options.nodes, workers, gate)?;
-    let mut memo = Memo::new(alloc, kept)?;
-    let trimmed = trimmed(alloc, kept, &mut memo, &ended)?;
+    let Closed { ended, trimmed } = layers_beside(
+        rt,
+        alloc,
+        kept,
+        &begun,
+        steps,
+        options.nodes,
+        workers,
+        gate,
+    )?;
     Ok(Searched {
         begun,
         ended,
@@ -313,25 +314,6 @@ fn search_stored<
         ended,
         trimmed,
     })
-}
-
-/// The lines that the bound needs, where it is the cost.
-fn trimmed<F: Fn(u64, u64) -> u64>(
-    alloc: Global,
-    kept: &StoredBound<F>,
-    memo: &mut Memo,
-    ended: &Ended,
-) -> Result<Option<Vec<Line>>, Memory>
-    requires keeps { Keeps (F.pre kept.now.f) (F.post kept.now.f) kept.now.kind kept.now.film.now }
-    requires memo { IsMemo kept.now.kind kept.now.film.now memo.old }
-    requires lines { AreJustified (rules_of kept.now.kind kept.now.film.now) ended.now.lines.items }
-    ensures { IfOk result (IsTrimmed kept.now.kind kept.now.film.now (ended_data ended.now)) }
-{
-    if ended.bound == ended.cost {
-        Ok(Some(trim(alloc, kept, memo, &ended.lines)?))
-    } else {
-        Ok(None)
-    }
 }
 
 /// How often the path is to be varied: as often as asked for, 5,000 times for each class if nothing is said, and never

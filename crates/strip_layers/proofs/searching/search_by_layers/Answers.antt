@@ -8,6 +8,7 @@ use Rattle.strip_film.specs.Path.{PathData}
 use Rattle.strip_film.specs.Shown.{path_data}
 use Rattle.strip_bound.specs.Bounds.{bound}
 use Rattle.strip_layers.specs.Layered.{IsLayered}
+use Rattle.strip_layers.specs.Search.{AreTrue}
 use Rattle.strip_layers.specs.Shown.{layered_data, search_data}
 use Rattle.strip_layers.proofs.Ended.{layered_is, nothing_is}
 use Rattle.strip_layers.proofs.searching.search_by_layers.Goals as goal
@@ -17,8 +18,8 @@ bound-bound-requires-clause-lies g c =
     let film : FilmData = g.A.Answers.film c.args.answers.now in
     subst (LiesIn film) (sym (c.all.ensures ∙ ap all_scenes c.film-film.ensures)) (LiesBelow-full (length film.casts))
 
-pub returns-then-bound-paid : goal.returns-then-bound-paid
-returns-then-bound-paid g c =
+pub returns-then-bound-paid-clause-layered : goal.returns-then-bound-paid-clause-layered
+returns-then-bound-paid-clause-layered g c =
     let kind : Kind = g.A.Answers.kind c.args.answers.now in
     let film : FilmData = g.A.Answers.film c.args.answers.now in
     let start : PathData = path_data c.args.start.now in
@@ -32,14 +33,18 @@ returns-then-bound-paid g c =
     (λ order. (c.kept_orders_are_ready_lists.ensures film order is).1)
     (λ order is_order. c.steps_add_up_to_the_pay.ensures film order is is_order)))
 
-pub returns : goal.returns
-returns g c =
+pub returns-clause-layered : goal.returns-clause-layered
+returns-clause-layered g c =
     let kind : Kind = g.A.Answers.kind c.args.answers.now in
     let film : FilmData = g.A.Answers.film c.args.answers.now in
     let start : PathData = path_data c.args.start.now in
     let is : IsFilm film = subst IsFilm c.film-film.ensures c.keeps_limits.ensures in
     layered_is kind film start c.args.cap (search_data c.rise.new.search) (layered_data c.end.result) is c.in_ok-rise.ensures.search
     (c.in_ok-rise.ensures.rises.goal ∙ c.in_ok-search.ensures.begun.goal) (c.in_ok-rise.ensures.rises.cap ∙ c.in_ok-search.ensures.begun.cap)
-    c.in_ok-rise.ensures.ended c.end.ensures
+    c.in_ok-rise.ensures.ended c.end.ensures.ended
     (λ order. (c.kept_orders_are_ready_lists.ensures film order is).1)
     (λ order is_order. c.steps_add_up_to_the_pay.ensures film order is is_order)
+
+pub returns-clause-found : goal.returns-clause-found
+returns-clause-found g c =
+    subst (AreTrue (g.A.Answers.kind c.args.answers.now) (g.A.Answers.film c.args.answers.now)) (sym c.end.ensures.found) c.in_ok-rise.ensures.found

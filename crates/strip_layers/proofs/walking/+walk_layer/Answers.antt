@@ -76,6 +76,10 @@ not_true false is = refl
 pub returns-then-not-walk-clause-walked : goal.returns-then-not-walk-clause-walked
 returns-then-not-walk-clause-walked g t c = (not_true c.args.walk.may_spend c.if-not-walk.true, (gone_of g t (goal.at.returns-then-not-walk-clause-walked g t c).In_ok-layer).extends)
 
+pub returns-then-not-walk-clause-found : goal.returns-then-not-walk-clause-found
+returns-then-not-walk-clause-found g t c =
+    subst (AreTrue (g.A.Answers.kind c.args.answers.now) (g.A.Answers.film c.args.answers.now)) (sym c.in_ok-layer.ensures.found) c.in_ok-asks.ensures.found
+
 pub walk_layer-requires : goal.walk_layer-requires
 walk_layer-requires g t c κs within =
     let kind : Kind = g.A.Answers.kind c.args.answers.now in

@@ -11,11 +11,14 @@ use Rattle.strip_paths.proofs.After.{all_extended, extended}
 use Rattle.strip_paths.proofs.Open.{first_ready}
 use Rattle.strip_paths.proofs.longer.put_paths_after.Goals as goal
 
-pub open_firsts-requires : goal.open_firsts-requires
-open_firsts-requires c = rw c.rest.ensures (rest_lies c.args.film.now (path_data c.args.path.now) c.requires.path)
+pub on-on-requires : goal.on-on-requires
+on-on-requires c = rw c.rest-rest.ensures (rest_lies c.args.film.now (path_data c.args.path.now) c.requires.path)
 
-pub extend-requires-clause-ready : goal.extend-requires-clause-ready
-extend-requires-clause-ready c =
+pub open_firsts_with-requires-clause-lies : goal.open_firsts_with-requires-clause-lies
+open_firsts_with-requires-clause-lies c = rw c.rest-rest.ensures (rest_lies c.args.film.now (path_data c.args.path.now) c.requires.path)
+
+pub put_longer-requires-clause-ready : goal.put_longer-requires-clause-ready
+put_longer-requires-clause-ready c =
     first_ready c.args.film.now (path_data c.args.path.now).rest c.in-Some.scene
     (turn_member (open_firsts c.args.film.now (path_data c.args.path.now).rest) c.in-Some.scene c.loop-scene.yielded (rest_of c.loop-scene.scene-iterator) (rest_of c.next.new.self) c.loop-scene.invariant.turns c.in-Some.ensures.steps)
 

@@ -1,0 +1,40 @@
+// What was found of static bounds.
+ghost use Rattle.std.specs.Prelude.{◌≡◌, ◌≤◌, ◌⊎◌};
+ghost use Rattle.strip_film.specs.Film.{LiesIn};
+ghost use Rattle.strip_bound.specs.Bounds.{bound};
+ghost use Rattle.strip_bound.specs.StoredBound.{Keeps};
+ghost use Rattle.strip_layers.specs.Search.{AreTrue};
+
+use indexmap::IndexMap;
+use strip_bound::StoredBound;
+use strip_mask::Mask;
+
+/// A number that is at most the static bound of a set, in units of money, and whether it is the bound.
+#[derive(Clone, Copy, Debug)]
+pub(crate) struct Lowest {
+    pub value: u64,
+    pub is_whole: bool,
+}
+
+/// What a search by layers found of static bounds: for each set that was asked for, a number that is at most its bound.
+#[derive(Debug, Drop)]
+pub struct Found {
+    pub(crate) values: IndexMap<u64, Lowest>,
+}
+
+impl Found {
+    /// A number that is at most the static bound of the set, in units of money, and at least `need` or the bound: the one
+    /// that was found if it reaches so far or is the bound, and else what the stored bound answers.
+    pub fn reach<F: Fn(u64, u64) -> u64>(&self, kept: &StoredBound<F>, q: Mask, need: u64) -> u64
+        requires keeps { Keeps (F.pre kept.now.f) (F.post kept.now.f) kept.now.kind kept.now.film.now }
+        requires found { AreTrue kept.now.kind kept.now.film.now self.now.values.entries }
+        requires lies { LiesIn kept.now.film.now q.0 }
+        ensures most { result ≤ bound kept.now.kind kept.now.film.now q.0 }
+        ensures reaches { (need ≤ result) ⊎ (result ≡ bound kept.now.kind kept.now.film.now q.0) }
+    {
+        match self.values.get(&q.0) {
+            Some(lowest) if lowest.value >= need || lowest.is_whole => lowest.value,
+            _ => kept.reach(q, need),
+        }
+    }
+}
