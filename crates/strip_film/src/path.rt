@@ -72,8 +72,24 @@ impl Path {
         ensures path { IsPath film.now (path_data result) }
     {
         film.keeps_limits();
+        self.extend_with(film, s, step(film, self.rest, s))
+    }
+
+    /// The same, where what the step costs is known, in units of money. A copy alone.
+    pub fn extend_with(&self, film: &Film, s: u32, step: u64) -> Path
+        requires path { IsPath film.now (path_data self.now) }
+        requires ready { has (ready film.now (path_data self.now).rest) s ≡ true }
+        requires step { step ≡ step_cost film.now (path_data self.now).rest s }
+        ensures extended { path_data result ≡ record {
+          scenes = (path_data self.now).scenes ++ s ∷ [];
+          rest = without (path_data self.now).rest s;
+          paid = (path_data self.now).paid + step_cost film.now (path_data self.now).rest s;
+        } }
+        ensures path { IsPath film.now (path_data result) }
+    {
+        film.keeps_limits();
         let mut next = *self;
-        next.push(s, step(film, self.rest, s));
+        next.push(s, step);
         next
     }
 

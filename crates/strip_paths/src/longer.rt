@@ -47,10 +47,10 @@ fn put_longer(
     })) }
 {
     film.keeps_limits();
-    let paid = path.paid() + step_with(film, on, scene);
-    if paths.has_as_cheap(path.rest().without(scene), paid) {
+    let step = step_with(film, on, scene);
+    if paths.has_as_cheap(path.rest().without(scene), path.paid() + step) {
         return Ok(());
     }
-    paths.put(&path.extend(film, scene))?;
+    paths.put(&path.extend_with(film, scene, step))?;
     Ok(())
 }
