@@ -5,8 +5,7 @@ use Rattle.strip_film.specs.Path.{PathData, IsComplete}
 use Rattle.strip_film.specs.Shown.{path_data}
 use Rattle.strip_film.specs.declared.path.Path.{Path}
 
--- a path that one of the runs gives which so many tries are made in: complete, and with no tries the path that the run
--- begins with
+-- a path that a run of so many tries may give: it is complete, and if nothing is tried it is the one that the run begins with
 pub record IsRunFrom (film : FilmData) (start : PathData) (tries : ℕ) (path : PathData) : Type 0 where
   pub complete : IsComplete film path
   pub untried : tries ≡ 0 → path ≡ start
