@@ -3,10 +3,12 @@
 #![tactic(auto)]
 
 mod disk;
+mod file;
 mod host;
 mod status;
 mod words;
 
 pub use disk::HostDisk;
+pub use file::HostFile;
 pub use host::Host;
 pub use status::exit_code;

@@ -75,6 +75,9 @@ faults_came files name n = λ i other. kept (λ (o : Option HeldFile). unwrap_or
 le_next : (n : ℕ) → n ≤ next_count n
 le_next n = grind (arith, nat_tests)
 
+pub one_more : (a b : ℕ) → b ≡ next_count a → b ≤ a + 1
+one_more a b is = grind (arith, is, nat_tests)
+
 rose_next : (n : ℕ) → Rose n (next_count n)
 rose_next n = grind (arith, nat_tests)
 

@@ -7,7 +7,7 @@ use Rattle.std.proofs.lemmas.Slice.Eq.{bytes_eq-Decides}
 use Rattle.std.proofs.lemmas.List.Quantifiers.{position-Some}
 use Rattle.std.proofs.lemmas.List.{map-set, map-append}
 use Rattle.std.proofs.lemmas.Iterator.Adapters.{position_from-zero}
-use Rattle.strip_io.specs.Held.{HeldFile, found, put, change}
+use Rattle.strip_io.specs.Held.{HeldFile, entry_of, found, put, change}
 use Rattle.strip_io.specs.Shown.{held_file}
 use Rattle.strip_io.specs.declared.table.Entry.{Entry}
 
@@ -32,6 +32,11 @@ pub found_first : (name : List ℕ) (xs : List Entry) (i : ℕ) (d : Entry) → 
 found_first name [] i d first = absurd (let h = first.within in omega arith)
 found_first name (x ∷ xs) zero d first = rw first.here refl
 found_first name (x ∷ xs) (suc i) d first = rw (first.before zero (omega arith)) (found_first name xs i d (later name x xs i d first))
+
+pub entry_first : (name : List ℕ) (xs : List Entry) (i : ℕ) (d : Entry) → IsFirst name xs i d → entry_of (map held_file xs) name ≡ i
+entry_first name [] i d first = absurd (let h = first.within in omega arith)
+entry_first name (x ∷ xs) zero d first = rw first.here refl
+entry_first name (x ∷ xs) (suc i) d first = rw (first.before zero (omega arith)) (omega (arith, entry_first name xs i d (later name x xs i d first)))
 
 pub put_first : (name bytes : List ℕ) (xs : List Entry) (i : ℕ) (d : Entry) → IsFirst name xs i d → put (map held_file xs) name bytes ≡ set (map held_file xs) i (record (held_file (get_or xs i d)) { bytes = bytes })
 put_first name bytes [] i d first = absurd (let h = first.within in omega arith)

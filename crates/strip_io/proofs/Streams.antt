@@ -1,14 +1,13 @@
 -- A read at a place of a stream.
-use Rattle.std.proofs.Common.{◌≡◌, ℕ, ◌<◌, ◌≤◌, List, [], ◌++◌, length, take, drop, Option, Some, None, Result, Ok, Err, IfOk, IfSome, refl, sym, ◌∙◌, ap, subst, arith, length-drop}
+use Rattle.std.proofs.Common.{◌≡◌, ℕ, ◌+◌, ◌<◌, ◌≤◌, List, [], ◌++◌, length, take, drop, Option, Some, None, refl, sym, ◌∙◌, ap, subst, arith, drop-drop, length-drop}
 use Rattle.std.specs.Option.{unwrap_or}
-use Rattle.std.specs.Io.{ReadsAtMost}
 use Rattle.std.specs.Io.Cursor.{cursor_inner, cursor_position, cursor_remaining}
 use Rattle.std.specs.declared.io.impls.Cursor.{Cursor}
-use Rattle.std.specs.Io.KnownBytes.{Keeps, Consumes, IsAtEnd, ReadConsumes}
-use Rattle.std.proofs.Math.Seq.{take-append_seam}
+use Rattle.std.specs.Io.KnownBytes.{Keeps, Consumes, IsAtEnd}
+use Rattle.std.proofs.Math.Seq.{drop-append_seam, take-append_seam}
 use Rattle.std.proofs.lemmas.List.{length-take-le}
 use Rattle.strip_io.specs.Files.{CopiesFrom}
-use Rattle.strip_io.specs.Streams.{GaveFrom, GivesFromItsPlace}
+use Rattle.strip_io.specs.Streams.{GivesFromItsPlace, HasGiven}
 
 keeps_some : (xs : List ℕ) (now : Option (List ℕ)) → Keeps (Some xs) now → now ≡ Some xs
 keeps_some xs None keeps = absurd keeps
@@ -40,19 +39,24 @@ copied text into at n left now is within room consumes ends =
         let zero = ap length empty in
         omega arith
 
--- a known place after a seek
-pub sought_place : (before sought : Option ℕ) (at n : ℕ) → IfSome before (λ place. (n ≡ at) × (sought ≡ Some n)) → (stood : ℕ) → before ≡ Some stood → sought ≡ Some at
-sought_place None sought at n moves stood stands = cc
-sought_place (Some place) sought at n moves stood stands = moves.1 ∙ ap Some moves.0
+-- what is left behind bytes that were read
+left_behind : {F : Type 0} (left : F → Option (List ℕ)) (text into : List ℕ) (at n : ℕ) (before after : F) → left before ≡ Some (drop at text) → n ≤ length into
+    → Consumes (left before) (left after) (take n into) → left after ≡ Some (drop (at + n) text)
+left_behind left text into at n before after is within consumes =
+    let known : Consumes (Some (drop at text)) (left after) (take n into) = subst (λ (l : Option (List ℕ)). Consumes l (left after) (take n into)) is consumes in
+    let rest = consumes_some (drop at text) (take n into) (left after) known in
+    let size = length-take-le n into within in
+    let seam : drop n (take n into ++ rest.0) ≡ rest.0 = subst (λ (k : ℕ). drop k (take n into ++ rest.0) ≡ rest.0) size (drop-append_seam (take n into) rest.0) in
+    rest.1 ∙ ap Some (sym seam ∙ sym (ap (drop n) rest.2) ∙ drop-drop n at text)
 
--- a stream that was sought to a place, and then read
-pub gave_from : {F E : Type 0} (held : F → Option (List ℕ)) (place : F → Option ℕ) (left : F → Option (List ℕ)) (before sought after : F) (at : ℕ) (into : List ℕ) (r : Result ℕ E)
-    → ((stood : ℕ) → place before ≡ Some stood → place sought ≡ Some at) → Keeps (held before) (held sought) → ReadsAtMost r into → 0 < length into
-    → ReadConsumes (left sought) (left after) r into → IfOk r (λ n. GaveFrom held place left before at n into)
-gave_from held place left before sought after at into (Err e) moves keeps within room consumes = tt
-gave_from held place left before sought after at into (Ok n) moves keeps within room consumes = λ gives text stood told stands.
-    let same : held sought ≡ Some text = keeps_some text (held sought) (subst (λ (h : Option (List ℕ)). Keeps h (held sought)) told keeps) in
-    copied text into at n (left sought) (left after) (gives sought text at same (moves stood stands)) within.0 room consumes.0 consumes.1
+-- a read of a stream goes on where it stands
+pub has_given : {F : Type 0} (left : F → Option (List ℕ)) (before after : F) (text : List ℕ) (at n : ℕ) (into : List ℕ) → left before ≡ Some (drop at text)
+    → n ≤ length into → 0 < length into → Consumes (left before) (left after) (take n into) → (n ≡ 0 → 0 < length into → IsAtEnd (left after))
+    → HasGiven left text at n into after
+has_given left before after text at n into is within room consumes ends = record {
+  copies = copied text into at n (left before) (left after) is within room consumes ends;
+  rest = left_behind left text into at n before after is within consumes;
+}
 
 -- a cursor is such a stream
 pub cursor_gives : {T : Type 0} (bytes : T → Option (List ℕ)) → GivesFromItsPlace (λ (c : Cursor T). bytes (cursor_inner c)) (λ (c : Cursor T). Some (cursor_position c)) (cursor_remaining bytes)

@@ -20,6 +20,11 @@ found (file ∷ files) name = if bytes_eq file.name name then Some file else fou
 abbrev pub is_held : List HeldFile → List ℕ → Bool
 is_held files name = is_some (found files name)
 
+-- which of the files has the name, by its number; how many there are if none has it
+abbrev pub entry_of : List HeldFile → List ℕ → ℕ
+entry_of [] name = 0
+entry_of (file ∷ files) name = if bytes_eq file.name name then 0 else entry_of files name + 1
+
 -- the bytes of a held name
 abbrev pub bytes_of : List HeldFile → List ℕ → Option (List ℕ)
 bytes_of files name = option_map (λ file. file.bytes) (found files name)

@@ -3,33 +3,37 @@ ghost use Rattle.std.specs.Prelude.{◌≡◌, ◌↔◌, ℕ, ◌^◌, ◌<◌,
 ghost use Rattle.std.specs.Io.KnownBytes.{Appends, Keeps};
 ghost use Rattle.strip_io.specs.Counts.{CameOnly, CountsOnly, ReadFailed, Rose};
 ghost use Rattle.strip_io.specs.Files.{files_data};
-ghost use Rattle.strip_io.specs.Held.{came_of, count_came, count_fault, faults_of, is_held, next_count};
+ghost use Rattle.strip_io.specs.Disk.{opened_for, standing};
+ghost use Rattle.strip_io.specs.Held.{came_of, count_came, count_fault, entry_of, faults_of, is_held, next_count};
 ghost use Rattle.strip_io.specs.Sink.{sink_data};
-ghost use Rattle.strip_io.specs.Streams.{GaveFrom};
+ghost use Rattle.strip_io.specs.Streams.{IsReadOf};
 
+use crate::open_file::{OpenFile, read_at};
 use crate::table::Table;
 use crate::tally::next_count;
 use crate::{Disk, Failed, Files, Memory, Sink};
 use std::alloc::Global;
 use std::io;
-use std::io::{Printer, Read, Seek, SeekFrom, Write};
+use std::io::{Printer, Write};
 use std::marker::Model;
 
-/// A disk's files of certain names, which are their paths. No other file is touched. Any error of the
-/// disk is a fault of the name.
+/// A disk's files of certain names, which are their paths. No other file is touched. The file that was read last stays open,
+/// so that a read where the last one ended goes on. Any error of the disk is a fault of the name, and closes the file.
 #[derive(Drop)]
-pub struct HostFiles<D> {
+pub struct HostFiles<D: Disk> {
     // The bytes stay on the disk: the entries have none.
     words: Table,
     disk: D,
+    current: Option<OpenFile<D::File>>,
+    reads: u64,
 }
 
-impl<D> Model for HostFiles<D> {
+impl<D: Disk> Model for HostFiles<D> {
     ghost use Rattle.strip_io.specs.Disk.{HostState};
 
-    ghost Value = { HostState D };
+    ghost Value = { HostState D D.File };
 
-    ghost view = { λ f. record { held = f.words; disk = f.disk } };
+    ghost view = { λ f. record { held = f.words; disk = f.disk; current = f.current; reads = f.reads } };
 }
 
 impl<D: Disk + Drop> HostFiles<D> {
@@ -40,28 +44,26 @@ impl<D: Disk + Drop> HostFiles<D> {
         ensures unfailed { IfOk result (λ f. (name : List ℕ) → faults_of f.held name ≡ 0) }
         ensures none_came { IfOk result (λ f. (name : List ℕ) → came_of f.held name ≡ 0) }
         ensures disk { IfOk result (λ f. f.disk ≡ disk) }
+        ensures none_open { IfOk result (λ f. f.current ≡ None) }
+        ensures reads { IfOk result (λ f. f.reads ≡ 0) }
     {
         let mut table = Table::new(alloc);
         for word in words {
             table.put(word.as_str(), &[])?;
         }
-        Ok(HostFiles { words: table, disk })
+        Ok(HostFiles {
+            words: table,
+            disk,
+            current: None,
+            reads: 0,
+        })
     }
-}
-
-/// Reads once from the place `at` on, wherever the stream stands, to the front of `into`, and answers
-/// how many bytes: 0 only where the stream ends there. An error of the stream is an error here.
-pub fn read_at<F: Read + Seek>(file: &mut F, at: u64, into: &mut [u8]) -> io::Result<usize>
-    requires room { 0 < length into.old }
-    ensures within { IfOk result (λ n. n ≤ length into.new) }
-    ensures gave { IfOk result (λ n. GaveFrom F.stream_bytes F.stream_position F.remaining file.old at n into.new) }
-{
-    file.seek(SeekFrom::Start(at))?;
-    file.read(into)
 }
 
 impl<D: Disk> Files for HostFiles<D> {
     ghost state = { λ f. files_data (is_held f.held) (λ _. None) (faults_of f.held) (came_of f.held) };
+
+    ghost reads = { λ f. f.reads };
 
     fn read(&mut self, name: &str, at: u64, into: &mut [u8]) -> Result<usize, Failed>
         requires room { 0 < length into.old }
@@ -76,26 +78,34 @@ impl<D: Disk> Files for HostFiles<D> {
         ensures came { IfOk result (λ n. CameOnly name.now n (came_of self.old.held) (came_of self.new.held)) }
         ensures none_came { OnErr result (came_of self.new.held ≡ came_of self.old.held) }
 
-        // What it answers is what the disk gave for this name from this place on.
-        ensures gave { IfOk result (λ n. D.gave name.now at n into.new) }
+        // What it answers is what the file of this name gave from this place on: the one that is open, if it stands there.
+        ensures gave { IfOk result (λ n. IsReadOf D.File.stream_bytes D.File.stream_position D.File.remaining
+            (standing (entry_of self.old.held name.now) at self.old.current) (entry_of self.old.held name.now) at n into.new
+            self.new.current) }
 
-        // It opens the file of this name and no other, for one read, whether that fails or not; and none
-        // where the name isn't held.
-        ensures opened { is_held self.old.held name.now ≡ true
-            → D.opened self.new.disk ≡ D.opened self.old.disk ++ (record { name = name.now; at = at }) ∷ [] }
-        ensures unopened { is_held self.old.held name.now ≡ false → self.new.disk ≡ self.old.disk }
+        // Only where none stands there it opens the file of this name, once and no other, whether that fails or not; and
+        // none where the name isn't held.
+        ensures opened { is_held self.old.held name.now ≡ true → D.opened self.new.disk ≡ D.opened self.old.disk
+            ++ opened_for (standing (entry_of self.old.held name.now) at self.old.current) name.now }
+        ensures unopened { is_held self.old.held name.now ≡ false
+            → (self.new.disk ≡ self.old.disk) × (self.new.current ≡ self.old.current) }
+        ensures closed { is_held self.old.held name.now ≡ true → OnErr result (self.new.current ≡ None) }
 
         ensures unheld { is_held self.old.held name.now ≡ false → IsErr result }
+        ensures counted { self.new.reads ≡ next_count self.old.reads }
         ensures ok { IfOk result (λ n. self.new.held ≡ count_came self.old.held name.now n) }
         ensures err { OnErr result (self.new.held ≡ count_fault self.old.held name.now) }
     {
-        let Some(own) = self.words.own_name(name) else {
+        self.reads = next_count(self.reads);
+        let Some((entry, own)) = self.words.own_name(name) else {
             return Err(Failed);
         };
-        let Ok(count) = self.disk.read(own, at, into) else {
+        let current = self.current.take();
+        let Ok((file, count)) = read_at(&mut self.disk, current, own, entry, at, into) else {
             self.words.count_fault(name);
             return Err(Failed);
         };
+        self.current = Some(file);
         self.words.count_came(name, count);
         Ok(count)
     }

@@ -8,6 +8,7 @@ pub mod laws;
 mod mem_files;
 mod mem_sink;
 mod no_fault;
+mod open_file;
 mod sink;
 mod table;
 mod tally;
@@ -15,7 +16,7 @@ mod transfer;
 
 pub use disk::Disk;
 pub use files::{Failed, Files, Memory};
-pub use host::{HostFiles, HostSink, read_at};
+pub use host::{HostFiles, HostSink};
 pub use mem_files::MemFiles;
 pub use mem_sink::MemSink;
 pub use no_fault::{NoFaultFiles, NoFaultSink};

@@ -3,7 +3,7 @@ ghost use Rattle.std.specs.Prelude.{◌≡◌, ◌-◌, min, List, [], length, t
 ghost use Rattle.std.specs.List.{position};
 ghost use Rattle.std.specs.Option.{is_some, option_copied};
 ghost use Rattle.std.specs.Str.{bytes_eq};
-ghost use Rattle.strip_io.specs.Held.{bytes_of, count_came, count_fault, is_held, put};
+ghost use Rattle.strip_io.specs.Held.{bytes_of, count_came, count_fault, entry_of, is_held, put};
 
 use crate::Memory;
 use crate::tally::next_count;
@@ -53,13 +53,14 @@ impl Table {
         }
     }
 
-    // The name as the table has it.
-    pub(crate) fn own_name(&self, name: &str) -> Option<&String>
+    // Which of the names this is, by its number, and the name as the table has it.
+    pub(crate) fn own_name(&self, name: &str) -> Option<(usize, &String)>
         ensures held { is_some result ≡ is_held self.now name.now }
-        ensures same { IfSome result (λ own. string_bytes own.now ≡ name.now) }
+        ensures entry { IfSome result (λ own. own.0 ≡ entry_of self.now name.now) }
+        ensures same { IfSome result (λ own. string_bytes own.1.now ≡ name.now) }
     {
         let place = place(&self.entries, name)?;
-        Some(&self.entries[place].name)
+        Some((place, &self.entries[place].name))
     }
 
     pub(crate) fn bytes(&self, name: &str) -> Option<&[u8]>

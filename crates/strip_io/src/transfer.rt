@@ -53,7 +53,7 @@ impl fmt::Display for LoadFault {
 impl Error for LoadFault {}
 
 /// How many bytes are asked for at once.
-const PIECE: usize = 4096;
+const PIECE: usize = 65_536;
 
 /// The bytes of a name, read to its end by at most `limit + 1` reads. At most `limit` of them are
 /// kept. No read that failed is tried again.

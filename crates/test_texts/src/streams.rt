@@ -1,11 +1,13 @@
 // Streams that are cut short, fail and stop in the middle.
-ghost use Rattle.strip_host.specs.Disk.{openings};
+ghost use Rattle.std.specs.Prelude.{◌^◌, ◌≤◌};
+ghost use Rattle.strip_host.specs.Disk.{names_of};
 
 use http_server::Log;
+use std::alloc::Global;
 use std::io;
 use std::io::{ErrorKind, Read, Seek, SeekFrom, Write};
 use std::test::Fail;
-use strip_io::{Disk, Failed, HostFiles, HostSink, LoadFault, load, read_at, send};
+use strip_io::{Disk, Failed, Files, HostFiles, HostSink, LoadFault, Memory, load, send};
 
 const TEXT: &[u8; 8] = b"abcdefgh";
 
@@ -18,18 +20,6 @@ struct Reader {
     failing: u64,
     stuck: bool,
     calls: u64,
-}
-
-impl Reader {
-    fn new(most: usize, failing: u64) -> Reader {
-        Reader {
-            place: 0,
-            most,
-            failing,
-            stuck: false,
-            calls: 0,
-        }
-    }
 }
 
 impl Read for Reader {
@@ -59,22 +49,44 @@ impl Seek for Reader {
     }
 }
 
-// A disk on which each name is that of this file.
+// A disk on which each name is that of the text, of which a read gives at most three bytes.
 #[derive(Drop)]
-struct OneFile {
-    file: Reader,
-    noted: Log<String, u64>,
+struct OneText {
+    // The read of the file opened first that fails, and whether no file can be sought.
+    failing: u64,
+    stuck: bool,
+    noted: Log<String, ()>,
 }
 
-impl Disk for OneFile {
-    ghost opened = { λ disk. openings disk.noted.items };
+impl Disk for OneText {
+    type File = Reader;
 
-    ghost gave = { λ _ _ _ _. Unit {0} };
+    ghost opened = { λ disk. names_of disk.noted.items };
 
-    fn read(&mut self, name: &String, at: u64, into: &mut [u8]) -> io::Result<usize> {
-        self.noted = self.noted.and(name, &at);
-        read_at(&mut self.file, at, into)
+    fn open(&mut self, name: &String) -> io::Result<Reader> {
+        self.noted = self.noted.and(name, &());
+        let failing = self.failing;
+        self.failing = 0;
+        Ok(Reader {
+            place: 0,
+            most: 3,
+            failing,
+            stuck: self.stuck,
+            calls: 0,
+        })
     }
+}
+
+// The files of such a disk, of which one is held.
+fn files_of(alloc: Global, failing: u64, stuck: bool) -> Result<HostFiles<OneText>, Memory> {
+    let words = vec![in alloc; String::from_str(alloc, "held")?]?;
+    let noted = Log::new();
+    let disk = OneText {
+        failing,
+        stuck,
+        noted,
+    };
+    HostFiles::new(alloc, disk, &words)
 }
 
 // A writer that keeps what it takes, a few bytes at a time.
@@ -123,54 +135,45 @@ impl Write for Writer {
     }
 }
 
-// What a read at a place gives, or None where it fails.
-fn read(file: &mut Reader, at: u64, into: &mut [u8; 4]) -> Option<usize> {
-    read_at(file, at, into).ok()
-}
-
 // Whether a read at a place gives so many bytes, or fails, and this is what was read into then.
 fn reads_so(
-    file: &mut Reader,
+    files: &mut HostFiles<OneText>,
     at: u64,
     into: &mut [u8; 4],
     count: Option<usize>,
     text: &[u8; 4],
-) -> bool {
-    read(file, at, into) == count && &*into == text
+) -> bool
+    requires { at ≤ 2 ^ 31 }
+{
+    files.read("held", at, into).ok() == count && &*into == text
 }
 
 #[test]
 fn a_read_may_be_cut_short(rt: HostRuntime) -> Result<(), Fail> {
-    let mut file = Reader::new(3, 0);
+    let mut files = files_of(rt.alloc(), 0, false)?;
     let mut into = [0; 4];
-    assert!(&rt; reads_so(&mut file, 5, &mut into, Some(3), b"fgh\0"));
-    assert!(&rt; reads_so(&mut file, 2, &mut into, Some(3), b"cde\0"));
-    assert!(&rt; reads_so(&mut file, 7, &mut into, Some(1), b"hde\0"));
-    assert!(&rt; reads_so(&mut file, 8, &mut into, Some(0), b"hde\0"));
+    assert!(&rt; reads_so(&mut files, 5, &mut into, Some(3), b"fgh\0"));
+    assert!(&rt; reads_so(&mut files, 8, &mut into, Some(0), b"fgh\0"));
+    assert!(&rt; reads_so(&mut files, 2, &mut into, Some(3), b"cde\0"));
+    assert!(&rt; reads_so(&mut files, 7, &mut into, Some(1), b"hde\0"));
+    Ok(())
+}
+
+#[test]
+fn a_read_goes_on_without_a_seek(rt: HostRuntime) -> Result<(), Fail> {
+    let mut files = files_of(rt.alloc(), 0, true)?;
+    let mut into = [0; 4];
+    assert!(&rt; load(rt.alloc(), &mut files, "held", 8)?.as_slice() == TEXT.as_slice());
+    assert!(&rt; reads_so(&mut files, 0, &mut into, Some(3), b"abc\0"));
+    assert!(&rt; reads_so(&mut files, 3, &mut into, Some(3), b"def\0"));
+    assert!(&rt; reads_so(&mut files, 5, &mut into, None, b"def\0"));
     Ok(())
 }
 
 #[test]
 fn a_failed_read_is_no_end(rt: HostRuntime) -> Result<(), Fail> {
-    let mut file = Reader::new(3, 2);
-    let mut into = [0; 4];
-    assert!(&rt; read(&mut file, 0, &mut into) == Some(3));
-    assert!(&rt; read(&mut file, 3, &mut into).is_none());
-    assert!(&rt; read(&mut file, 3, &mut into) == Some(3));
-    file.stuck = true;
-    assert!(&rt; read(&mut file, 0, &mut into).is_none() && file.calls == 3);
-    Ok(())
-}
-
-#[test]
-fn a_fault_of_a_disk_is_no_end_of_a_file(rt: HostRuntime) -> Result<(), Fail> {
     let alloc = rt.alloc();
-    let words = vec![in alloc; String::from_str(alloc, "held")?]?;
-    let disk = OneFile {
-        file: Reader::new(3, 2),
-        noted: Log::new(),
-    };
-    let mut files = HostFiles::new(alloc, disk, &words)?;
+    let mut files = files_of(alloc, 2, false)?;
     assert!(&rt; load(alloc, &mut files, "held", 8).err() == Some(LoadFault::Read));
     assert!(&rt; load(alloc, &mut files, "held", 8)?.as_slice() == TEXT.as_slice());
     assert!(&rt; load(alloc, &mut files, "other", 8).err() == Some(LoadFault::Read));

@@ -15,6 +15,6 @@ invariant-loop-turn g l = record {
   limit : l.limit ≡ l.fn.limit;
   short : vec_len l.all ≤ l.fn.limit;
   turn : l._turn ≤ vec_len l.all;
-  room : vec_len l.piece ≡ 4096;
+  room : vec_len l.piece ≡ 65536;
   read : (text : List ℕ) → (g.F.Files.state l.fn.files).bytes l.fn.name ≡ Some text → l.all.items ++ drop (vec_len l.all) text ≡ text;
 }

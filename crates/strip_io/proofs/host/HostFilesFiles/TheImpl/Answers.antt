@@ -1,5 +1,6 @@
-use Rattle.std.proofs.Common.{◌≡◌, ℕ, List, None, Some, refl, arith}
+use Rattle.std.proofs.Common.{◌≡◌, ℕ, List, None, Some, refl}
 use Rattle.strip_io.specs.Files.{CopiesFrom}
+use Rattle.strip_io.proofs.Changes.{one_more}
 use Rattle.strip_io.proofs.Pieces.{if_ok}
 use Rattle.strip_io.proofs.host.HostFilesFiles.TheImpl.Goals as goal
 
@@ -15,5 +16,5 @@ read-tells g c = record {
   unfailed = c.ensures.unfailed;
   came = c.ensures.came;
   none_came = c.ensures.none_came;
-  one_read = omega arith;
+  one_read = one_more c.args.self.now.reads c.new.self.now.reads c.ensures.counted;
 }

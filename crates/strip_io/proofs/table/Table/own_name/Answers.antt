@@ -1,5 +1,5 @@
-use Rattle.std.proofs.Common.{refl}
-use Rattle.strip_io.proofs.Places.{first_named, found_first, found_none, is_first, is_nowhere}
+use Rattle.std.proofs.Common.{refl, sym}
+use Rattle.strip_io.proofs.Places.{entry_first, first_named, found_first, found_none, is_first, is_nowhere}
 use Rattle.strip_io.proofs.table.Table.own_name.Goals as goal
 
 pub returns-in_err-place-clause-held : goal.returns-in_err-place-clause-held
@@ -18,3 +18,9 @@ returns-clause-same c =
     let entry = c.index.result.now in
     let first = is_first c.args.name.now c.deref.result.now c.self.inside.entries.items c.in_ok-place.place entry c.deref.ensures.value c.in_ok-place.ensures in
     first_named c.args.name.now c.self.inside.entries.items c.in_ok-place.place entry first c.index.ensures
+
+pub returns-clause-entry : goal.returns-clause-entry
+returns-clause-entry c =
+    let entry = c.index.result.now in
+    let first = is_first c.args.name.now c.deref.result.now c.self.inside.entries.items c.in_ok-place.place entry c.deref.ensures.value c.in_ok-place.ensures in
+    sym (rw (← c.self.view_is) (entry_first c.args.name.now c.self.inside.entries.items c.in_ok-place.place entry first))
