@@ -1,32 +1,22 @@
-// A run of the program, and how it ends.
-ghost use Rattle.std.specs.Prelude.{IfOk};
+// A run of the program over a host, and how it ends.
+ghost use Rattle.std.specs.Prelude.{◌≡◌};
 ghost use Rattle.std.specs.Process.{exit_status};
 ghost use Rattle.strip_answer.specs.Headline.{IsHeadline};
-ghost use Rattle.strip_host.specs.Run.{IsRun, IsRunBy};
-ghost use Rattle.strip_check_command.specs.Claims.{audit_claims};
+ghost use Rattle.strip_host.specs.Run.{files_told, run_over};
+ghost use Rattle.strip_words.specs.Shown.{texts};
+ghost use Rattle.strip_check_command.specs.Claims.{IsProved, audit_claims};
 
 use std::process::ExitCode;
-use std::rt::{self, Env};
+use std::rt;
 use strip_check_command::report;
-use strip_host::{Host, exit_code};
-use strip_io::Memory;
+use strip_host::Host;
 
-/// Runs the program `stripcheck` with the words, files and output of the runtime, and gives its exit code,
-/// which is that of a run of `report`, or 9 where memory ran out before it.
-pub fn run<R: Env + rt::Files + Print + AllocGlobal>(rt: &R) -> ExitCode
-    ensures { IsRun audit_claims (exit_status result) }
+/// Runs the program `stripcheck` with the words, files and output of this host, and gives its exit code.
+pub fn run<R: rt::Files + Input + Print + AllocGlobal>(rt: &R, host: &mut Host<R>) -> ExitCode
+    ensures headline { IsHeadline audit_claims (run_over (texts host.old.words.items) host.old.files.held
+        host.new.files.held host.old.out.faults host.new.out.faults) (exit_status result) }
+    ensures proved { exit_status result ≡ 0 → IsProved (texts host.old.words.items) (files_told host.old.files.held) }
 {
-    exit_code(run_report(rt))
-}
-
-/// Runs the program, and gives its status.
-fn run_report<R: Env + rt::Files + Print + AllocGlobal>(rt: &R) -> Result<u8, Memory>
-    ensures { IfOk result (IsRunBy (IsHeadline audit_claims)) }
-{
-    let Host {
-        words,
-        mut files,
-        mut out,
-    } = Host::of(rt)?;
-    Ok(report(rt.alloc(), &words, &mut files, &mut out))
+    let Host { words, files, out } = host;
+    ExitCode::from(report(rt.alloc(), words, files, out))
 }

@@ -1,11 +1,9 @@
--- A run of given words over the host.
-use Rattle.std.specs.Prelude.{◌≡◌, ◌↔◌, ◌⊎◌, ℕ, true, List, None, Contains}
+-- A run over the host.
+use Rattle.std.specs.Prelude.{◌≡◌, ◌↔◌, ℕ, true, List, None, Contains}
 use Rattle.strip_io.specs.Files.{FilesData, files_data}
 use Rattle.strip_io.specs.Held.{HeldFile, came_of, faults_of, is_held}
-use Rattle.strip_answer.specs.Claims.{Claims}
-use Rattle.strip_answer.specs.Headline.{IsHeadline}
 use Rattle.strip_io.specs.Sink.{SinkData, sink_data}
-use Rattle.strip_answer.specs.Run.{RunData}
+use Rattle.strip_answer.specs.Run.{RunData, run_data}
 
 -- the host's files, whose bytes aren't told, and its output, of which it isn't told what it takes
 abbrev pub files_told : List HeldFile → FilesData
@@ -20,18 +18,11 @@ pub record IsFresh (words : List (List ℕ)) (files : FilesData) (sink : SinkDat
   pub unread : (name : List ℕ) → files.faults name ≡ 0
   pub unwritten : sink.faults ≡ 0
 
--- the code is that of a run of these words of which this holds; the files that it could read are those that the
--- words name, and nothing had failed before it
-pub record IsRunOf (Holds : RunData → ℕ → Type 0) (words : List (List ℕ)) (code : ℕ) : Type 0 where
-  pub run : RunData
-  pub same : run.words ≡ words
-  pub fresh : IsFresh words run.files_before run.sink_before
-  pub headline : Holds run code
+-- the run of these words over the host, whose files and output stood so before it and after it
+abbrev pub run_over : List (List ℕ) → List HeldFile → List HeldFile → ℕ → ℕ → RunData
+run_over words before after faults_before faults_after =
+    run_data words (files_told before) (files_told after) (sink_told faults_before) (sink_told faults_after)
 
--- the code is that of a run of some words of which this holds, or memory ran out before it
-abbrev pub IsRunBy : (RunData → ℕ → Type 0) → ℕ → Type 0
-IsRunBy Holds code = ((words : List (List ℕ)) × IsRunOf Holds words code) ⊎ (code ≡ 9)
-
--- the same with everything that the program claims
-abbrev pub IsRun : {Job : Type 0} → Claims Job → ℕ → Type 0
-IsRun claims code = IsRunBy (IsHeadline claims) code
+-- nothing was read or written
+abbrev pub IsUntouched : RunData → Type 0
+IsUntouched run = (run.files_after ≡ run.files_before) × (run.sink_after ≡ run.sink_before)

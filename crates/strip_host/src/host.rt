@@ -1,5 +1,5 @@
 // What a program takes from a runtime.
-ghost use Rattle.std.specs.Prelude.{◌≡◌, [], IfOk};
+ghost use Rattle.std.specs.Prelude.{◌≡◌, [], false, None, IfOk};
 ghost use Rattle.strip_words.specs.Shown.{texts};
 ghost use Rattle.strip_host.specs.Run.{IsFresh, files_told, sink_told};
 
@@ -9,10 +9,9 @@ use std::io::Printer;
 use std::rt::{self, Env};
 use strip_io::{HostFiles, HostSink, Memory};
 
-/// What a program takes from a runtime: its words, files and output. A program hands them to what it does,
-/// and gives the status as its exit code.
+/// What a program takes from a runtime: its words, files and output.
 #[derive(Drop)]
-pub struct Host<'r, R: rt::Files + Print> {
+pub struct Host<'r, R: rt::Files + Input + Print> {
     /// The words behind the program's name. Words that aren't UTF-8 are none.
     pub words: Vec<String>,
     /// The files that may be read: those that the words name.
@@ -20,12 +19,13 @@ pub struct Host<'r, R: rt::Files + Print> {
     pub out: HostSink<Printer<'r, R>>,
 }
 
-impl<'r, R: Env + rt::Files + Print + AllocGlobal> Host<'r, R> {
+impl<'r, R: Env + rt::Files + Input + Print + AllocGlobal> Host<'r, R> {
     /// What this runtime has: no file was opened yet, and nothing written to its output.
     pub fn of(rt: &'r R) -> Result<Host<'r, R>, Memory>
         ensures fresh { IfOk result (λ host. IsFresh (texts host.words.items) (files_told host.files.held)
             (sink_told host.out.faults)) }
-        ensures unopened { IfOk result (λ host. host.files.disk ≡ []) }
+        ensures unopened { IfOk result (λ host. host.files.disk ≡ record { opened = []; is_begun = false }) }
+        ensures none_open { IfOk result (λ host. host.files.current ≡ None) }
     {
         let words = command_words(rt)?;
         let files = HostFiles::new(rt.alloc(), HostDisk::new(rt), &words)?;

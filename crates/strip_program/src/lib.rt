@@ -1,4 +1,4 @@
-//! The program over a runtime: its words, files and output are handed to `strip_commands::run`, and the
+//! The program over a host: its words, files and output are handed to `strip_commands::run`, and the
 //! status that this gives is the exit code.
 #![tactic(auto)]
 

@@ -2,8 +2,12 @@
 #![tactic(auto)]
 
 use std::process::ExitCode;
+use strip_host::{Host, exit_code};
 use strip_program::run;
 
 fn main(rt: HostRuntime) -> ExitCode {
-    run(&rt)
+    match Host::of(&rt) {
+        Ok(mut host) => run(&rt, &mut host),
+        Err(memory) => exit_code(Err(memory)),
+    }
 }

@@ -3,7 +3,11 @@
 
 use std::process::ExitCode;
 use strip_case_runs::run;
+use strip_host::{Host, exit_code};
 
 fn main(rt: HostRuntime) -> ExitCode {
-    run(&rt)
+    match Host::of(&rt) {
+        Ok(mut host) => run(&rt, &mut host),
+        Err(memory) => exit_code(Err(memory)),
+    }
 }
