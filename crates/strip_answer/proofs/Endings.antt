@@ -91,17 +91,17 @@ module _ {Job : Type 0} (claims : Claims Job) (shown : AreShown claims) where
   due_answers words before after status printed (inr (job, named, due)) = any_answers status (shown.answers job before after status printed due)
 
   module _ (run : RunData) (status : Status)
-      (ends : IsOutcome run (AsksFor claims run.words) (IsDue claims run.words run.files_before run.files_after) status) where
+      (ends : IsOutcome run (AsksFor claims run.words run.files_before) (IsDue claims run.words run.files_before run.files_after) status) where
     no_job_ends : NameNone claims run.words → (status ≡ NoJob) ⊎ (status ≡ WriteFault) ⊎ (status ≡ OutOfMemory)
     no_job_ends none =
-        by_outcome run (AsksFor claims run.words) (IsDue claims run.words run.files_before run.files_after)
+        by_outcome run (AsksFor claims run.words run.files_before) (IsDue claims run.words run.files_before run.files_after)
         (λ s. (s ≡ NoJob) ⊎ (s ≡ WriteFault) ⊎ (s ≡ OutOfMemory)) status ends
         (λ s printed due. elim due [ inl refused ↦ inl refused.1 | inr named ↦ absurd (none named.0 named.1) ])
         (λ fault. absurd (none fault.1.0 fault.1.1)) (λ fault. inr (inl refl)) (inr (inr refl))
 
     no_job_said : status ≡ NoJob → NameNone claims run.words
     no_job_said =
-        by_outcome run (AsksFor claims run.words) (IsDue claims run.words run.files_before run.files_after) (λ s. s ≡ NoJob → NameNone claims run.words) status ends
+        by_outcome run (AsksFor claims run.words run.files_before) (IsDue claims run.words run.files_before run.files_after) (λ s. s ≡ NoJob → NameNone claims run.words) status ends
         (λ s printed due same. elim due [
           | inl refused ↦ refused.0
           | inr named ↦ absurd (subst IsOfJob same (shown.answers named.0 run.files_before run.files_after s printed named.2))
@@ -125,59 +125,60 @@ module _ {Job : Type 0} (claims : Claims Job) (shown : AreShown claims) where
       its_due s printed (inr (other, names, due)) =
           subst (λ (j : Job). claims.Due j run.files_before run.files_after s printed) (shown.once run.words other job names named) due
 
+      -- where each file that is asked for is read, no read fault is told
+      both : true ≡ false → ⊥
+      both same = cc
+
+      never : IsRead claims run job → HasReadFault run.files_before run.files_after (AsksFor claims run.words run.files_before) → ⊥
+      never read (file, (other, names, asks), failed) =
+          let its = subst (λ (j : Job). claims.Asks j run.files_before file) (shown.once run.words other job names named) asks in
+          elim failed [
+            | inl rose ↦ (read file its).1 rose
+            | inr lost ↦ both (sym (read file its).0 ∙ lost)
+          ]
+
       unfit_ends : (why : Status) → claims.Unfit job run.files_before why
-          → (status ≡ why) ⊎ (status ≡ ReadFault) ⊎ (status ≡ WriteFault) ⊎ (status ≡ OutOfMemory)
+          → (status ≡ why) ⊎ ((status ≡ ReadFault) × ¬ IsRead claims run job) ⊎ (status ≡ WriteFault) ⊎ (status ≡ OutOfMemory)
       unfit_ends why unfit =
-          by_outcome run (AsksFor claims run.words) (IsDue claims run.words run.files_before run.files_after)
-          (λ s. (s ≡ why) ⊎ (s ≡ ReadFault) ⊎ (s ≡ WriteFault) ⊎ (s ≡ OutOfMemory)) status ends
+          by_outcome run (AsksFor claims run.words run.files_before) (IsDue claims run.words run.files_before run.files_after)
+          (λ s. (s ≡ why) ⊎ ((s ≡ ReadFault) × ¬ IsRead claims run job) ⊎ (s ≡ WriteFault) ⊎ (s ≡ OutOfMemory)) status ends
           (λ s printed due. inl (shown.unfit job run.files_before run.files_after s why printed unfit (its_due s printed due)))
-          (λ fault. inr (inl refl)) (λ fault. inr (inr (inl refl))) (inr (inr (inr refl)))
+          (λ fault. inr (inl (refl, λ read. never read fault))) (λ fault. inr (inr (inl refl))) (inr (inr (inr refl)))
 
       fit_ends : claims.Fit job run.files_before → IsRead claims run job → ¬ HasWriteFault run.sink_before run.sink_after
           → claims.FitStatus job status ⊎ (status ≡ OutOfMemory)
       fit_ends fit read unfailed =
-          by_outcome run (AsksFor claims run.words) (IsDue claims run.words run.files_before run.files_after)
+          by_outcome run (AsksFor claims run.words run.files_before) (IsDue claims run.words run.files_before run.files_after)
           (λ s. claims.FitStatus job s ⊎ (s ≡ OutOfMemory)) status ends
           (λ s printed due. inl (shown.fit job run.files_before run.files_after s printed fit (its_due s printed due)))
-          (λ fault. absurd (never fault)) (λ fault. absurd (unfailed fault)) (inr refl)
-        where
-          both : true ≡ false → ⊥
-          both same = cc
-
-          never : HasReadFault run.files_before run.files_after (AsksFor claims run.words) → ⊥
-          never (file, (other, names, asks), failed) =
-              let its = subst (λ (j : Job). claims.Asks j file) (shown.once run.words other job names named) asks in
-              elim failed [
-                | inl rose ↦ (read file its).1 rose
-                | inr lost ↦ both (sym (read file its).0 ∙ lost)
-              ]
+          (λ fault. absurd (never read fault)) (λ fault. absurd (unfailed fault)) (inr refl)
 
   module _ (run : RunData) (answer : Result Answer Stop) (status : Status)
       (ends : IsEnd answer run.sink_before.taken run.sink_after.taken run.sink_before.faults run.sink_after.faults status) where
     -- how the run ends, from what is due and how it was given
     run_ends : IfOk answer (λ a. IsDue claims run.words run.files_before run.files_after a.status (answer_text a))
-        → (answer ≡ Err Read → HasReadFault run.files_before run.files_after (AsksFor claims run.words))
-        → IsOutcome run (AsksFor claims run.words) (IsDue claims run.words run.files_before run.files_after) status
+        → (answer ≡ Err Read → HasReadFault run.files_before run.files_after (AsksFor claims run.words run.files_before))
+        → IsOutcome run (AsksFor claims run.words run.files_before) (IsDue claims run.words run.files_before run.files_after) status
     run_ends due read = by_answer answer ends due read
       where
         by_answer : (a : Result Answer Stop) → IsEnd a run.sink_before.taken run.sink_after.taken run.sink_before.faults run.sink_after.faults status
             → IfOk a (λ a. IsDue claims run.words run.files_before run.files_after a.status (answer_text a))
-            → (a ≡ Err Read → HasReadFault run.files_before run.files_after (AsksFor claims run.words))
-            → IsOutcome run (AsksFor claims run.words) (IsDue claims run.words run.files_before run.files_after) status
+            → (a ≡ Err Read → HasReadFault run.files_before run.files_after (AsksFor claims run.words run.files_before))
+            → IsOutcome run (AsksFor claims run.words run.files_before) (IsDue claims run.words run.files_before run.files_after) status
         by_answer (Ok a) (inl (same, took, quiet)) due read =
-            subst (IsOutcome run (AsksFor claims run.words) (IsDue claims run.words run.files_before run.files_after)) (sym same)
-            (printed_ends run (AsksFor claims run.words) (IsDue claims run.words run.files_before run.files_after) a.status (answer_text a)
+            subst (IsOutcome run (AsksFor claims run.words run.files_before) (IsDue claims run.words run.files_before run.files_after)) (sym same)
+            (printed_ends run (AsksFor claims run.words run.files_before) (IsDue claims run.words run.files_before run.files_after) a.status (answer_text a)
             (due_answers run.words run.files_before run.files_after a.status (answer_text a) due) due took)
         by_answer (Ok a) (inr (same, front, rose)) due read =
-            subst (IsOutcome run (AsksFor claims run.words) (IsDue claims run.words run.files_before run.files_after)) (sym same) (rose, ((answer_text a), (a.status, due), front))
+            subst (IsOutcome run (AsksFor claims run.words run.files_before) (IsDue claims run.words run.files_before run.files_after)) (sym same) (rose, ((answer_text a), (a.status, due), front))
         by_answer (Err Read) (same, nothing, quiet) due read =
-            subst (IsOutcome run (AsksFor claims run.words) (IsDue claims run.words run.files_before run.files_after)) (sym same) (read refl, nothing)
+            subst (IsOutcome run (AsksFor claims run.words run.files_before) (IsDue claims run.words run.files_before run.files_after)) (sym same) (read refl, nothing)
         by_answer (Err Memory) (same, nothing, quiet) due read =
-            subst (IsOutcome run (AsksFor claims run.words) (IsDue claims run.words run.files_before run.files_after)) (sym same) nothing
+            subst (IsOutcome run (AsksFor claims run.words run.files_before) (IsDue claims run.words run.files_before run.files_after)) (sym same) nothing
 
     -- a failed read is told by the status, and a failed write
-    reads_stay : FilesStay run.files_before run.files_after (AsksFor claims run.words) (answer ≡ Err Read)
-        → FilesStay run.files_before run.files_after (AsksFor claims run.words) (status ≡ ReadFault)
+    reads_stay : FilesStay run.files_before run.files_after (AsksFor claims run.words run.files_before) (answer ≡ Err Read)
+        → FilesStay run.files_before run.files_after (AsksFor claims run.words run.files_before) (status ≡ ReadFault)
     reads_stay stay = record {
       held = stay.held;
       told = stay.told;
@@ -206,8 +207,8 @@ module _ {Job : Type 0} (claims : Claims Job) (shown : AreShown claims) where
     -- all that is claimed of a run holds where the answer is due and was given
     pub headline : (code : ℕ) → code ≡ code_of status
         → IfOk answer (λ a. IsDue claims run.words run.files_before run.files_after a.status (answer_text a))
-        → (answer ≡ Err Read → HasReadFault run.files_before run.files_after (AsksFor claims run.words))
-        → FilesStay run.files_before run.files_after (AsksFor claims run.words) (answer ≡ Err Read)
+        → (answer ≡ Err Read → HasReadFault run.files_before run.files_after (AsksFor claims run.words run.files_before))
+        → FilesStay run.files_before run.files_after (AsksFor claims run.words run.files_before) (answer ≡ Err Read)
         → run.sink_before.faults ≤ run.sink_after.faults → IsHeadline claims run code
     headline code is due read files later =
         let outcome = run_ends due read in record {

@@ -141,8 +141,8 @@ done_by OutOfMemory is = absurd (let e : 9 ≡ 0 = is in omega (arith, e))
 pub run_proves : (run : RunData) (code : ℕ) → IsHeadline audit_claims run code → code ≡ 0 → IsProved run.words run.files_before
 run_proves run code holds is =
     let done = done_by holds.status (sym holds.exit_status ∙ is) in
-    let outcome : IsOutcome run (AsksFor audit_claims run.words) (IsDue audit_claims run.words run.files_before run.files_after) Done
-    = subst (IsOutcome run (AsksFor audit_claims run.words) (IsDue audit_claims run.words run.files_before run.files_after)) done holds.outcome in
+    let outcome : IsOutcome run (AsksFor audit_claims run.words run.files_before) (IsDue audit_claims run.words run.files_before run.files_after) Done
+    = subst (IsOutcome run (AsksFor audit_claims run.words run.files_before) (IsDue audit_claims run.words run.files_before run.files_after)) done holds.outcome in
     by outcome.0 outcome.1
   where
     by : (printed : List ℕ) → IsDue audit_claims run.words run.files_before run.files_after Done printed → IsProved run.words run.files_before

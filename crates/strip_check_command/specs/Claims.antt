@@ -45,7 +45,7 @@ IsAuditUnfit files told why =
 abbrev pub audit_claims : Claims PlanFilesData
 audit_claims = record {
   Names = NameFiles;
-  Asks = λ files file. IsEither files.film files.plan file;
+  Asks = λ files told file. IsEither files.film files.plan told file;
   Due = IsAuditDue;
   Fit = IsAuditFit;
   FitStatus = λ files status. IsAuditStatus status;

@@ -25,9 +25,9 @@ pub fn audit<F: Files>(alloc: Global, files: &mut F, names: &PlanFiles) -> Resul
     ensures due { IfOk result (λ answer. IsAuditDue (plan_files_data names.now) (F.state files.old) (F.state files.new)
         answer.status (answer_text answer)) }
     ensures read { result ≡ Err Stop.Read → HasReadFault (F.state files.old) (F.state files.new)
-        (IsEither (string_bytes names.now.film) (string_bytes names.now.plan)) }
+        (IsEither (string_bytes names.now.film) (string_bytes names.now.plan) (F.state files.old)) }
     ensures files { FilesStay (F.state files.old) (F.state files.new)
-        (IsEither (string_bytes names.now.film) (string_bytes names.now.plan)) (result ≡ Err Stop.Read) }
+        (IsEither (string_bytes names.now.film) (string_bytes names.now.plan) (F.state files.old)) (result ≡ Err Stop.Read) }
 {
     answer_plan::<AuditJob, F>(alloc, files, names)
 }

@@ -29,9 +29,9 @@ fn answer_words<F: Files>(alloc: Global, words: &[String], files: &mut F) -> Res
     ensures due { IfOk result (λ answer. IsDue audit_claims (texts words.now) (F.state files.old) (F.state files.new)
         answer.status (answer_text answer)) }
     ensures read { result ≡ Err Stop.Read → HasReadFault (F.state files.old) (F.state files.new)
-        (AsksFor audit_claims (texts words.now)) }
+        (AsksFor audit_claims (texts words.now) (F.state files.old)) }
     ensures files { FilesStay (F.state files.old) (F.state files.new)
-        (AsksFor audit_claims (texts words.now)) (result ≡ Err Stop.Read) }
+        (AsksFor audit_claims (texts words.now) (F.state files.old)) (result ≡ Err Stop.Read) }
 {
     // The words are those of the command `check` behind its own.
     match plan_files(alloc, "check", words) {

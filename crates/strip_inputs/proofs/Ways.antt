@@ -1,5 +1,5 @@
 -- What two files say, one after the other.
-use Rattle.std.proofs.Common.{◌≡◌, ◌∙◌, inl, inr, ℕ, List, Option, Result, Ok, Err, sym, ap, subst, arith}
+use Rattle.std.proofs.Common.{◌≡◌, ◌∙◌, inl, inr, ℕ, List, Option, Result, Ok, Err, refl, sym, ap, subst, arith}
 use Rattle.strip_model.specs.Data.{InstanceData}
 use Rattle.strip_proof.specs.Plan.{PlanData}
 use Rattle.strip_proof.specs.Text.{IsReadablePlan}
@@ -8,9 +8,12 @@ use Rattle.strip_answer.specs.declared.status.Status.{Status}
 use Rattle.strip_answer.specs.declared.status.Status.TheVariants.{BadInstance, BadPlan}
 use Rattle.strip_io.specs.Files.{FilesData}
 use Rattle.strip_answer.specs.Run.{FilesStay}
+use Rattle.strip_io.specs.Counts.{ReadFailed}
+use Rattle.strip_inputs.specs.declared.input.Input.{Input}
+use Rattle.strip_inputs.specs.declared.input.Input.TheVariants.{Said}
 use Rattle.strip_inputs.specs.Input.{HasInput}
-use Rattle.strip_inputs.specs.Said.{IsSaidFilm, film_said, plan_said}
-use Rattle.strip_inputs.specs.Both.{Ways, BothSay, FilmSays, PlanSays, IsBothDue, IsEither, ways_due}
+use Rattle.strip_inputs.specs.Said.{IsFilmGiven, IsSaidFilm, film_said, plan_said}
+use Rattle.strip_inputs.specs.Both.{Ways, BothSay, FilmSays, PlanSays, IsBothDue, IsEither, MaySayFilm, ways_due}
 use Rattle.strip_inputs.specs.Fit.{AreTold, AreUnfit}
 
 -- what holds of a file's text, by what else holds of it
@@ -91,9 +94,25 @@ module _ (Due : InstanceData → PlanData → Status → List ℕ → Type 0) (f
       by_film (Ok inst) is = by_plan inst (plan_said inst is.1.text) is.1.holds
       by_film (Err told) is = subst P (sym is.1.0) film_refused
 
+-- a film that was given may be said
+pub may_say : (film : List ℕ) (before after : FilesData) (input : Input InstanceData) (inst : InstanceData) → input ≡ Said inst
+    → HasInput film 1_048_576 before after (λ text. IsFilmGiven (film_said text) input) → MaySayFilm film before
+may_say film before after input inst given has text told = subst (λ (t : List ℕ). (i : InstanceData) × (film_said t ≡ Ok i)) (has.told text told)
+    (by (film_said has.text) refl (subst (IsFilmGiven (film_said has.text)) given has.holds))
+  where
+    by : (said : Result InstanceData (Option ToldData)) → film_said has.text ≡ said → IsFilmGiven said (Said inst) → (i : InstanceData) × (film_said has.text ≡ Ok i)
+    by (Ok i) is given = (i, is)
+    by (Err refused) is given = absurd given
+
+-- a read that failed after reads that didn't
+pub failed_later : (name : List ℕ) (before middle after : FilesData) → middle.holds ≡ before.holds → middle.faults ≡ before.faults
+    → ReadFailed name middle.holds middle.faults after.faults → ReadFailed name before.holds before.faults after.faults
+failed_later name before middle after held faults failed =
+    subst (λ f. ReadFailed name before.holds f after.faults) faults (subst (λ h. ReadFailed name h middle.faults after.faults) held failed)
+
 -- what stays where the second file isn't read, and where it is
 pub stays_first : (film plan : List ℕ) (before after : FilesData) (failed : Type 0) → FilesStay before after (λ file. film ≡ file) failed
-    → FilesStay before after (IsEither film plan) failed
+    → FilesStay before after (IsEither film plan before) failed
 stays_first film plan before after failed stay = record {
   held = stay.held;
   told = stay.told;
@@ -104,12 +123,12 @@ stays_first film plan before after failed stay = record {
 }
 
 pub stays_both : (film plan : List ℕ) (before middle after : FilesData) (once again failed : Type 0) → FilesStay before middle (λ file. film ≡ file) once
-    → FilesStay middle after (λ file. plan ≡ file) again → ¬ once → (again → failed) → FilesStay before after (IsEither film plan) failed
-stays_both film plan before middle after once again failed one two fine so = record {
+    → FilesStay middle after (λ file. plan ≡ file) again → MaySayFilm film before → ¬ once → (again → failed) → FilesStay before after (IsEither film plan before) failed
+stays_both film plan before middle after once again failed one two may fine so = record {
   held = two.held ∙ one.held;
   told = two.told ∙ one.told;
   later = λ name. omega (arith, one.later name, two.later name);
-  others = λ name other. two.others name (λ is. other (inr is)) ∙ one.others name (λ is. other (inl is));
+  others = λ name other. two.others name (λ is. other (inr (is, may))) ∙ one.others name (λ is. other (inl is));
   unfailed = λ well. two.unfailed (λ failed. well (so failed)) ∙ one.unfailed fine;
-  came_others = λ name other. two.came_others name (λ is. other (inr is)) ∙ one.came_others name (λ is. other (inl is));
+  came_others = λ name other. two.came_others name (λ is. other (inr (is, may))) ∙ one.came_others name (λ is. other (inl is));
 }

@@ -1,5 +1,5 @@
 -- A film's file that was read, and then a plan's.
-use Rattle.std.specs.Prelude.{◌≡◌, ◌⊎◌, ℕ, List, Option, Result, Ok, Err}
+use Rattle.std.specs.Prelude.{◌≡◌, ◌⊎◌, ℕ, List, Option, Some, Result, Ok, Err}
 use Rattle.strip_model.specs.Data.{InstanceData}
 use Rattle.strip_proof.specs.declared.plan.Plan.{Plan}
 use Rattle.strip_proof.specs.Plan.{PlanData, plan_data}
@@ -37,9 +37,13 @@ BothSay ways film plan before after =
     (middle : FilesData) × (middle.bytes ≡ before.bytes)
     × HasInput film 1_048_576 before middle (λ text. FilmSays ways plan middle after (film_said text))
 
--- a file is one of the two
-abbrev pub IsEither : List ℕ → List ℕ → List ℕ → Type 0
-IsEither film plan file = (film ≡ file) ⊎ (plan ≡ file)
+-- the film's file says an instance, if it is told
+abbrev pub MaySayFilm : List ℕ → FilesData → Type 0
+MaySayFilm film files = (text : List ℕ) → files.bytes film ≡ Some text → (inst : InstanceData) × (film_said text ≡ Ok inst)
+
+-- a file is one of the two: the film's, or the plan's, which is asked for only where the film's may say an instance
+abbrev pub IsEither : List ℕ → List ℕ → FilesData → List ℕ → Type 0
+IsEither film plan files file = (film ≡ file) ⊎ ((plan ≡ file) × MaySayFilm film files)
 
 -- the answer is given that refuses a file, with this status and of which this is told
 abbrev pub IsRefused : Status → Option ToldData → Input (InstanceData × Plan) → Type 0

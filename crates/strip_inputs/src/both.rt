@@ -41,9 +41,9 @@ pub fn answer_plan<J: PlanJob, F: Files>(
         (F.state files.old) (F.state files.new)
         answer.status (answer_text answer)) }
     ensures read { result ≡ Err Stop.Read → HasReadFault (F.state files.old) (F.state files.new)
-        (IsEither (string_bytes names.now.film) (string_bytes names.now.plan)) }
+        (IsEither (string_bytes names.now.film) (string_bytes names.now.plan) (F.state files.old)) }
     ensures files { FilesStay (F.state files.old) (F.state files.new)
-        (IsEither (string_bytes names.now.film) (string_bytes names.now.plan)) (result ≡ Err Stop.Read) }
+        (IsEither (string_bytes names.now.film) (string_bytes names.now.plan) (F.state files.old)) (result ≡ Err Stop.Read) }
 {
     match both_inputs(alloc, files, names)? {
         Input::Said((inst, plan)) => Ok(J::answer(alloc, &inst, plan)?),
@@ -63,9 +63,9 @@ pub fn both_inputs<F: Files>(
         (F.state files.old) (F.state files.new)) }
     ensures said { IfOk result AreSaid }
     ensures read { result ≡ Err Stop.Read → HasReadFault (F.state files.old) (F.state files.new)
-        (IsEither (string_bytes names.now.film) (string_bytes names.now.plan)) }
+        (IsEither (string_bytes names.now.film) (string_bytes names.now.plan) (F.state files.old)) }
     ensures files { FilesStay (F.state files.old) (F.state files.new)
-        (IsEither (string_bytes names.now.film) (string_bytes names.now.plan)) (result ≡ Err Stop.Read) }
+        (IsEither (string_bytes names.now.film) (string_bytes names.now.plan) (F.state files.old)) (result ≡ Err Stop.Read) }
 {
     both_said(alloc, files, names.film.as_str(), names.plan.as_str())
 }
@@ -80,9 +80,9 @@ fn both_said<F: Files>(
         (F.state files.new)) }
     ensures said { IfOk result AreSaid }
     ensures read { result ≡ Err Stop.Read → HasReadFault (F.state files.old) (F.state files.new)
-        (IsEither film.now plan.now) }
+        (IsEither film.now plan.now (F.state files.old)) }
     ensures files { FilesStay (F.state files.old) (F.state files.new)
-        (IsEither film.now plan.now) (result ≡ Err Stop.Read) }
+        (IsEither film.now plan.now (F.state files.old)) (result ≡ Err Stop.Read) }
 {
     let inst = match film_input(alloc, files, film)? {
         Input::Said(inst) => inst,

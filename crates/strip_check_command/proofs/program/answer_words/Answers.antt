@@ -20,7 +20,7 @@ returns-in-Ok-clause-read g c = λ is.
 pub returns-in-Ok-clause-files : goal.returns-in-Ok-clause-files
 returns-in-Ok-clause-files g c =
     let names : PlanFilesData = plan_files_data c.in-Ok.names in
-    stay_wider _ _ (IsEither names.film names.plan) (AsksFor audit_claims (texts c.args.words.now)) _ (λ name its. (names, c.in-Ok.ensures.named, its)) c.audit.ensures.files
+    stay_wider _ _ (IsEither names.film names.plan (g.F.Files.state c.args.files.now)) (AsksFor audit_claims (texts c.args.words.now) (g.F.Files.state c.args.files.now)) _ (λ name its. (names, c.in-Ok.ensures.named, its)) c.audit.ensures.files
 
 pub returns-in_ok-no_job-in-Err-BadWords-clause-due : goal.returns-in_ok-no_job-in-Err-BadWords-clause-due
 returns-in_ok-no_job-in-Err-BadWords-clause-due g c =
