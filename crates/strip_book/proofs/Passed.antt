@@ -1,20 +1,24 @@
--- What a pass is after a call, and what the call made of what it knows.
+-- What a pass or a copy is after a call, and what the call made of what it knows.
 use Rattle.std.proofs.Common.{◌≡◌, ℕ, ◌+◌, ◌<◌, ◌≤◌, true, false, List, [], ◌∷◌, ◌++◌, All, length, refl, sym, ap, ◌∙◌, subst, arith}
 use Rattle.std.proofs.lemmas.List.{length-append}
 use Rattle.std.proofs.lemmas.List.Elements.{All-append, All-push}
 use Rattle.std.proofs.Math.Seq.{get_or-append_seam}
+use Rattle.atomic_table.specs.Table.{Me}
+use Rattle.strip_film.specs.declared.path.Path.{Path}
 use Rattle.strip_film.specs.declared.shared.Line.{Line}
+use Rattle.strip_film.specs.Film.{IsFilm}
 use Rattle.strip_film.specs.Path.{PathData}
-use Rattle.strip_lines.specs.Lines.{AreJustified, line_at, no_line}
+use Rattle.strip_lines.specs.Lines.{AreJustified, GrowTo, line_at, no_line}
 use Rattle.strip_lines.proofs.Grown.{added-grows, grow_self, grow_trans}
 use Rattle.strip_hand.specs.Search.{SearchData, search_rules}
 use Rattle.strip_book.specs.declared.book.Book.{Book}
 use Rattle.strip_book.specs.declared.pass.BookPass.{BookPass}
+use Rattle.strip_book.specs.declared.pass.BookCopy.{BookCopy}
 use Rattle.strip_book.specs.View.{ViewData, new_entry}
 use Rattle.strip_book.specs.Rule.{IsEntry, draft_line}
-use Rattle.strip_book.specs.Steps.{HasLearnt, HasMade, HasRaised, HasSeen, HasSpent, OwnsAll, about, drawn, half_written, heard_from, joined, knowing, with_part, written}
+use Rattle.strip_book.specs.Steps.{HasCompared, HasLearnt, HasMade, HasRaised, HasSeen, HasSpent, OwnsAll, about, copied, drawn, half_written, heard_from, joined, knowing, with_part, written}
 use Rattle.strip_book.specs.Words.{bound_word}
-use Rattle.strip_book.specs.Pass.{Begins, Hears, IsPassOf, IsSpent, Joins, MakesLine, MayBegin, MayEnlist, Raises, Settles, Stays, known}
+use Rattle.strip_book.specs.Pass.{Begins, Hears, IsCopyOf, IsPassOf, IsSpent, Joins, MakesLine, MayBegin, MayEnlist, Raises, Settles, Stays, TableData, known, table_of}
 use Rattle.strip_book.proofs.Entries.{begun-here, begun-there, enlisted-here, enlisted-parts, enlisted-there}
 use Rattle.strip_book.proofs.Told.{new_is_entry}
 
@@ -94,6 +98,52 @@ pub heard_pass : (book : Book) (pass after : BookPass) (other u : ViewData) → 
 heard_pass book pass after other u is table slots view seen =
     learnt_pass book pass after (heard_from (known pass) other) seen.lines is table slots (seen.only ∙ ap (λ (w : ViewData). knowing w seen.lines) view) refl is.some_weight is.idle
     is.entries (subst (λ (w : ViewData). HasLearnt w seen.lines) view seen.learnt)
+
+-- ---- copies
+
+-- a copy of these words whose view is sound is one of the table
+pub copies_on : (table : TableData) (copy : BookCopy) (v : ViewData) → copy.seat.table_id ≡ table.words → copy.seat.me.1 ≡ [] → copy.seat.me.0 ≡ v → v.search ≡ table.search
+    → v.weight ≡ 0 → v.writing ≡ false → IsFilm table.search.film → AreJustified (search_rules table.search) v.lines → length v.lines ≤ table.search.cap → IsCopyOf table copy
+copies_on table copy v words slots view search weight idle film justified few = record {
+  words = words;
+  search = ap (λ (u : ViewData). u.search) view ∙ search;
+  film = film;
+  no_slots = slots;
+  no_weight = ap (λ (u : ViewData). u.weight) view ∙ weight;
+  idle = ap (λ (u : ViewData). u.writing) view ∙ idle;
+  justified = subst (λ (u : ViewData). AreJustified (search_rules table.search) u.lines) (sym view) justified;
+  few = subst (λ (u : ViewData). length u.lines ≤ table.search.cap) (sym view) few;
+}
+
+-- one of a pass, and one of a copy
+pub copied_pass : (book : Book) (pass : BookPass) (copy : BookCopy) → IsPassOf book pass → copy.seat.table_id ≡ pass.seat.table_id → copy.seat.me ≡ (copied (known pass), [])
+    → IsCopyOf (table_of book) copy
+copied_pass book pass copy is words me =
+    copies_on (table_of book) copy (copied (known pass)) (words ∙ is.table) (ap (λ (m : Me Path ViewData). m.1) me) (ap (λ (m : Me Path ViewData). m.0) me) is.search refl refl
+    book.film (subst (λ (q : SearchData). AreJustified (search_rules q) (known pass).lines) is.search is.justified)
+    (subst (λ (q : SearchData). length (known pass).lines ≤ q.cap) is.search is.few)
+
+pub copied_copy : (table : TableData) (copy other : BookCopy) → IsCopyOf table copy → other.seat.table_id ≡ copy.seat.table_id → other.seat.me ≡ (copied copy.seat.me.0, [])
+    → IsCopyOf table other
+copied_copy table copy other is words me =
+    copies_on table other (copied copy.seat.me.0) (words ∙ is.words) (ap (λ (m : Me Path ViewData). m.1) me) (ap (λ (m : Me Path ViewData). m.0) me) is.search refl refl is.film
+    is.justified is.few
+
+-- one that stays as it is
+pub same_copy : (table : TableData) (copy after : BookCopy) → IsCopyOf table copy → after.seat.table_id ≡ copy.seat.table_id → after.seat.me ≡ copy.seat.me → IsCopyOf table after
+same_copy table copy after is words me =
+    copies_on table after copy.seat.me.0 (words ∙ is.words) (ap (λ (m : Me Path ViewData). m.1) me ∙ is.no_slots) (ap (λ (m : Me Path ViewData). m.0) me) is.search is.no_weight
+    is.idle is.film is.justified is.few
+
+-- and one that heard of another
+pub heard_copy : (table : TableData) (copy after : BookCopy) (other u : ViewData) → IsCopyOf table copy → after.seat.table_id ≡ copy.seat.table_id → after.seat.me.1 ≡ []
+    → u ≡ heard_from copy.seat.me.0 other → HasCompared u after.seat.me.0 → IsCopyOf table after
+heard_copy table copy after other u is words slots view compared =
+    let learnt : HasLearnt (heard_from copy.seat.me.0 other) compared.lines = subst (λ (w : ViewData). HasLearnt w compared.lines) view compared.learnt in
+    copies_on table after (knowing (heard_from copy.seat.me.0 other) compared.lines) (words ∙ is.words) slots
+    (compared.only ∙ ap (λ (w : ViewData). knowing w compared.lines) view) is.search is.no_weight is.idle is.film
+    (subst (λ (q : SearchData). AreJustified (search_rules q) compared.lines) is.search learnt.justified)
+    (subst (λ (q : SearchData). length compared.lines ≤ q.cap) is.search learnt.few)
 
 -- ---- what the calls make of what is known
 
@@ -184,3 +234,9 @@ hears_so before other u after view seen =
     let is : after ≡ knowing (heard_from before other) seen.lines = seen.only ∙ ap (λ (w : ViewData). knowing w seen.lines) view in
     let learnt : HasLearnt (heard_from before other) seen.lines = subst (λ (w : ViewData). HasLearnt w seen.lines) view seen.learnt in
     subst (Hears before other.lines) (sym is) (record { stays = record { weight = refl; search = refl; grow = learnt.knew }; entries = refl; heard = learnt.heard })
+
+pub compares_so : (before other u after : ViewData) → u ≡ heard_from before other → HasCompared u after → GrowTo before.lines after.lines × GrowTo other.lines after.lines
+compares_so before other u after view compared =
+    let is : after ≡ knowing (heard_from before other) compared.lines = compared.only ∙ ap (λ (w : ViewData). knowing w compared.lines) view in
+    let learnt : HasLearnt (heard_from before other) compared.lines = subst (λ (w : ViewData). HasLearnt w compared.lines) view compared.learnt in
+    subst (λ (v : ViewData). GrowTo before.lines v.lines × GrowTo other.lines v.lines) (sym is) (learnt.knew, learnt.heard)

@@ -123,10 +123,9 @@ module _ (search : SearchData) (s : State Path ViewData) (k : IsBook search s) (
       (λ q. (let same : candidates_of search q w ≡ candidates_of search q me = ap (λ (es : List EntryData). total (candidates_at search q) es) entries in omega (arith, same)))
       knows heard
 
-  -- what a view with weight learns
-  pub learnt : 0 < me.weight → HasLearnt me k.lines
-  learnt heavy =
-      let same : me.search ≡ search = mine_fits.goes_by heavy in
+  -- what a view learns that goes by the search
+  pub learnt_by : me.search ≡ search → HasLearnt me k.lines
+  learnt_by same =
       let cap : me.search.cap ≡ search.cap = ap (λ (q : SearchData). q.cap) same in
       record {
         knew = mine_fits.knows;
@@ -135,6 +134,10 @@ module _ (search : SearchData) (s : State Path ViewData) (k : IsBook search s) (
         few = omega (arith, k.long, cap);
         full = λ is. omega (arith, mine_fits.spent is, cap);
       }
+
+  -- as one with weight does
+  pub learnt : 0 < me.weight → HasLearnt me k.lines
+  learnt heavy = learnt_by (mine_fits.goes_by heavy)
 
   -- the rule after a step that leaves the words
   pub kept_still : (words : List ℕ) (w : ViewData) → words ≡ s.words → Step s.words k.lines k.count w

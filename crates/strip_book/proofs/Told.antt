@@ -16,7 +16,7 @@ use Rattle.strip_book.specs.Steps.{HasAnnounced, HasCompared, HasSeen, OwnsAll, 
 use Rattle.strip_book.specs.Words.{desk_word, quiet_word}
 use Rattle.strip_film.specs.Shown.{path_data}
 use Rattle.strip_book.proofs.Views.{total-alone, total-push}
-use Rattle.strip_book.proofs.RuleKept.{grow_none, kept_still, learnt, mine_fits, quiet, still, word_stays}
+use Rattle.strip_book.proofs.RuleKept.{grow_none, kept_still, learnt, learnt_by, mine_fits, quiet, still, word_stays}
 
 -- a number that is exchanged for itself stays
 either_same : (n old : ℕ) → either (eqb n old) old n ≡ n
@@ -60,16 +60,15 @@ module _ (search : SearchData) (slots id : ℕ) (me : ViewData) (idle : me.writi
         (record { lines = k.lines; learnt = learnt search s k id me at heavy; only = refl; all = owns_all search s k id me at heavy }, refl),
       )
 
-  compares : Allows (IsBook search) slots id (me, []) quiet_word (λ n. n) (λ found after. HasCompared me after.0 × (after.1 ≡ []))
-  compares s k homes at small =
-      let w : ViewData = knowing me k.lines in
-      let fits = mine_fits search s k id me at in (
+  compares : me.search ≡ search → Allows (IsBook search) slots id (me, []) quiet_word (λ n. n) (λ found after. HasCompared me after.0 × (after.1 ≡ []))
+  compares same s k homes at small =
+      let w : ViewData = knowing me k.lines in (
         w,
         keeps,
         tt,
         kept_still search s k id me at (slice_set s.words quiet_word (slice_index s.words quiet_word)) w (word_stays s.words quiet_word)
             (quiet search s k id me at w idle idle refl refl refl refl (grow_self k.lines) (grow_none k.lines)),
-        (record { lines = k.lines; knew = fits.knows; heard = fits.heard; only = refl }, refl),
+        (record { lines = k.lines; learnt = learnt_by search s k id me at same; only = refl }, refl),
       )
 
   announces : (desk part : ℕ) (path : Path)
@@ -116,10 +115,10 @@ module _ (search : SearchData) (slots id : ℕ) (me : Me Path ViewData) (none : 
       subst (λ (held : Held). Allows (IsBook search) slots id (me.0, held) quiet_word (λ n. n) (λ found after. HasSeen me.0 after.0 × (after.1 ≡ held)))
       (sym none) (sees search slots id me.0 idle heavy)
 
-  pub compares_at : Allows (IsBook search) slots id me quiet_word (λ n. n) (λ found after. HasCompared me.0 after.0 × (after.1 ≡ me.1))
-  compares_at =
+  pub compares_at : me.0.search ≡ search → Allows (IsBook search) slots id me quiet_word (λ n. n) (λ found after. HasCompared me.0 after.0 × (after.1 ≡ me.1))
+  compares_at same =
       subst (λ (held : Held). Allows (IsBook search) slots id (me.0, held) quiet_word (λ n. n) (λ found after. HasCompared me.0 after.0 × (after.1 ≡ held)))
-      (sym none) (compares search slots id me.0 idle)
+      (sym none) (compares search slots id me.0 idle same)
 
   pub announces_at : (word desk part : ℕ) (path : Path) → word ≡ desk_word desk
       → Allows (IsBook search) slots id me word (λ n. either (eqb n part) part n) (λ found after. HasAnnounced (some path) part me.0 after.0 × (after.1 ≡ me.1))

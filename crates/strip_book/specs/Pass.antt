@@ -6,6 +6,7 @@ use Rattle.strip_film.specs.declared.path.Path.{Path}
 use Rattle.strip_film.specs.declared.shared.Line.{Line as LineData}
 use Rattle.strip_film.specs.declared.shared.Listed.{Listed}
 use Rattle.strip_film.specs.declared.shared.Listed.TheVariants.{Line, Spent}
+use Rattle.strip_film.specs.Film.{IsFilm}
 use Rattle.strip_film.specs.Path.{PathData}
 use Rattle.strip_film.specs.Rules.{IsOpen}
 use Rattle.strip_lines.specs.Lines.{AreJustified, GrowTo, IsJustified, line_at}
@@ -29,16 +30,20 @@ abbrev pub known_lines : BookCopy → List LineData
 known_lines copy = copy.seat.me.0.lines
 
 -- which words these are, and the search that they are of
-abbrev pub table_of : Book → TableId
-table_of book = book.table.shared.table_id
+pub record TableData : Type 0 where
+  pub words : TableId
+  pub search : SearchData
+
+abbrev pub table_of : Book → TableData
+table_of book = record { words = book.table.shared.table_id; search = book.table.shared.key }
 
 abbrev pub search_of : Book → SearchData
-search_of book = book.table.shared.key
+search_of book = (table_of book).search
 
 -- the pass steps on these words and goes by their search, has weight and writes nothing; the lines that it knows
 -- are justified and no more than there may be, and its entries are records of their parts
 pub record IsPassOf (book : Book) (pass : BookPass) : Type 0 where
-  pub table : pass.seat.table_id ≡ table_of book
+  pub table : pass.seat.table_id ≡ (table_of book).words
   pub search : (known pass).search ≡ search_of book
   pub no_slots : pass.seat.me.1 ≡ []
   pub some_weight : 0 < (known pass).weight
@@ -49,7 +54,7 @@ pub record IsPassOf (book : Book) (pass : BookPass) : Type 0 where
 
 -- a seat of these words that holds no slot and has weight
 pub record IsSeatOf (book : Book) (seat : Seat Path ViewData) : Type 0 where
-  pub table : seat.table_id ≡ table_of book
+  pub table : seat.table_id ≡ (table_of book).words
   pub no_slots : seat.me.1 ≡ []
   pub some_weight : 0 < seat.me.0.weight
 
@@ -61,12 +66,17 @@ pub record Writes (view : ViewData) (line : ℕ) (path : PathData) (bound : ℕ)
   pub path_is : view.about.path ≡ path
   pub static_bound : bound ≡ (draft_line view).bound
 
--- the copy is one of these words, and has no weight
-pub record IsCopyOf (words : TableId) (copy : BookCopy) : Type 0 where
-  pub table : copy.seat.table_id ≡ words
+-- the copy is one of these words and goes by their search, of a film within limits; it has no weight and writes
+-- nothing, and the lines that it knows are justified and no more than there may be
+pub record IsCopyOf (table : TableData) (copy : BookCopy) : Type 0 where
+  pub words : copy.seat.table_id ≡ table.words
+  pub search : copy.seat.me.0.search ≡ table.search
+  pub film : IsFilm table.search.film
   pub no_slots : copy.seat.me.1 ≡ []
   pub no_weight : copy.seat.me.0.weight ≡ 0
   pub idle : copy.seat.me.0.writing ≡ false
+  pub justified : AreJustified (search_rules table.search) (known_lines copy)
+  pub few : length (known_lines copy) ≤ table.search.cap
 
 -- the words are new, and this is their one pass
 pub record IsFirst (search : SearchData) (book : Book) (pass : BookPass) : Type 0 where

@@ -134,12 +134,16 @@ first_view search = record {
   at = 0;
 }
 
+-- a search of nothing
+abbrev pub no_search : SearchData
+no_search = record { film = record { casts = []; days = []; rates = []; holds = []; pairs = [] }; kind = Plain; cap = 0; start = 0; tasks = [] }
+
 -- what a pass is left with that another took in
 abbrev pub spent_view : ViewData
 spent_view = record {
   weight = 0;
   spent = false;
-  search = record { film = record { casts = []; days = []; rates = []; holds = []; pairs = [] }; kind = Plain; cap = 0; start = 0; tasks = [] };
+  search = no_search;
   entries = [];
   lines = [];
   heard = [];

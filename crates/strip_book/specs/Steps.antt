@@ -96,8 +96,7 @@ pub record HasSeen (before after : ViewData) : Type 0 where
 -- a load of a view without weight: it knows all lines
 pub record HasCompared (before after : ViewData) : Type 0 where
   pub lines : List Line
-  pub knew : GrowTo before.lines lines
-  pub heard : GrowTo before.heard lines
+  pub learnt : HasLearnt before lines
   pub only : after ≡ knowing before lines
 
 -- a split: the pass loses a weight of 1, which the new one has, that knows as much and began no part

@@ -1,5 +1,6 @@
 // The book itself.
 ghost use Rattle.std.specs.Prelude.{◌≡◌, ◌≤◌};
+ghost use Rattle.strip_film.specs.Film.{IsFilm};
 ghost use Rattle.strip_book.specs.Words.{word_count};
 
 use crate::rule::Rule;
@@ -19,4 +20,5 @@ pub struct Book {
     pub ghost no_slots: { table.shared.table_id.slots ≡ 0 },
     pub ghost counts: { cap ≡ table.shared.key.cap },
     pub ghost small: { cap ≤ 16777216 },
+    pub ghost film: { IsFilm table.shared.key.film },
 }

@@ -1,7 +1,6 @@
 -- Jobs that are done, and what becomes of passes on the way.
 use Rattle.std.proofs.Common.{◌≡◌, ℕ, ◌≤◌, ◌||◌, Bool, true, false, Option, None, List, [], ◌∷◌, ◌++◌, All, length, refl, sym, subst, arith}
 use Rattle.std.proofs.lemmas.List.Elements.{All-cons, All-head, All-nil, All-tail}
-use Rattle.atomic_table.specs.Seated.{TableId}
 use Rattle.strip_film.specs.declared.shared.Known.{Known}
 use Rattle.strip_lines.proofs.Grown.{grow_self}
 use Rattle.strip_hand.specs.Hand.{HandData}
@@ -11,7 +10,7 @@ use Rattle.strip_least.specs.declared.view.View.{View as LeastView}
 use Rattle.strip_book.specs.declared.book.Book.{Book}
 use Rattle.strip_book.specs.declared.pass.BookPass.{BookPass}
 use Rattle.strip_book.specs.View.{ViewData}
-use Rattle.strip_book.specs.Pass.{table_of}
+use Rattle.strip_book.specs.Pass.{TableData, table_of}
 use Rattle.strip_front.specs.Front.{FrontData}
 use Rattle.strip_hub.specs.declared.asked.Asked.{Asked}
 use Rattle.strip_hub.specs.declared.source.Source.{Source}
@@ -30,11 +29,11 @@ pub goes_self : (hand : HandData) → GoesOn hand hand
 goes_self hand = record { search = refl; told = omega arith; grow = grow_self hand.lines; records = λ part entry is. is }
 
 -- passes of a hub are those of the words and the book that it stands over
-pub hub_is : (table : TableId) (least other_least : Least) (book other_book : Book) (source other_source : Source) (told other_told : LeastPass)
+pub hub_is : (table : TableData) (least other_least : Least) (book other_book : Book) (source other_source : Source) (told other_told : LeastPass)
     (lines other_lines : BookPass) → least ≡ other_least → book ≡ other_book → other_source ≡ source → other_told ≡ told → other_lines ≡ lines
     → table_of other_book ≡ table → IsHub table least book source told lines → IsHub (table_of other_book) other_least other_book other_source other_told other_lines
 hub_is table least other_least book other_book source other_source told other_told lines other_lines same_least same_book same_source same_told same_lines named hub =
-    subst (λ (t : TableId). IsHub t other_least other_book other_source other_told other_lines) (sym named)
+    subst (λ (t : TableData). IsHub t other_least other_book other_source other_told other_lines) (sym named)
     (subst (λ (l : Least). IsHub table l other_book other_source other_told other_lines) same_least
     (subst (λ (b : Book). IsHub table least b other_source other_told other_lines) same_book
     (subst (λ (s : Source). IsHub table least book s other_told other_lines) (sym same_source)

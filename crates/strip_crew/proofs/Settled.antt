@@ -8,7 +8,6 @@ use Rattle.strip_film.specs.Film.{IsFilm}
 use Rattle.strip_film.specs.Path.{PathData}
 use Rattle.strip_film.specs.declared.shared.Line.{Line}
 use Rattle.strip_count.specs.Parts.{AreCounted}
-use Rattle.atomic_table.specs.Seated.{TableId}
 use Rattle.strip_hand.specs.Hand.{IsHand, IsRecord, RecordData, no_path_yet}
 use Rattle.strip_hand.specs.Search.{SearchData, depth_of, search_rules}
 use Rattle.strip_least.specs.declared.view.View.{View as LeastView}
@@ -16,7 +15,7 @@ use Rattle.strip_least.specs.Rule.{full_weight, once_below}
 use Rattle.strip_least.specs.Steps.{HasSettled}
 use Rattle.strip_book.specs.View.{AreApart, EntryData, ViewData, last_in, last_of, number_in, number_of_record, parts_of, record_at}
 use Rattle.strip_book.specs.Rule.{IsEntry, candidates_at, lines_of, number_of, total}
-use Rattle.strip_book.specs.Pass.{Settles, known}
+use Rattle.strip_book.specs.Pass.{Settles, TableData, known}
 use Rattle.strip_book.specs.Steps.{OwnsAll}
 use Rattle.strip_least.specs.declared.least.Least.{Least}
 use Rattle.strip_least.specs.declared.pass.LeastPass.{LeastPass}
@@ -66,7 +65,7 @@ all_given (Gathers gatherer) parts claims ended given bears left each part =
 all_given (Takes taker) parts claims ended given bears left each part = absurd (omega (arith, bears))
 
 -- what holds of every hand holds of passes that go together
-pub limits_of : (table : TableId) (least : Least) (book : Book) (source : Source) (told : LeastPass) (lines : BookPass)
+pub limits_of : (table : TableData) (least : Least) (book : Book) (source : Source) (told : LeastPass) (lines : BookPass)
     → ((search : SearchData) (entries : List EntryData) (part : ℕ) (kept : RecordData) → All (IsEntry search) entries → record_at part entries ≡ Some kept
     → IsRecord search part kept)
     → IsHub table least book source told lines → IsHand (hand_of source (known_least told) (known lines) None None)

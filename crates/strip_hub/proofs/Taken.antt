@@ -1,5 +1,5 @@
 -- What a taker was given is drawn.
-use Rattle.std.proofs.Common.{◌≡◌, ℕ, ◌+◌, ◌<◌, ◌≤◌, ◌⊎◌, Bool, true, false, cond, eqb, Option, Some, None, MatchOption, List, [], ◌∷◌, ◌++◌, inl, inr, refl, sym, ap, ◌∙◌, subst, arith}
+use Rattle.std.proofs.Common.{◌≡◌, ℕ, ◌+◌, ◌<◌, ◌≤◌, ◌⊎◌, Bool, true, false, cond, eqb, Option, Some, None, MatchOption, List, [], ◌∷◌, inl, inr, refl, sym, ap, ◌∙◌, subst, arith}
 use Rattle.std.specs.Prelude.{nat_lt}
 use Rattle.std.proofs.lemmas.Bool.{cases_Bool, cases_lt, cond-false, eqb-true, le-ltb}
 use Rattle.strip_mask.proofs.Lists.{count-cons}
@@ -7,7 +7,7 @@ use Rattle.strip_least.specs.declared.view.View.{View as LeastView}
 use Rattle.strip_least.specs.Rule.{once_below, times}
 use Rattle.strip_steal.specs.declared.taker.Taker.{Taker}
 use Rattle.strip_steal.proofs.Handed.{handed-same}
-use Rattle.strip_steal.specs.Taker.{IsTaker, StayAt, handed_in, puts, taken_in, taker_queues, taker_shares}
+use Rattle.strip_steal.specs.Taker.{IsTaker, StayAt, handed_in, taken_in, taker_queues, taker_shares}
 use Rattle.strip_hub.specs.declared.source.Source.TheVariants.{Takes}
 use Rattle.strip_hub.specs.Source.{AreTasks, Draws, FindsNone, GivesPart, HasTaker}
 use Rattle.strip_hub.specs.Source.SourceHome.{OfQueues}

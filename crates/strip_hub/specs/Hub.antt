@@ -1,7 +1,6 @@
 -- What a hub shows, what holds of it, and what it stands over.
 use Rattle.std.specs.Prelude.{◌≡◌, ℕ, suc, ◌+◌, ◌≤◌, Option, length}
 use Rattle.std.specs.Option.{option_map}
-use Rattle.atomic_table.specs.Seated.{TableId}
 use Rattle.strip_film.specs.declared.shared.Known.{Known}
 use Rattle.strip_film.specs.Film.{IsFilm}
 use Rattle.strip_hand.specs.Hand.{HandData, ProbeData}
@@ -15,7 +14,7 @@ use Rattle.strip_least.specs.Steps.{AreOnce}
 use Rattle.strip_book.specs.declared.book.Book.{Book}
 use Rattle.strip_book.specs.declared.pass.BookPass.{BookPass}
 use Rattle.strip_book.specs.View.{ViewData, parts_of, record_at}
-use Rattle.strip_book.specs.Pass.{IsPassOf as IsBookPassOf, known, table_of}
+use Rattle.strip_book.specs.Pass.{IsPassOf as IsBookPassOf, TableData, known, table_of}
 use Rattle.strip_hub.specs.declared.asked.Asked.{Asked}
 use Rattle.strip_hub.specs.declared.source.Source.{Source}
 use Rattle.strip_hub.specs.Source.{IsSource, SourceHome, has_ended, source_home, taken_by}
@@ -54,7 +53,7 @@ pub record IsSearch (lines : ViewData) : Type 0 where
 
 -- the passes are of these two words and of this book, which is the one that the table's entries are of, and they go
 -- together
-pub record IsHub (table : TableId) (least : Least) (book : Book) (source : Source) (told : LeastPass) (lines : BookPass) : Type 0 where
+pub record IsHub (table : TableData) (least : Least) (book : Book) (source : Source) (told : LeastPass) (lines : BookPass) : Type 0 where
   pub least_pass : IsLeastPassOf least told
   pub book_pass : IsBookPassOf book lines
   pub named : table_of book ≡ table

@@ -2,6 +2,7 @@
 //! what makes known the line of each of its entries. Only `Stripes::probe` and `note` wait.
 #![tactic(auto)]
 
+pub mod laws;
 mod named;
 mod shelf;
 mod stripes;

@@ -1,11 +1,11 @@
 // Of which book the entries of a table are.
 use std::marker::Brand;
 
-/// Names a book by its words, so that a lock's contents can be told of them.
+/// Names a book by its words and their search, so that a lock's contents can be told of them.
 pub trait Named {
-    ghost use Rattle.atomic_table.specs.Seated.{TableId};
+    ghost use Rattle.strip_book.specs.Pass.{TableData};
 
-    ghost table: { TableId };
+    ghost table: { TableData };
 }
 
 impl Named for Brand {

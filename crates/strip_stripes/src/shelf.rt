@@ -5,8 +5,9 @@ ghost use Rattle.strip_table.specs.Bucket.{Puts, find_in};
 ghost use Rattle.strip_table.specs.Stripe.{home};
 ghost use Rattle.strip_hand.specs.Hand.{Knows};
 ghost use Rattle.strip_book.specs.Pass.{IsPassOf, known, table_of};
-ghost use Rattle.strip_stripes.specs.Shelf.{IsProbed, answer_of};
+ghost use Rattle.strip_stripes.specs.Shelf.{AreTrue, IsProbed, IsTrueAnswer, answer_of};
 
+use crate::laws::the_entries_of_a_shelf_are_true;
 use crate::named::Named;
 use std::alloc::Global;
 use std::marker::{Model, PhantomData};
@@ -28,14 +29,13 @@ pub struct Shelf<N: Named> {
 impl<N: Named> Model for Shelf<N> {
     ghost use Rattle.std.specs.Prelude.{List};
     ghost use Rattle.strip_film.specs.declared.shared.Known.{Known};
-    ghost use Rattle.strip_book.specs.Pass.{IsCopyOf, known_lines};
-    ghost use Rattle.strip_stripes.specs.Shelf.{AreKnown};
+    ghost use Rattle.strip_stripes.specs.Shelf.{IsShelf};
 
     ghost Value = { List (List Known) };
 
     ghost view = { λ s. s.stripe };
 
-    ghost invariant = { λ s. IsCopyOf N.table s.copy × AreKnown (known_lines s.copy) s.stripe };
+    ghost invariant = { λ s. IsShelf N.table s.copy s.stripe };
 }
 
 impl<N: Named> Shelf<N> {
@@ -61,7 +61,16 @@ impl<N: Named> Shelf<N> {
         })
     }
 
-    /// The entry of the set, where its bucket has one, whose line the pass then knows.
+    /// Each entry is at most the cost of finishing its set, whenever a lock gives the shelf out. It does
+    /// nothing: a caller that needs this makes this call first.
+    pub fn keeps_true_bounds(&self)
+        ensures { AreTrue N.table self.now }
+    {
+        let _ = &self.copy;
+        the_entries_of_a_shelf_are_true();
+    }
+
+    /// The entry of the set, where its bucket has one, whose line the pass then knows. Its bound is true.
     pub fn probe(&mut self, book: &Book, pass: &mut BookPass, set: u64) -> Probe
         requires named { table_of book.now ≡ N.table }
         requires pass { IsPassOf book.now pass.old }
@@ -69,9 +78,11 @@ impl<N: Named> Shelf<N> {
         ensures answer { result ≡ answer_of (find_in (home self.old set) set) }
         ensures pass { IsPassOf book.now pass.new }
         ensures probed { IsProbed (known pass.old) set result (known pass.new) }
+        ensures true_bound { IsTrueAnswer N.table set result }
     {
         self.stripe.keeps_limits();
         the_entry_of_a_set_is_found();
+        the_entries_of_a_shelf_are_true();
         match self.stripe.find(set) {
             Some(entry) => {
                 pass.hear(book, self.copy.copy(book));

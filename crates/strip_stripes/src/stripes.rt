@@ -2,7 +2,7 @@
 ghost use Rattle.std.specs.Prelude.{◌≡◌, ◌≤◌, vec_len};
 ghost use Rattle.strip_hand.specs.Hand.{Knows};
 ghost use Rattle.strip_book.specs.Pass.{IsPassOf, known, table_of};
-ghost use Rattle.strip_stripes.specs.Shelf.{IsProbed};
+ghost use Rattle.strip_stripes.specs.Shelf.{IsProbed, IsTrueAnswer};
 
 use crate::named::Named;
 use crate::shelf::Shelf;
@@ -44,13 +44,14 @@ impl<N: Named> Stripes<N> {
         Ok(Stripes { shelves })
     }
 
-    /// Asks for an entry of the set. A line that it names the pass then knows, with this set and a bound at
-    /// least as great. It waits for the lock of the set's stripe.
+    /// Asks for an entry of the set, whose bound is at most the cost of finishing it. A line that it names the
+    /// pass then knows, with this set and a bound at least as great. It waits for the lock of the set's stripe.
     pub fn probe<R: Wait>(&self, rt: &R, book: &Book, pass: &mut BookPass, set: u64) -> Probe
         requires named { table_of book.now ≡ N.table }
         requires pass { IsPassOf book.now pass.old }
         ensures pass { IsPassOf book.now pass.new }
         ensures probed { IsProbed (known pass.old) set result (known pass.new) }
+        ensures true_bound { IsTrueAnswer N.table set result }
     {
         let shelf = &self.shelves[stripe_of(set) as usize];
         shelf.lock(rt).probe(book, pass, set)

@@ -1,5 +1,6 @@
 use Rattle.std.proofs.Common.{arith}
 use Rattle.strip_book.proofs.Parted.{copies}
+use Rattle.strip_book.proofs.Passed.{copied_pass}
 use Rattle.strip_book.proofs.pass.BookPass.copy.Goals as goal
 
 pub split_seat-seat-requires : goal.split_seat-seat-requires
@@ -8,3 +9,8 @@ split_seat-seat-requires c = (
   omega (arith, c.args.book.now.words),
   copies c.args.book.now.table.shared.key c.args.self.now.seat.id c.args.self.now.seat.me.0,
 )
+
+pub returns-clause-copy : goal.returns-clause-copy
+returns-clause-copy c =
+    let e = c.split_seat-seat.ensures in
+    copied_pass c.args.book.now c.args.self.now _ c.requires e.3 e.4

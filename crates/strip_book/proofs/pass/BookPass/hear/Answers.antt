@@ -10,7 +10,7 @@ use Rattle.strip_book.proofs.pass.BookPass.hear.Goals as goal
 pub join_seat-requires : goal.join_seat-requires
 join_seat-requires c = (
   c.requires.pass.table,
-  c.requires.copy.table,
+  c.requires.copy.words,
   c.requires.copy.no_slots,
   omega (arith, c.args.book.now.words),
   hears c.args.book.now.table.shared.key c.args.self.now.seat.id c.args.self.now.seat.me.0 c.args.copy.seat.id c.args.copy.seat.me.0 c.requires.pass.idle c.requires.copy.no_weight,
