@@ -112,7 +112,7 @@ run_proves once run code holds job text taken named told sink is =
     )
   where
     printed : (status : Status) → IsOfPlan status
-        → IsOutcome run (AsksFor board_claims run.words) (IsDue board_claims run.words run.files_before run.files_after) status
+        → IsOutcome run (AsksFor board_claims run.words run.files_before) (IsDue board_claims run.words run.files_before run.files_after) status
         → Prints run (IsDue board_claims run.words run.files_before run.files_after status)
     printed Done of_plan outcome = outcome
     printed Bounded of_plan outcome = outcome

@@ -18,21 +18,21 @@ use Rattle.strip_commands.specs.Convert.{IsConvertDue, IsConvertFit}
 use Rattle.strip_commands.specs.Report.{IsReportDue, IsReportFit, IsReportUnfit}
 use Rattle.strip_commands.specs.Made.{IsGenDue, IsTrialDue, made_of}
 
--- the job asks for this file
-abbrev pub IsFileOf : JobData → List ℕ → Type 0
-IsFileOf (Solve job) file = job.file ≡ file
-IsFileOf (Check files) file = IsEither files.film files.plan file
-IsFileOf (Convert files) file = IsEither files.film files.plan file
-IsFileOf (Dood files) file = IsEither files.film files.plan file
-IsFileOf (Sheet files) file = IsEither files.film files.plan file
-IsFileOf (Gen film) file = ⊥
-IsFileOf (Trial job) file = ⊥
+-- the job asks for this file, by what the files tell
+abbrev pub IsFileOf : JobData → FilesData → List ℕ → Type 0
+IsFileOf (Solve job) told file = job.file ≡ file
+IsFileOf (Check files) told file = IsEither files.film files.plan told file
+IsFileOf (Convert files) told file = IsEither files.film files.plan told file
+IsFileOf (Dood files) told file = IsEither files.film files.plan told file
+IsFileOf (Sheet files) told file = IsEither files.film files.plan told file
+IsFileOf (Gen film) told file = ⊥
+IsFileOf (Trial job) told file = ⊥
 
 -- the job's numbers lie within their ends
 abbrev pub IsWithin : JobData → Type 0
 IsWithin (Solve job) =
     (1 ≤ job.nodes) × (job.nodes ≤ 16777216) × (64 ≤ job.table) × (job.table ≤ 4194304)
-    × IfSome job.tries (λ tries. tries ≤ 100000000) × (1 ≤ job.workers) × (job.workers ≤ 64)
+    × IfSome job.tries (λ tries. tries ≤ 100000000) × IfSome job.workers (λ workers. (1 ≤ workers) × (workers ≤ 64))
     × IfSome job.steps (λ steps. (1 ≤ steps) × (steps ≤ 1000))
 IsWithin (Check files) = Unit {0}
 IsWithin (Convert files) = Unit {0}

@@ -25,16 +25,16 @@ use strip_words::{Job, WordsFault, job};
 
 /// The answer to the words: that they name no job, or what the job that they name asks for.
 pub(crate) fn answer_words<
-    V: Fn(&Instance, SearchOptions, u32) -> Result<Plan, ReduceFault>,
+    V: Fn(&Instance, SearchOptions, Option<u32>) -> Result<Plan, ReduceFault>,
     F: Files,
 >(alloc: Global, solver: &V, words: &[String], files: &mut F) -> Result<Answer, Stop>
     requires { Solves (V.pre solver.now) (V.post solver.now) }
     ensures due { IfOk result (λ answer. IsDue board_claims (texts words.now) (F.state files.old) (F.state files.new)
         answer.status (answer_text answer)) }
     ensures read { result ≡ Err Stop.Read → HasReadFault (F.state files.old) (F.state files.new)
-        (AsksFor board_claims (texts words.now)) }
+        (AsksFor board_claims (texts words.now) (F.state files.old)) }
     ensures files { FilesStay (F.state files.old) (F.state files.new)
-        (AsksFor board_claims (texts words.now)) (result ≡ Err Stop.Read) }
+        (AsksFor board_claims (texts words.now) (F.state files.old)) (result ≡ Err Stop.Read) }
 {
     numbers_lie_within_their_ends();
     match job(alloc, words) {
@@ -45,7 +45,7 @@ pub(crate) fn answer_words<
 }
 
 /// The answer to a job, a line for each command.
-fn answer_job<V: Fn(&Instance, SearchOptions, u32) -> Result<Plan, ReduceFault>, F: Files>(
+fn answer_job<V: Fn(&Instance, SearchOptions, Option<u32>) -> Result<Plan, ReduceFault>, F: Files>(
     alloc: Global,
     solver: &V,
     files: &mut F,
@@ -56,9 +56,9 @@ fn answer_job<V: Fn(&Instance, SearchOptions, u32) -> Result<Plan, ReduceFault>,
     ensures due { IfOk result (λ answer. IsDueFor (job_data job.now) (F.state files.old) (F.state files.new)
         answer.status (answer_text answer)) }
     ensures read { result ≡ Err Stop.Read → HasReadFault (F.state files.old) (F.state files.new)
-        (IsFileOf (job_data job.now)) }
+        (IsFileOf (job_data job.now) (F.state files.old)) }
     ensures files { FilesStay (F.state files.old) (F.state files.new)
-        (IsFileOf (job_data job.now)) (result ≡ Err Stop.Read) }
+        (IsFileOf (job_data job.now) (F.state files.old)) (result ≡ Err Stop.Read) }
 {
     match job {
         Job::Solve(job) => solve(alloc, solver, files, job),

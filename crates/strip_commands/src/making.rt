@@ -50,7 +50,7 @@ fn film_made(alloc: Global, job: &GenJob) -> Result<Instance, Memory>
 }
 
 /// The answer to a trial: a film is made, solved, and its plan checked.
-pub(crate) fn try_film<V: Fn(&Instance, SearchOptions, u32) -> Result<Plan, ReduceFault>>(
+pub(crate) fn try_film<V: Fn(&Instance, SearchOptions, Option<u32>) -> Result<Plan, ReduceFault>>(
     alloc: Global,
     solver: &V,
     job: &TrialJob,
@@ -68,7 +68,7 @@ pub(crate) fn try_film<V: Fn(&Instance, SearchOptions, u32) -> Result<Plan, Redu
 }
 
 /// The answer to a trial of an instance with this many classes, at most 64. One worker solves it.
-fn try_classes<V: Fn(&Instance, SearchOptions, u32) -> Result<Plan, ReduceFault>>(
+fn try_classes<V: Fn(&Instance, SearchOptions, Option<u32>) -> Result<Plan, ReduceFault>>(
     alloc: Global,
     solver: &V,
     inst: &Instance,
@@ -83,7 +83,7 @@ fn try_classes<V: Fn(&Instance, SearchOptions, u32) -> Result<Plan, ReduceFault>
     ensures { IfOk result (λ answer. IsTrialDue (trial_data job.now) answer.status (answer_text answer)) }
 {
     let options = options_of(job.kind, job.nodes, job.table, job.tries, job.steps, false);
-    match solver(inst, options, 1) {
+    match solver(inst, options, Some(1)) {
         Ok(plan) => try_plan(alloc, inst, job, classes, &plan),
         Err(ReduceFault::TooManyClasses { .. }) => unreachable!("there are at most 64 classes"),
         Err(ReduceFault::Memory) => Err(Memory),

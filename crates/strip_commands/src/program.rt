@@ -1,5 +1,5 @@
 // The whole program, over handed-in words, files and sink.
-ghost use Rattle.std.specs.Prelude.{◌≤◌};
+ghost use Rattle.std.specs.Prelude.{◌≤◌, IfSome};
 ghost use Rattle.std.specs.Thread.{IsSync};
 ghost use Rattle.strip_solve.specs.Answer.{IsAnswerFor, MayBe};
 ghost use Rattle.strip_words.specs.Shown.{texts};
@@ -33,7 +33,10 @@ pub fn report<F: Files, S: Sink>(alloc: Global, words: &[String], files: &mut F,
 {
     report_by(
         alloc,
-        &|inst: &Instance, options: SearchOptions, _workers: u32| -> Result<Plan, ReduceFault>
+        &|inst: &Instance, options: SearchOptions, _workers: Option<u32>| -> Result<
+            Plan,
+            ReduceFault,
+        >
             requires { MayBe options }
             ensures { IsAnswerFor options inst.now result }
         { solve_alone(alloc, inst, options) },
@@ -60,8 +63,12 @@ pub fn run<R: Threads + Wait + Sync, F: Files, S: Sink, G: Gate>(
 {
     report_by(
         alloc,
-        &|inst: &Instance, options: SearchOptions, workers: u32| -> Result<Plan, ReduceFault>
-            requires { IsSync R.row × IsSync G.row × MayBe options × (1 ≤ workers) × (workers ≤ 64) }
+        &|inst: &Instance, options: SearchOptions, workers: Option<u32>| -> Result<
+            Plan,
+            ReduceFault,
+        >
+            requires { IsSync R.row × IsSync G.row × MayBe options
+                × IfSome workers (λ number. (1 ≤ number) × (number ≤ 64)) }
             ensures { IsAnswerFor options inst.now result }
         { solve_by(rt, alloc, inst, options, workers, gate) },
         words,
@@ -71,13 +78,11 @@ pub fn run<R: Threads + Wait + Sync, F: Files, S: Sink, G: Gate>(
 }
 
 /// The same by any solver.
-fn report_by<V: Fn(&Instance, SearchOptions, u32) -> Result<Plan, ReduceFault>, F: Files, S: Sink>(
-    alloc: Global,
-    solver: &V,
-    words: &[String],
-    files: &mut F,
-    out: &mut S,
-) -> u8
+fn report_by<
+    V: Fn(&Instance, SearchOptions, Option<u32>) -> Result<Plan, ReduceFault>,
+    F: Files,
+    S: Sink,
+>(alloc: Global, solver: &V, words: &[String], files: &mut F, out: &mut S) -> u8
     requires { Solves (V.pre solver.now) (V.post solver.now) }
     ensures headline { IsHeadline board_claims (run_data (texts words.now)
         (F.state files.old) (F.state files.new) (S.state out.old) (S.state out.new)) result }

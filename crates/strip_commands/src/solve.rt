@@ -26,12 +26,10 @@ use strip_solve::SearchOptions;
 use strip_words::SolveJob;
 
 /// The answer to a job: a plan of its file's film, or why there is none.
-pub(crate) fn solve<V: Fn(&Instance, SearchOptions, u32) -> Result<Plan, ReduceFault>, F: Files>(
-    alloc: Global,
-    solver: &V,
-    files: &mut F,
-    job: &SolveJob,
-) -> Result<Answer, Stop>
+pub(crate) fn solve<
+    V: Fn(&Instance, SearchOptions, Option<u32>) -> Result<Plan, ReduceFault>,
+    F: Files,
+>(alloc: Global, solver: &V, files: &mut F, job: &SolveJob) -> Result<Answer, Stop>
     requires solves { Solves (V.pre solver.now) (V.post solver.now) }
     requires within { IsWithin (ToSolve (solve_data job.now)) }
     ensures due { IfOk result (λ answer. IsSolveDue (solve_data job.now) (F.state files.old) (F.state files.new)
@@ -49,7 +47,7 @@ pub(crate) fn solve<V: Fn(&Instance, SearchOptions, u32) -> Result<Plan, ReduceF
 }
 
 /// The answer to an instance that a text says.
-fn solve_instance<V: Fn(&Instance, SearchOptions, u32) -> Result<Plan, ReduceFault>>(
+fn solve_instance<V: Fn(&Instance, SearchOptions, Option<u32>) -> Result<Plan, ReduceFault>>(
     alloc: Global,
     solver: &V,
     inst: &Instance,
@@ -64,7 +62,7 @@ fn solve_instance<V: Fn(&Instance, SearchOptions, u32) -> Result<Plan, ReduceFau
     let options = options_of(
         job.kind, job.nodes, job.table, job.tries, job.steps, job.steal,
     );
-    match solver(inst, options, job.workers as u32) {
+    match solver(inst, options, narrow(job.workers)) {
         Ok(plan) => answer_plan(alloc, inst, plan, job.proof),
         Err(ReduceFault::TooManyClasses { count }) => too_many_classes(alloc, count),
         Err(ReduceFault::Memory) => Err(Memory),

@@ -1,33 +1,45 @@
 // A solver of so many workers: one, or several beside one another.
-ghost use Rattle.std.specs.Prelude.{◌≤◌};
+ghost use Rattle.std.specs.Prelude.{◌≤◌, IfSome};
 ghost use Rattle.strip_solve.specs.Answer.{IsAnswerFor, MayBe};
 
 use std::alloc::Global;
 use std::sync::Wait;
-use std::thread::Threads;
+use std::thread::{self, Threads};
 use strip_model::Instance;
 use strip_proof::Plan;
 use strip_reduce::ReduceFault;
 use strip_solve::{SearchOptions, solve_beside, solve_through};
 use strip_worker::Gate;
 
-/// A plan of the instance, by so many workers, 1 to 64, in threads of the runtime where they are several.
+/// A plan of the instance, by so many workers, 1 to 64, in threads of the runtime where they are several. If no number is
+/// given, they are as many as the machine has processors.
 /// The gate is told how they get on.
 pub(crate) fn solve_by<R: Threads + Wait + Sync, G: Gate>(
     rt: &R,
     alloc: Global,
     inst: &Instance,
     options: SearchOptions,
-    workers: u32,
+    workers: Option<u32>,
     gate: &G,
 ) -> Result<Plan, ReduceFault>
     requires options { MayBe options }
-    requires workers { (1 ≤ workers) × (workers ≤ 64) }
+    requires workers { IfSome workers (λ number. (1 ≤ number) × (number ≤ 64)) }
     ensures { IsAnswerFor options inst.now result }
 {
+    let workers = workers.unwrap_or_else(|| processors(rt));
     if workers == 1 {
         solve_through(alloc, inst, options, gate)
     } else {
         solve_beside(rt, alloc, inst, options, workers, gate)
+    }
+}
+
+/// How many processors the machine has, at most 64; 1 if it doesn't tell.
+fn processors<R: Threads>(rt: &R) -> u32
+    ensures { (1 ≤ result) × (result ≤ 64) }
+{
+    match thread::available_parallelism(rt) {
+        Ok(count) => count.get().min(64) as u32,
+        Err(_) => 1,
     }
 }

@@ -4,6 +4,7 @@ pub mod Names
 pub mod Cuts
 pub mod Spelled
 pub mod Given
+mod Workers
 pub mod Shows
 pub mod Solving
 pub mod Planning

@@ -1,15 +1,16 @@
 -- The job to solve that words name, and that they name one.
-use Rattle.std.proofs.Common.{◌≡◌, false, true≢false, bytes_eq, List, Option, Contains, inl, inr, rules, refl, sym, subst, ◌∙◌}
+use Rattle.std.proofs.Common.{◌≡◌, ◌≤◌, ℕ, false, true≢false, bytes_eq, List, Option, None, Some, Contains, inl, inr, rules, refl, sym, ap, subst, arith, ◌∙◌}
+use Rattle.std.proofs.lemmas.List.Elements.{recursion_from_All}
 use Rattle.std.proofs.lemmas.Slice.Eq.{bytes_eq-Decides}
 use Rattle.strip_kind.specs.declared.kind.Kind.{Kind}
 use Rattle.strip_kind.specs.declared.kind.Kind.TheVariants.{Plain, Pairs, Groups, Arrivals}
-use Rattle.strip_words.specs.Words.{Word, Item, IsSpelled}
-use Rattle.strip_words.specs.Options.{IsPicked}
+use Rattle.strip_words.specs.Words.{Word, Item, AreDistinct, IsSpelled, options_in}
+use Rattle.strip_words.specs.Options.{IsNumber, IsPicked}
 use Rattle.strip_words.specs.declared.item.Item.{Item as CodeItem}
 use Rattle.strip_words.specs.Shown.{items_data}
-use Rattle.strip_words.specs.Solve.{solve, workers_option, nodes_option, table_option, tries_option, steps_option, bounds_option, bound_word, SolveData, SayJob, NameSolve}
+use Rattle.strip_words.specs.Solve.{AreWorkers, all_workers, nodes_option, solve, workers_option, table_option, tries_option, steps_option, bounds_option, bound_word, SolveData, SayJob, NameSolve}
 use Rattle.strip_pay.proofs.Lists.{same_test}
-use Rattle.strip_words.proofs.Given.{chosen_once, given_number_once, picked_once}
+use Rattle.strip_words.proofs.Given.{chosen_once, given_number_once, not_chosen, picked_once}
 use Rattle.strip_words.proofs.Spelled.{said}
 
 pub differ : {A : Type 0} (a b : Word) → bytes_eq a b ≡ false → a ≡ b → A
@@ -44,11 +45,23 @@ pub said_by_items : (words : List Word) (items slice : List CodeItem) (rest : Op
 said_by_items words items slice rest job same is names =
     subst (λ items. SayJob (items_data items) rest job) (sym same) (said solve refl words (items_data items) rest is (λ items rest. SayJob items rest job) names)
 
+-- the word for all workers is no number
+pub no_number : (n : ℕ) → ¬ IsNumber workers_option.least workers_option.most all_workers n
+no_number n is =
+    let first = (recursion_from_All (λ (byte : ℕ). (48 ≤ byte) × (byte ≤ 57)) all_workers is.digits).0 in
+    omega (arith, first.1)
+
+workers_once : (items : List Item) (a b : Option ℕ) → AreDistinct (options_in items) → AreWorkers items a → AreWorkers items b → a ≡ b
+workers_once items None None distinct one two = refl
+workers_once items None (Some b) distinct one two = absurd (not_chosen workers_option all_workers items distinct one no_number b two)
+workers_once items (Some a) None distinct one two = absurd (not_chosen workers_option all_workers items distinct two no_number a one)
+workers_once items (Some a) (Some b) distinct one two = ap Some (chosen_once workers_option items a b distinct one two)
+
 pub solve_once : (words : List Word) (a b : SolveData) → NameSolve words a → NameSolve words b → a ≡ b
 solve_once words a b (items, rest, spelled, one) names =
     let two = said solve refl words items rest spelled (λ items rest. SayJob items rest b) names in
     let file : a.file ≡ b.file = (let p = one.file in let q = two.file in cc) in
-    let workers = chosen_once workers_option items a.workers b.workers spelled.once one.workers two.workers in
+    let workers = workers_once items a.workers b.workers spelled.once one.workers two.workers in
     let nodes = chosen_once nodes_option items a.nodes b.nodes spelled.once one.nodes two.nodes in
     let table = chosen_once table_option items a.table b.table spelled.once one.table two.table in
     let tries = given_number_once tries_option items a.tries b.tries spelled.once one.tries two.tries in

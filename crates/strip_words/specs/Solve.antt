@@ -1,7 +1,7 @@
 -- The words of `solve`, and the job that they name.
-use Rattle.std.specs.Prelude.{◌≡◌, ◌↔◌, ℕ, Bool, true, Option, List, [], ◌∷◌, Contains, codes}
+use Rattle.std.specs.Prelude.{◌≡◌, ◌↔◌, ℕ, Bool, true, Option, None, Some, List, [], ◌∷◌, Any, Contains, codes}
 use Rattle.strip_words.specs.Words.{Word, Command, Item, Flag, IsSpelled, operands_of}
-use Rattle.strip_words.specs.Options.{NumberOption, FreeOption, ChoiceOption, IsChosen, IsGiven, IsPicked}
+use Rattle.strip_words.specs.Options.{NumberOption, FreeOption, ChoiceOption, Gives, IsChosen, IsGiven, IsPicked}
 use Rattle.strip_kind.specs.declared.kind.Kind.{Kind}
 use Rattle.strip_kind.specs.declared.kind.Kind.TheVariants.{Plain, Pairs, Groups, Arrivals}
 
@@ -32,6 +32,10 @@ progress_flag = codes "--progress"
 abbrev pub steal_flag : Word
 steal_flag = codes "--steal"
 
+-- as many workers as there are processors
+abbrev pub all_workers : Word
+all_workers = codes "auto"
+
 abbrev pub solve : Command
 solve = record {
   word = codes "solve";
@@ -47,13 +51,13 @@ bound_word Pairs = codes "pairs"
 bound_word Groups = codes "groups"
 bound_word Arrivals = codes "arrivals"
 
--- a job to solve a file: how many workers, the greatest number of lines, the table's entries, how often the start is
--- varied where the words say it, in how many steps the bound is raised first, where the words say it, the static bound,
--- whether line rows are written, whether it is told on standard error how the search gets on, and whether workers have
--- queues of tasks and take from those of others too
+-- a job to solve a file: how many workers, or else as many as there are processors, the greatest number of lines, the
+-- table's entries, how often the start is varied where the words say it, in how many steps the bound is raised first,
+-- where the words say it, the static bound, whether line rows are written, whether it is told on standard error how the
+-- search gets on, and whether workers have queues of tasks and take from those of others too
 pub record SolveData : Type 0 where
   pub file : Word
-  pub workers : ℕ
+  pub workers : Option ℕ
   pub nodes : ℕ
   pub table : ℕ
   pub tries : Option ℕ
@@ -63,10 +67,15 @@ pub record SolveData : Type 0 where
   pub progress : Bool
   pub steal : Bool
 
+-- how many workers the items say: a number, or that they are as many as there are processors
+abbrev pub AreWorkers : List Item → Option ℕ → Type 0
+AreWorkers items None = Any (Gives workers_option.name all_workers) items
+AreWorkers items (Some n) = IsChosen workers_option items n
+
 -- the items and what follows them say this job
 pub record SayJob (items : List Item) (rest : Option (List Word)) (job : SolveData) : Type 0 where
   pub file : operands_of items rest ≡ job.file ∷ []
-  pub workers : IsChosen workers_option items job.workers
+  pub workers : AreWorkers items job.workers
   pub nodes : IsChosen nodes_option items job.nodes
   pub table : IsChosen table_option items job.table
   pub tries : IsGiven tries_option items job.tries

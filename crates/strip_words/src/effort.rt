@@ -3,18 +3,17 @@ ghost use Rattle.std.specs.Prelude.{ℕ, Option, IfOk, IfErr};
 ghost use Rattle.strip_kind.specs.declared.kind.Kind.{Kind as StaticBound};
 ghost use Rattle.strip_words.specs.Words.{AreDistinct, options_in};
 ghost use Rattle.strip_words.specs.Options.{IsChosen, IsGiven, IsPicked};
-ghost use Rattle.strip_words.specs.Solve.{nodes_option, table_option, tries_option, steps_option, bounds_option, bound_word};
+ghost use Rattle.strip_words.specs.Solve.{table_option, tries_option, steps_option, bounds_option, bound_word};
 ghost use Rattle.strip_words.specs.Shown.{items_data};
 
 use crate::WordsFault;
 use crate::item::Item;
-use crate::solve::{BOUNDS, NODES, STEPS, TABLE, TRIES, kind_of};
+use crate::solve::{BOUNDS, STEPS, TABLE, TRIES, kind_of};
 use strip_kind::Kind;
 
 /// What the options say that `solve` and `trial` have in common.
 #[derive(Clone, Copy)]
 pub(crate) struct Effort {
-    pub(crate) nodes: u64,
     pub(crate) table: u64,
     pub(crate) tries: Option<u64>,
     pub(crate) steps: Option<u64>,
@@ -24,25 +23,21 @@ pub(crate) struct Effort {
 /// The numbers and the static bound that the items say.
 pub(crate) fn effort_of(items: &[Item]) -> Result<Effort, WordsFault>
     requires { AreDistinct (options_in (items_data items.now)) }
-    ensures nodes { IfOk result (λ effort. IsChosen nodes_option (items_data items.now) effort.nodes) }
     ensures table { IfOk result (λ effort. IsChosen table_option (items_data items.now) effort.table) }
     ensures tries { IfOk result (λ effort. IsGiven tries_option (items_data items.now) effort.tries) }
     ensures steps { IfOk result (λ effort. IsGiven steps_option (items_data items.now) effort.steps) }
     ensures kind { IfOk result (λ effort. IsPicked bounds_option (items_data items.now) (bound_word effort.kind)) }
-    ensures bad { IfErr result (λ e. (nodes table : ℕ) (tries steps : Option ℕ) (kind : StaticBound)
-        → IsChosen nodes_option (items_data items.now) nodes
+    ensures bad { IfErr result (λ e. (table : ℕ) (tries steps : Option ℕ) (kind : StaticBound)
         → IsChosen table_option (items_data items.now) table
         → IsGiven tries_option (items_data items.now) tries
         → IsGiven steps_option (items_data items.now) steps
         → ¬ IsPicked bounds_option (items_data items.now) (bound_word kind)) }
 {
-    let nodes = NODES.chosen(items)?;
     let table = TABLE.chosen(items)?;
     let tries = TRIES.given(items)?;
     let steps = STEPS.given(items)?;
     let kind = kind_of(BOUNDS.picked(items)?);
     Ok(Effort {
-        nodes,
         table,
         tries,
         steps,

@@ -14,7 +14,7 @@ pub fn words_name_one_job()
 /// made from a number has as many scenes and actors as an instance may have.
 pub fn numbers_lie_within_their_ends()
     ensures workers { (words : List Word) (job : SolveData) → NameSolve words job
-        → (1 ≤ job.workers) × (job.workers ≤ 64) }
+        → IfSome job.workers (λ workers. (1 ≤ workers) × (workers ≤ 64)) }
     ensures nodes { (words : List Word) (job : SolveData) → NameSolve words job
         → (1 ≤ job.nodes) × (job.nodes ≤ 16777216) }
     ensures table { (words : List Word) (job : SolveData) → NameSolve words job

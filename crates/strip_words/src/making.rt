@@ -75,12 +75,13 @@ pub(crate) fn trial_job(alloc: Global, later: &[String]) -> Result<TrialJob, Wor
 {
     let reading = read(alloc, &TRIAL, later)?;
     let items = reading.items.as_slice();
+    let nodes = NODES.chosen(items)?;
     let effort = effort_of(items)?;
     let operands = reading.operands(alloc)?;
     let film = film_named(operands.as_slice())?;
     Ok(TrialJob {
         film,
-        nodes: effort.nodes,
+        nodes,
         table: effort.table,
         tries: effort.tries,
         steps: effort.steps,

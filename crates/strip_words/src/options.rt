@@ -57,7 +57,7 @@ impl ChoiceOption {
 }
 
 /// The value that the items give the option.
-fn value_of<'w>(items: &[Item<'w>], name: &str) -> Option<&'w str>
+pub(crate) fn value_of<'w>(items: &[Item<'w>], name: &str) -> Option<&'w str>
     ensures some { IfSome result (λ value. Any (Gives name.now value.now) (items_data items.now)) }
     ensures none { IfNone result (IsLeftOut name.now (items_data items.now)) }
 {

@@ -1,13 +1,17 @@
 // The words of `solve`.
-ghost use Rattle.std.specs.Prelude.{◌≡◌, ◌∷◌, Contains, IfOk, IfErr, codes};
+ghost use Rattle.std.specs.Prelude.{◌≡◌, ◌↔◌, ◌∷◌, ℕ, Option, Contains, IfOk, IfErr, IsTrue, codes, true};
 ghost use Rattle.strip_words.specs.declared.fault.WordsFault.TheVariants.{BadWords as NoJob};
-ghost use Rattle.strip_words.specs.Solve.{SolveData, NameSolve, bounds_option, bound_word};
-ghost use Rattle.strip_words.specs.Shown.{texts, solve_data};
+ghost use Rattle.strip_words.specs.Options.{IsChosen};
+ghost use Rattle.strip_words.specs.Solve.{AreWorkers, NameSolve, SolveData, bounds_option, bound_word};
+ghost use Rattle.strip_words.specs.Words.{AreDistinct, options_in};
+ghost use Rattle.strip_words.specs.Shown.{items_data, solve_data, texts};
 
 use crate::WordsFault;
 use crate::command::{ChoiceOption, Command, CommandOption, FreeOption, NumberOption};
 use crate::effort::effort_of;
-use crate::options::has_flag;
+use crate::item::Item;
+use crate::number::number_of;
+use crate::options::{has_flag, value_of};
 use crate::reader::read;
 use std::alloc::Global;
 use strip_kind::Kind;
@@ -73,13 +77,16 @@ const PROGRESS: &str = "--progress";
 
 const STEAL: &str = "--steal";
 
+/// As many workers as there are processors.
+const ALL_WORKERS: &str = "auto";
+
 /// A film to be solved, and how.
 #[derive(Drop)]
 pub struct SolveJob {
     /// The file that has the film.
     pub file: String,
-    /// How many workers search, 1 to 64.
-    pub workers: u64,
+    /// How many workers search, 1 to 64, or as many as there are processors if it isn't said.
+    pub workers: Option<u64>,
     /// The greatest number of lines, 1 to 16,777,216.
     pub nodes: u64,
     /// How many entries the table has, 64 to 4,194,304.
@@ -106,7 +113,8 @@ pub(crate) fn solve_job(alloc: Global, later: &[String]) -> Result<SolveJob, Wor
 {
     let reading = read(alloc, &SOLVE, later)?;
     let items = reading.items.as_slice();
-    let workers = WORKERS.chosen(items)?;
+    let workers = workers_of(items)?;
+    let nodes = NODES.chosen(items)?;
     let effort = effort_of(items)?;
     let proof = has_flag(items, PROOF);
     let progress = has_flag(items, PROGRESS);
@@ -116,7 +124,7 @@ pub(crate) fn solve_job(alloc: Global, later: &[String]) -> Result<SolveJob, Wor
     Ok(SolveJob {
         file,
         workers,
-        nodes: effort.nodes,
+        nodes,
         table: effort.table,
         tries: effort.tries,
         steps: effort.steps,
@@ -125,6 +133,22 @@ pub(crate) fn solve_job(alloc: Global, later: &[String]) -> Result<SolveJob, Wor
         progress,
         steal,
     })
+}
+
+/// How many workers the items say, or none if they are to be as many as there are processors.
+fn workers_of(items: &[Item]) -> Result<Option<u64>, WordsFault>
+    requires { AreDistinct (options_in (items_data items.now)) }
+    ensures ok { IfOk result (AreWorkers (items_data items.now)) }
+    ensures bad { IfErr result (λ e. (workers : Option ℕ) → ¬ AreWorkers (items_data items.now) workers) }
+{
+    match value_of(items, WORKERS.name) {
+        None => Ok(Some(WORKERS.default)),
+        Some(value) if value == ALL_WORKERS => Ok(None),
+        Some(value) => match number_of(value, WORKERS.least, WORKERS.most) {
+            Some(number) => Ok(Some(number)),
+            None => Err(WordsFault::BadWords),
+        },
+    }
 }
 
 /// The static bound that this word stands for.

@@ -8,7 +8,7 @@ use Rattle.strip_commands.proofs.answer.answer_words.Goals as goal
 
 pub returns-in-Ok-clause-files : goal.returns-in-Ok-clause-files
 returns-in-Ok-clause-files g c =
-    stay_wider _ _ (IsFileOf (job_data c.in-Ok.job)) (AsksFor board_claims (texts c.args.words.now)) _
+    stay_wider _ _ (IsFileOf (job_data c.in-Ok.job) (g.F.Files.state c.args.files.now)) (AsksFor board_claims (texts c.args.words.now) (g.F.Files.state c.args.files.now)) _
     (λ name its. (job_data c.in-Ok.job, c.in-Ok.ensures.named, its)) c.answer_job.ensures.files
 
 pub returns-in-Ok-clause-due : goal.returns-in-Ok-clause-due

@@ -1,7 +1,7 @@
 use Rattle.std.proofs.Common.{◌≤◌, ℕ, Option, None, Some, List, IfSome, inl, inr, arith}
 use Rattle.strip_words.specs.Words.{Word, Item, operands_of}
 use Rattle.strip_words.specs.Options.{NumberOption, FreeOption, IsChosen, IsGiven}
-use Rattle.strip_words.specs.Solve.{workers_option, nodes_option, table_option, tries_option, steps_option}
+use Rattle.strip_words.specs.Solve.{AreWorkers, workers_option, nodes_option, table_option, tries_option, steps_option}
 use Rattle.strip_words.specs.Gen.{GenData, IsSized, NameFilm}
 use Rattle.strip_words.proofs.laws.numbers_lie_within_their_ends.Goals as goal
 
@@ -22,12 +22,16 @@ free_within : (option : FreeOption) (items : List Item) (n : Option ℕ) → IsG
 free_within option items None given = tt
 free_within option items (Some n) given = given.2.within
 
+workers_within : (items : List Item) (n : Option ℕ) → AreWorkers items n → IfSome n (λ n. (1 ≤ n) × (n ≤ 64))
+workers_within items None given = tt
+workers_within items (Some n) given = within workers_option items n (omega arith) (omega arith) given
+
 sized : (operands : List Word) (film : GenData) → NameFilm operands film → IsSized film
 sized operands film named = (named.scene_count.within.0, named.scene_count.within.1, named.actor_count.within.1)
 
 pub returns : goal.returns
 returns c = record {
-  workers = λ words job named. within workers_option named.0 job.workers (omega arith) (omega arith) named.3.workers;
+  workers = λ words job named. workers_within named.0 job.workers named.3.workers;
   nodes = λ words job named. within nodes_option named.0 job.nodes (omega arith) (omega arith) named.3.nodes;
   table = λ words job named. within table_option named.0 job.table (omega arith) (omega arith) named.3.table;
   tries = λ words job named. free tries_option named.0 job.tries named.3.tries;

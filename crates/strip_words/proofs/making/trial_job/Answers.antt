@@ -8,10 +8,18 @@ use Rattle.strip_words.proofs.Made.{trial_said}
 use Rattle.strip_words.proofs.Shows.{operand_count}
 use Rattle.strip_words.proofs.making.trial_job.Goals as goal
 
+pub chosen-requires : goal.chosen-requires
+chosen-requires c = distinct_in _ _ c.as_slice-items.ensures.value c.in_ok-reading.ensures.ok.once
+
+pub returns-in_err-nodes-clause-bad : goal.returns-in_err-nodes-clause-bad
+returns-in_err-nodes-clause-bad c = if_err c.from_residual-in_err-nodes.result _ (λ e is job names.
+    c.in_err-nodes.ensures.bad job.nodes
+    (trial_said (codes "trial" ∷ texts c.args.later.now) c.in_ok-reading.reading.items.items c.as_slice-items.result.now (rest_data c.in_ok-reading.reading.rest) job c.as_slice-items.ensures.value c.in_ok-reading.ensures.ok names).nodes)
+
 pub returns-in_err-effort-clause-bad : goal.returns-in_err-effort-clause-bad
 returns-in_err-effort-clause-bad c = if_err c.from_residual-in_err-effort.result _ (λ e is job names.
     let says = trial_said (codes "trial" ∷ texts c.args.later.now) c.in_ok-reading.reading.items.items c.as_slice-items.result.now (rest_data c.in_ok-reading.reading.rest) job c.as_slice-items.ensures.value c.in_ok-reading.ensures.ok names in
-    c.in_err-effort.ensures.bad job.nodes job.table job.tries job.steps job.kind says.nodes says.table says.tries says.steps says.kind)
+    c.in_err-effort.ensures.bad job.table job.tries job.steps job.kind says.table says.tries says.steps says.kind)
 
 pub returns-in_err-film-clause-bad : goal.returns-in_err-film-clause-bad
 returns-in_err-film-clause-bad c = if_err c.from_residual-in_err-film.result _ (λ e is job names.
@@ -28,7 +36,7 @@ returns-clause-named c =
     let slice = c.as_slice-items.result.now in
     let job = trial_data (record {
       film = c.in_ok-film.film;
-      nodes = c.in_ok-effort.effort.nodes;
+      nodes = c.in_ok-nodes.nodes;
       table = c.in_ok-effort.effort.table;
       tries = c.in_ok-effort.effort.tries;
       steps = c.in_ok-effort.effort.steps;
@@ -37,7 +45,7 @@ returns-clause-named c =
     let says : SayTrial (items_data slice) rest job = record {
       film = subst (λ items. NameFilm (operands_of (items_data items) rest) (gen_data c.in_ok-film.film)) (sym c.as_slice-items.ensures.value)
           (subst (λ ws. NameFilm ws (gen_data c.in_ok-film.film)) (ap strs c.as_slice.ensures.value ∙ c.in_ok-operands.ensures) c.in_ok-film.ensures.named);
-      nodes = c.in_ok-effort.ensures.nodes;
+      nodes = c.in_ok-nodes.ensures.ok;
       table = c.in_ok-effort.ensures.table;
       tries = c.in_ok-effort.ensures.tries;
       steps = c.in_ok-effort.ensures.steps;

@@ -20,7 +20,12 @@ returns-in_err-workers-clause-bad c = if_err c.from_residual-in_err-workers.resu
 pub returns-in_err-effort-clause-bad : goal.returns-in_err-effort-clause-bad
 returns-in_err-effort-clause-bad c = if_err c.from_residual-in_err-effort.result _ (λ e is job names.
     let says = said_by_items (codes "solve" ∷ texts c.args.later.now) c.in_ok-reading.reading.items.items c.as_slice-items.result.now (rest_data c.in_ok-reading.reading.rest) job c.as_slice-items.ensures.value c.in_ok-reading.ensures.ok names in
-    c.in_err-effort.ensures.bad job.nodes job.table job.tries job.steps job.kind says.nodes says.table says.tries says.steps says.kind)
+    c.in_err-effort.ensures.bad job.table job.tries job.steps job.kind says.table says.tries says.steps says.kind)
+
+pub returns-in_err-nodes-clause-bad : goal.returns-in_err-nodes-clause-bad
+returns-in_err-nodes-clause-bad c = if_err c.from_residual-in_err-nodes.result _ (λ e is job names.
+    let says = said_by_items (codes "solve" ∷ texts c.args.later.now) c.in_ok-reading.reading.items.items c.as_slice-items.result.now (rest_data c.in_ok-reading.reading.rest) job c.as_slice-items.ensures.value c.in_ok-reading.ensures.ok names in
+    c.in_err-nodes.ensures.bad job.nodes says.nodes)
 
 pub returns-clause-named : goal.returns-clause-named
 returns-clause-named c =
@@ -33,7 +38,7 @@ returns-clause-named c =
     let job = solve_data (record {
       file = c.in_ok-file.file;
       workers = c.in_ok-workers.workers;
-      nodes = c.in_ok-effort.effort.nodes;
+      nodes = c.in_ok-nodes.nodes;
       table = c.in_ok-effort.effort.table;
       tries = c.in_ok-effort.effort.tries;
       steps = c.in_ok-effort.effort.steps;
@@ -46,7 +51,7 @@ returns-clause-named c =
       file = ap (λ items. operands_of (items_data items) (rest_data reading.rest)) c.as_slice-items.ensures.value ∙ sym all ∙ one_str operands c.index.result.now one
           ∙ ap (λ (w : Word). w ∷ []) (ap (λ word. word.now) (sym c.index.ensures) ∙ sym c.in_ok-file.ensures.ok);
       workers = c.in_ok-workers.ensures.ok;
-      nodes = c.in_ok-effort.ensures.nodes;
+      nodes = c.in_ok-nodes.ensures.ok;
       table = c.in_ok-effort.ensures.table;
       tries = c.in_ok-effort.ensures.tries;
       steps = c.in_ok-effort.ensures.steps;
@@ -60,6 +65,9 @@ returns-clause-named c =
       spelled,
       subst (λ items. SayJob (items_data items) (rest_data reading.rest) job) c.as_slice-items.ensures.value says,
     )
+
+pub workers_of-requires : goal.workers_of-requires
+workers_of-requires c = distinct_in _ _ c.as_slice-items.ensures.value c.in_ok-reading.ensures.ok.once
 
 pub chosen-requires : goal.chosen-requires
 chosen-requires c = distinct_in _ _ c.as_slice-items.ensures.value c.in_ok-reading.ensures.ok.once
