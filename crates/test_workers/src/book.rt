@@ -9,35 +9,50 @@ ghost use Rattle.strip_bound.specs.Bounds.{bound};
 ghost use Rattle.strip_bound.specs.StoredBound.{Keeps};
 ghost use Rattle.strip_rule.specs.Rule.{open_firsts};
 ghost use Rattle.strip_lines.specs.Lines.{line_at};
-ghost use Rattle.strip_hand.specs.Hand.{no_path_yet};
+ghost use Rattle.strip_hand.specs.Hand.{Knows, no_path_yet};
 ghost use Rattle.strip_hand.specs.Search.{GoesBy, depth_of};
-ghost use Rattle.strip_book.specs.Pass.{IsPassOf, known};
+ghost use Rattle.strip_book.specs.Pass.{IsPassOf, known, table_of};
 ghost use Rattle.strip_book.specs.View.{record_at};
 
 use crate::least::{film_of, task_of_two};
 use std::alloc::Global;
+use std::marker::Brand;
+use std::sync::Wait;
 use std::test::Fail;
 use strip_book::{Book, BookPass};
 use strip_bound::{BoundTables, StoredBound, static_reach};
-use strip_film::{Film, Line, Listed, Path, ready, step};
+use strip_film::{Film, Known, Line, Listed, Noted, Path, Probe, ready, step};
+use strip_io::Memory;
 use strip_kind::Kind;
 use strip_mask::Mask;
 use strip_rule::open_firsts;
+use strip_stripes::{Named, Stripes};
 
 pub(crate) fn triangle(alloc: Global) -> Result<Film, Fail> {
     film_of(alloc, &[0b011, 0b110, 0b101], &[1, 1, 1], &[1, 2, 3], &[])
 }
 
-/// What became of two paths.
+/// What became of two paths, and the static bounds of what remains after each.
 #[derive(Debug, Drop)]
-pub(crate) struct Enlisted {
-    pub(crate) line: u32,
-    pub(crate) then: Listed,
+struct Enlisted {
+    line: u32,
+    bound: u64,
+    then: Listed,
+    later: u64,
+}
+
+impl Enlisted {
+    fn are_as_worked(&self) -> bool {
+        self.line == 0
+            && self.bound == 12
+            && self.then == (Listed::Spent { lines: 1 })
+            && self.later == 10
+    }
 }
 
 /// Enlists the path without a scene in the front, and then that of one scene, where they may be and the
 /// first gets a line.
-pub(crate) fn enlist_two<F: Fn(u64, u64) -> u64>(
+fn enlist_two<F: Fn(u64, u64) -> u64>(
     kept: &StoredBound<F>,
     book: &Book,
     pass: &mut BookPass,
@@ -77,7 +92,12 @@ pub(crate) fn enlist_two<F: Fn(u64, u64) -> u64>(
         return None;
     }
     let then = pass.enlist(book, 0, &path, later);
-    Some(Enlisted { line, then })
+    Some(Enlisted {
+        line,
+        bound,
+        then,
+        later,
+    })
 }
 
 /// Whether each step to an open first of all scenes reaches the bound with that of what then remains.
@@ -117,6 +137,8 @@ pub(crate) fn raise_whole<F: Fn(u64, u64) -> u64>(
     ensures weight { (known pass.new).weight ≡ (known pass.old).weight }
     ensures search { (known pass.new).search ≡ (known pass.old).search }
     ensures entries { (known pass.new).entries ≡ (known pass.old).entries }
+    ensures knows { IsTrue result → Knows (known pass.new).lines
+        (record { line = line; set = all_scenes kept.now.film.now; bound = number }) }
 {
     if kept.film().all().is_empty() || !each_first_reaches(kept, number) {
         return false;
@@ -125,23 +147,63 @@ pub(crate) fn raise_whole<F: Fn(u64, u64) -> u64>(
     true
 }
 
-/// The lines of a book with room for one and a task of two scenes, in whose front two paths are enlisted and the
-/// first one's line is raised to 13; and whether the second was told that the lines are spent.
-fn lines_of_one<F: Fn(u64, u64) -> u64>(
+/// Whether a worker's note of the line of all scenes in a table of 64 entries is fresh, and another worker finds it by its set and
+/// nothing by another one.
+fn is_found<R: Wait, N: Named>(
+    rt: &R,
+    alloc: Global,
+    book: &Book,
+    pass: &mut BookPass,
+    line: &Known,
+) -> Result<bool, Memory>
+    requires named { table_of book.now ≡ N.table }
+    requires pass { IsPassOf book.now pass.old }
+    requires weight { 2 ≤ (known pass.old).weight }
+    requires knows { Knows (known pass.old).lines line.now }
+    ensures pass { IfOk result (λ _. IsPassOf book.now pass.new) }
+    ensures weight { IfOk result (λ _. (known pass.new).weight ≡ (known pass.old).weight) }
+{
+    let stripes: Stripes<N> = Stripes::new(alloc, book, pass, 64)?;
+    let noted = stripes.note(rt, book, pass, line);
+    let mut other = pass.split(book, 1);
+    let same = stripes.probe(rt, book, &mut other, 7);
+    let none = stripes.probe(rt, book, &mut other, 6);
+    pass.join(book, other);
+    let found = Known {
+        line: 0,
+        set: 7,
+        bound: 13,
+    };
+    Ok(noted == Noted::Fresh && same == Probe::Hit(found) && none == Probe::Miss)
+}
+
+/// The lines of a book with room for one and a task of two scenes, in whose front two paths are enlisted; the first one's line is
+/// raised to 13, and then found by another worker, and the second is told that the lines are spent.
+fn lines_of_one<R: Wait, F: Fn(u64, u64) -> u64>(
+    rt: &R,
     alloc: Global,
     kept: &StoredBound<F>,
 ) -> Result<Vec<Line>, Fail>
     requires { Keeps (F.pre kept.now.f) (F.post kept.now.f) kept.now.kind kept.now.film.now }
 {
-    let task = task_of_two(kept.film()).ok_or("a task")?;
-    let (book, mut pass) = Book::new(alloc, kept.film(), kept.kind(), 14, &[task], 1)?;
+    let film = kept.film();
+    let task = task_of_two(film).ok_or("a task")?;
+    let (book, mut pass) = Book::new(alloc, film, kept.kind(), 14, &[task], 1)?;
     pass.begin(&book, 0);
     let two = enlist_two(kept, &book, &mut pass, 0).ok_or("a candidate")?;
-    if two.line != 0 || two.then != (Listed::Spent { lines: 1 }) {
+    if !two.are_as_worked() {
         return Err("one line".into());
     }
     if !raise_whole(kept, &book, &mut pass, two.line, 13) {
         return Err("each first step reaches 13".into());
+    }
+    let line = Known {
+        line: two.line,
+        set: film.all().0,
+        bound: 13,
+    };
+    if !is_found::<R, Brand>(rt, alloc, &book, &mut pass, &line)? {
+        return Err("the line is found".into());
     }
     let lines = book.into_lines(alloc, pass)?;
     Ok(lines)
@@ -157,7 +219,7 @@ fn a_book_of_one_line(rt: HostRuntime) -> Result<(), Fail> {
         Kind::Pairs,
         |q, need| static_reach(&film, &tables, Kind::Pairs, Mask(q), need),
     );
-    let lines = lines_of_one(alloc, &kept)?;
+    let lines = lines_of_one(&rt, alloc, &kept)?;
     assert!(&rt; lines.as_slice() == [Line { set: 7, bound: 13 }].as_slice());
     Ok(())
 }

@@ -74,9 +74,19 @@ pub(crate) fn task_of_two(film: &Film) -> Option<Path>
     Some(one.extend(film, 1))
 }
 
-/// What the second of two passes is told, the first one offers and the second one then is told and offers, and
-/// its best path, each before anything is joined; and what it is told and its best path behind a join.
-fn told_of_a_cheaper_path(alloc: Global, film: &Film) -> Result<[u64; 7], Fail> {
+/// What two passes are told, offer and claim.
+#[derive(Debug, Drop)]
+struct Seen {
+    /// What the second pass is told, the first one offers and the second one then is told and offers, and its best path, each
+    /// before anything is joined; and what it is told and its best path behind a join.
+    told: [u64; 7],
+    /// What the first, the second and twice the first pass claim.
+    claims: [Option<u32>; 4],
+    /// What the best path of both paid.
+    paid: u64,
+}
+
+fn seen_by_two_passes(alloc: Global, film: &Film) -> Result<Seen, Fail> {
     let start = path(film, &[0, 1, 2])?;
     let cheaper = path(film, &[0, 2, 1])?;
     let (least, mut first) = Least::new(alloc, film, &start, 2)?;
@@ -88,28 +98,7 @@ fn told_of_a_cheaper_path(alloc: Global, film: &Film) -> Result<[u64; 7], Fail> 
     let own = second.best().paid();
     second.join(&least, first.split(&least));
     let joined = second.look(&least);
-    Ok([
-        before,
-        offered,
-        behind,
-        dearer,
-        own,
-        joined,
-        second.best().paid(),
-    ])
-}
-
-#[test]
-fn passes_are_told_of_a_cheaper_path(rt: HostRuntime) -> Result<(), Fail> {
-    let film = film(rt.alloc(), &[])?;
-    assert!(&rt; told_of_a_cheaper_path(rt.alloc(), &film)? == [70, 60, 60, 60, 70, 60, 60]);
-    Ok(())
-}
-
-/// What the first, the second and twice the first of two passes claim, and what the best path of both paid.
-fn claimed_in_turn(alloc: Global, film: &Film) -> Result<([Option<u32>; 4], u64), Fail> {
-    let (least, mut first) = Least::new(alloc, film, &path(film, &[0, 2, 1])?, 2)?;
-    let mut second = first.split(&least);
+    let best = second.best().paid();
     let claims = [
         first.claim(&least),
         second.claim(&least),
@@ -118,14 +107,19 @@ fn claimed_in_turn(alloc: Global, film: &Film) -> Result<([Option<u32>; 4], u64)
     ];
     first.join(&least, second);
     first.settle(&least);
-    Ok((claims, first.best().paid()))
+    Ok(Seen {
+        told: [before, offered, behind, dearer, own, joined, best],
+        claims,
+        paid: first.best().paid(),
+    })
 }
 
 #[test]
-fn parts_are_claimed_in_turn(rt: HostRuntime) -> Result<(), Fail> {
-    let film = film(rt.alloc(), &[])?;
-    let (claims, paid) = claimed_in_turn(rt.alloc(), &film)?;
-    assert!(&rt; claims == [Some(0), Some(1), None, None] && paid == 60);
+fn two_passes_are_told_and_claim(rt: HostRuntime) -> Result<(), Fail> {
+    let alloc = rt.alloc();
+    let seen = seen_by_two_passes(alloc, &film(alloc, &[])?)?;
+    assert!(&rt; seen.told == [70, 60, 60, 60, 70, 60, 60] && seen.paid == 60);
+    assert!(&rt; seen.claims == [Some(0), Some(1), None, None]);
     Ok(())
 }
 

@@ -4,8 +4,6 @@
 #[cfg(test)]
 mod book;
 #[cfg(test)]
-mod gates;
-#[cfg(test)]
 mod hubs;
 #[cfg(test)]
 mod least;
@@ -15,7 +13,5 @@ mod progress;
 mod queues;
 #[cfg(test)]
 mod races;
-#[cfg(test)]
-mod stripes;
 #[cfg(test)]
 mod team;

@@ -22,7 +22,7 @@ use strip_film::{Film, Path};
 use strip_kind::Kind;
 use strip_mask::Mask;
 use strip_memo::Memo;
-use strip_worker::{Ended, Gate, OpenGate};
+use strip_worker::{Ended, OpenGate};
 use strip_world::Limits;
 
 fn ring(alloc: Global) -> Result<Film, Fail> {
@@ -37,13 +37,12 @@ fn ring(alloc: Global) -> Result<Film, Fail> {
 
 /// The end of a race of so many workers, with a table of 64 entries and at most so many lines, that begins
 /// with the order of the rows, where they take tasks from one counter or from queues.
-pub(crate) fn raced<R: Threads + Wait + Sync, G: Gate>(
+fn raced<R: Threads + Wait + Sync>(
     rt: &R,
     alloc: Global,
     workers: u32,
     cap: u32,
     steal: bool,
-    gate: &G,
 ) -> Result<Ended, Fail>
     requires workers { (1 ≤ workers) × (workers ≤ 64) }
     requires cap { (1 ≤ cap) × (cap ≤ 16777216) }
@@ -61,25 +60,24 @@ pub(crate) fn raced<R: Threads + Wait + Sync, G: Gate>(
         cap,
         entries: 64,
     };
-    raced_by(rt, alloc, &kept, &start, limits, steal, gate)
+    raced_by(rt, alloc, &kept, &start, limits, steal)
 }
 
 /// The end of a race by static bounds that are stored.
-fn raced_by<R: Threads + Wait + Sync, F: Fn(u64, u64) -> u64 + Sync, G: Gate>(
+fn raced_by<R: Threads + Wait + Sync, F: Fn(u64, u64) -> u64 + Sync>(
     rt: &R,
     alloc: Global,
     kept: &StoredBound<F>,
     start: &Path,
     limits: Limits,
     steal: bool,
-    gate: &G,
 ) -> Result<Ended, Fail>
     requires keeps { Keeps (F.pre kept.now.f) (F.post kept.now.f) kept.now.kind kept.now.film.now }
     requires start { IsComplete kept.now.film.now (path_data start.now) }
     requires limits { AreLimits limits }
 {
     let mut memo = Memo::among(alloc, kept, limits.workers + 1)?;
-    let ended = race(rt, alloc, kept, &mut memo, start, limits, steal, gate)?;
+    let ended = race(rt, alloc, kept, &mut memo, start, limits, steal, &OpenGate)?;
     Ok(ended)
 }
 
@@ -92,7 +90,7 @@ fn is_won<R: Threads + Wait + Sync>(
 ) -> Result<bool, Fail>
     requires { (1 ≤ workers) × (workers ≤ 64) }
 {
-    let ended = raced(rt, alloc, workers, 1000, steal, &OpenGate)?;
+    let ended = raced(rt, alloc, workers, 1000, steal)?;
     Ok(!ended.spent && ended.cost == 33 && ended.bound == 33)
 }
 
@@ -108,7 +106,7 @@ fn runs_out<R: Threads + Wait + Sync>(
     requires workers { (1 ≤ workers) × (workers ≤ 64) }
     requires cap { (1 ≤ cap) × (cap ≤ 16777216) }
 {
-    let ended = raced(rt, alloc, workers, cap, steal, &OpenGate)?;
+    let ended = raced(rt, alloc, workers, cap, steal)?;
     Ok(ended.spent && ended.held == u64::from(cap) && ended.bound <= 33 && ended.cost >= 33)
 }
 

@@ -1,7 +1,6 @@
 use Rattle.std.proofs.Common.{sym, subst}
 use Rattle.strip_least.specs.declared.view.View.{View as LeastView}
 use Rattle.strip_least.specs.Pass.{known as known_least}
-use Rattle.strip_least.specs.Steps.{split_off as least_split_off}
 use Rattle.strip_book.specs.View.{ViewData}
 use Rattle.strip_book.specs.Pass.{known}
 use Rattle.strip_book.specs.Steps.{lightened, split_off}
