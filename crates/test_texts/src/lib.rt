@@ -1,5 +1,6 @@
 //! Tests: what no clause says of texts. That the calls succeed where memory is left; streams that are cut short, fail and
-//! stop in the middle; texts worked by hand, of calls that no command makes; and the whole program over files that never fail.
+//! stop in the middle; texts worked by hand, of calls that no command makes; and the whole program, over files that never fail
+//! and by the words on workers.
 #![tactic(auto)]
 
 #[cfg(test)]
@@ -10,6 +11,8 @@ mod no_faults;
 mod rows;
 #[cfg(test)]
 mod sending;
+#[cfg(test)]
+mod sharing;
 #[cfg(test)]
 mod streams;
 #[cfg(test)]
