@@ -11,6 +11,7 @@ mod knowing;
 pub mod laws;
 mod opening;
 mod pass;
+mod peeking;
 mod raising;
 mod rule;
 mod search;

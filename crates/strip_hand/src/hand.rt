@@ -6,6 +6,7 @@ ghost use Rattle.strip_film.specs.Shown.{cursor_data, path_data};
 ghost use Rattle.strip_hand.specs.Hand.{HandData, IsHand, Knows};
 ghost use Rattle.strip_hand.specs.Calls.{Claims, Enlists, MayEnlist, MayRaise, Notes, Probes, Raises, Tells};
 
+use crate::tally::Tally;
 use strip_film::{Cursor, Known, Listed, Noted, Path, Probe};
 use strip_io::Memory;
 use strip_mask::Mask;
@@ -29,6 +30,12 @@ pub trait Hand {
     fn keeps_limits(&self)
         requires { is_sound self.now }
         ensures { IsHand (shows self.now) };
+
+    /// How far the search has come. It is told on the way: others may have gone on meanwhile.
+    fn tally(&self) -> Tally
+        requires { is_sound self.now }
+        ensures lines { result.lines ≤ result.most }
+        ensures most { result.most ≡ (shows self.now).search.cap };
 
     /// The least cost that any worker offered, in units of money.
     fn look(&mut self) -> u64

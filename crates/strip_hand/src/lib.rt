@@ -2,5 +2,7 @@
 #![tactic(auto)]
 
 mod hand;
+mod tally;
 
 pub use hand::Hand;
+pub use tally::Tally;

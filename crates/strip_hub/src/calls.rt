@@ -16,12 +16,12 @@ use crate::source::next_part;
 use std::sync::Wait;
 use strip_book::laws::{entries_are_records, other_parts_have_no_record};
 use strip_film::{Cursor, Known, Listed, Noted, Path, Probe};
-use strip_hand::Hand;
+use strip_hand::{Hand, Tally};
 use strip_io::Memory;
 use strip_mask::Mask;
 use strip_stripes::Named;
 
-/// Each call is a few steps on what all workers share. `probe` and `note` wait for the lock of a stripe, and a
+/// Each call is a few steps on what all workers share; `tally` reads it without a step. `probe` and `note` wait for the lock of a stripe, and a
 /// claim of one who takes from queues for another who takes from the same one; the others wait for nobody.
 impl<'a, R: Wait, N: Named> Hand for Hub<'a, R, N> {
     ghost shows = { λ h. hand_of h.source (known_least h.told) (known h.lines) h.asked h.noted };
@@ -34,6 +34,13 @@ impl<'a, R: Wait, N: Named> Hand for Hub<'a, R, N> {
 
     fn keeps_limits(&self) {
         entries_are_records();
+    }
+
+    fn tally(&self) -> Tally {
+        let cost = self.least.peek();
+        let lines = self.book.peek();
+        let most = self.book.cap();
+        Tally { cost, lines, most }
     }
 
     fn look(&mut self) -> u64 {

@@ -1,4 +1,4 @@
-// What a worker does with its pass.
+// What a worker does with its pass, and what anyone may see.
 ghost use Rattle.std.specs.Prelude.{◌≡◌, ◌≤◌, false};
 ghost use Rattle.strip_film.specs.Path.{IsComplete};
 ghost use Rattle.strip_film.specs.Shown.{path_data};
@@ -18,6 +18,13 @@ fn cheaper(path: &Path, other: &Path) -> Path
         *other
     } else {
         *path
+    }
+}
+
+impl Least {
+    /// The least cost that any pass offered until now, in units of money. It needs no pass, and tells none.
+    pub fn peek(&self) -> u64 {
+        self.table.shared.peek(0)
     }
 }
 

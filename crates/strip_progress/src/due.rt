@@ -1,6 +1,6 @@
 // When a row is due.
 ghost use Rattle.std.specs.Prelude.{◌≡◌, ◌<◌, ◌↔◌, IsTrue};
-ghost use Rattle.strip_progress.specs.Due.{IsDue, fortieths};
+ghost use Rattle.strip_progress.specs.Due.{IsDue, IsLimitDue, fortieths, reached};
 
 /// Whether with this task, counted from 1, a further fortieth of the tasks that are asked for is begun.
 pub fn is_due(begun: u32, wanted: u32) -> bool
@@ -9,6 +9,24 @@ pub fn is_due(begun: u32, wanted: u32) -> bool
     ensures { IsTrue result ↔ IsDue begun wanted }
 {
     fortieths(begun - 1, wanted) < fortieths(begun, wanted)
+}
+
+/// Whether a row is due with the limit of this number: if it is the first, or reaches farther than all earlier limits
+/// did. `earlier` is the farthest that they reached, 0 if there are none.
+pub fn is_limit_due(number: u64, steps: u32, earlier: u64) -> bool
+    requires { 0 < steps }
+    ensures { IsTrue result ↔ IsLimitDue number steps earlier }
+{
+    earlier < reached(number, steps)
+}
+
+/// How far the limit of this number reaches: one more than its whole fortieths of the steps.
+pub(crate) fn reached(number: u64, steps: u32) -> u64
+    requires { 0 < steps }
+    ensures { result ≡ reached number steps }
+{
+    let within = number.min(u64::from(steps)) as u32;
+    1 + fortieths(within, steps)
 }
 
 /// How many whole fortieths of the tasks that are asked for these are.

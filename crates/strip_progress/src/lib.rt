@@ -1,4 +1,4 @@
-//! How a search gets on, told on standard error as it goes.
+//! How a search gets on and how it stands, told on standard error as it goes.
 #![tactic(auto)]
 
 mod counts;
@@ -7,5 +7,5 @@ pub mod laws;
 mod progress;
 mod row;
 
-pub use due::is_due;
+pub use due::{is_due, is_limit_due};
 pub use progress::Progress;

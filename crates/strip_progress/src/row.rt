@@ -1,16 +1,18 @@
 // A row of what is told.
 ghost use Rattle.std.specs.Prelude.{◌≡◌};
-ghost use Rattle.strip_progress.specs.Row.{workers_word};
+ghost use Rattle.strip_progress.specs.Row.{kind_word, workers_word};
 
 use std::fmt;
-use strip_worker::Limit;
+use strip_kind::Kind;
+use strip_worker::{Limit, Stage, Standing};
 
-/// How many tasks were begun, how many are asked for, and how many workers began them.
+/// How many tasks were begun, how many are asked for, how many workers began them, and how the search stands.
 #[derive(Drop)]
 pub(crate) struct Row {
     pub(crate) begun: u32,
     pub(crate) wanted: u32,
     pub(crate) workers: u32,
+    pub(crate) standing: Standing,
 }
 
 impl fmt::Display for Row {
@@ -24,9 +26,16 @@ impl fmt::Display for Row {
             begun,
             wanted,
             workers,
+            standing,
         } = self;
         let word = workers_word(*workers);
-        write!(f, "{begun} of {wanted} tasks begun, by {workers} {word}")
+        let end = RowEnd {
+            standing: *standing,
+        };
+        write!(
+            f,
+            "{begun} of {wanted} tasks begun, by {workers} {word}: {end}"
+        )
     }
 }
 
@@ -46,15 +55,56 @@ impl fmt::Display for LimitRow {
         let Limit {
             number,
             steps,
+            standing,
+        } = self.limit;
+        let end = RowEnd { standing };
+        write!(f, "limit {number} of {steps}: {end}")
+    }
+}
+
+/// A stage of a search that has ended.
+#[derive(Drop)]
+pub(crate) struct StageRow {
+    pub(crate) stage: Stage,
+}
+
+impl fmt::Display for StageRow {
+    ghost use Rattle.std.specs.Prelude.{Some};
+    ghost use Rattle.strip_progress.specs.Row.{stage_text};
+
+    ghost output = { λ row. Some (stage_text row.stage) };
+
+    fn fmt<W: fmt::Write>(&self, f: &mut fmt::Formatter<W>) -> fmt::Result {
+        let Stage { kind, standing } = self.stage;
+        let word = kind_word(kind);
+        let end = RowEnd { standing };
+        write!(f, "search with {word} ended: {end}")
+    }
+}
+
+/// How a search stands, with which each row ends.
+#[derive(Clone, Copy, Debug)]
+struct RowEnd {
+    standing: Standing,
+}
+
+impl fmt::Display for RowEnd {
+    ghost use Rattle.std.specs.Prelude.{Some};
+    ghost use Rattle.strip_progress.specs.Row.{standing_text};
+
+    ghost output = { λ end. Some (standing_text end.standing) };
+
+    fn fmt<W: fmt::Write>(&self, f: &mut fmt::Formatter<W>) -> fmt::Result {
+        let Standing {
             cost,
             bound,
             lines,
             most,
-        } = self.limit;
-        write!(
-            f,
-            "limit {number} of {steps}: cost {cost}, bound {bound}, {lines} of {most} lines"
-        )
+        } = self.standing;
+        match bound {
+            Some(bound) => write!(f, "cost {cost}, bound {bound}, {lines} of {most} lines"),
+            None => write!(f, "cost {cost}, {lines} of {most} lines"),
+        }
     }
 }
 
@@ -63,4 +113,16 @@ fn workers_word(workers: u32) -> &'static str
     ensures { result.now ≡ workers_word workers }
 {
     if workers == 1 { "worker" } else { "workers" }
+}
+
+/// The word for static bounds of this kind.
+fn kind_word(kind: Kind) -> &'static str
+    ensures { result.now ≡ kind_word kind }
+{
+    match kind {
+        Kind::Plain => "plain",
+        Kind::Pairs => "pairs",
+        Kind::Groups => "groups",
+        Kind::Arrivals => "arrivals",
+    }
 }

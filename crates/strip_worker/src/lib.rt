@@ -11,7 +11,7 @@ mod working;
 
 pub use ended::Ended;
 pub use ending::{close, tell};
-pub use gate::{Gate, Limit, OpenGate, Worker};
+pub use gate::{Gate, Limit, OpenGate, Stage, Standing, Worker};
 pub use search::{alone, alone_through, asked_for};
 pub use walked::{Walked, merge};
 pub use working::{go_down_front, work};

@@ -109,7 +109,7 @@ fn walk_part<H: Hand, F: Fn(u64, u64) -> u64, G: Gate>(
     }
     let task = part as usize - 1;
     if front.wanted[task] {
-        worker.begin(part);
+        worker.begin(part, hand.tally());
         let found = walk(kept, hand, &front.tasks()[task], part, memo)?;
         hand.keeps_limits();
         walked.found[task] = found.bound;

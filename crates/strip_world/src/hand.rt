@@ -15,7 +15,7 @@ ghost use Rattle.strip_world.specs.Steps.{Steps};
 
 use crate::world::World;
 use strip_film::{Cursor, Known, Listed, Noted, Path, Probe};
-use strip_hand::Hand;
+use strip_hand::{Hand, Tally};
 use strip_io::Memory;
 use strip_mask::Mask;
 use strip_table::laws::the_entry_of_a_set_is_found;
@@ -35,6 +35,20 @@ impl Hand for World {
         requires { IsOwned self.now }
         ensures { IsHand (hand_data self.now) }
     {}
+
+    fn tally(&self) -> Tally
+        requires { IsOwned self.now }
+        ensures lines { result.lines ≤ result.most }
+        ensures most { result.most ≡ self.now.search.cap }
+        ensures least { result.cost ≡ self.now.least }
+        ensures all { result.lines ≡ length self.now.lines }
+    {
+        Tally {
+            cost: self.least,
+            lines: self.lines.len() as u32,
+            most: self.cap,
+        }
+    }
 
     fn look(&mut self) -> u64
         requires { IsOwned self.old }

@@ -9,7 +9,7 @@ ghost use Rattle.test_search.specs.Forgetful.{noting};
 ghost use Rattle.strip_world.specs.Hand.{IsOwned};
 
 use strip_film::{Cursor, Known, Listed, Noted, Path, Probe};
-use strip_hand::Hand;
+use strip_hand::{Hand, Tally};
 use strip_io::Memory;
 use strip_mask::Mask;
 use strip_world::World;
@@ -35,6 +35,14 @@ impl Hand for Forgetful {
         ensures { IsHand (noting self.now.world self.now.last_note) }
     {
         self.world.keeps_limits();
+    }
+
+    fn tally(&self) -> Tally
+        requires { IsOwned self.now.world }
+        ensures lines { result.lines ≤ result.most }
+        ensures most { result.most ≡ self.now.world.search.cap }
+    {
+        self.world.tally()
     }
 
     fn look(&mut self) -> u64

@@ -12,7 +12,7 @@ use std::test::Fail;
 use std::thread::Threads;
 use strip_commands::run;
 use strip_io::{MemFiles, MemSink};
-use strip_worker::{Gate, Limit};
+use strip_worker::{Gate, Limit, Stage, Standing};
 
 const RING: &str = "scene,days,a,b,c,d\nrate,,1,2,3,4\n\
     s1,1,x,.,.,x\ns2,1,x,x,.,.\ns3,1,.,x,x,.\ns4,1,.,.,x,x\n";
@@ -56,7 +56,7 @@ impl Gate for Holding {
         self.workers.store(workers, Ordering::SeqCst);
     }
 
-    fn enter(&self, _worker: u32, part: u32) {
+    fn enter(&self, _worker: u32, part: u32, _standing: &Standing) {
         if part == 1 {
             self.hold();
             return;
@@ -68,6 +68,8 @@ impl Gate for Holding {
     }
 
     fn reached(&self, _limit: &Limit) {}
+
+    fn ended(&self, _stage: &Stage) {}
 }
 
 fn words_of(alloc: Global, text: &str) -> Result<Vec<String>, AllocError> {

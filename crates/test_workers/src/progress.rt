@@ -7,8 +7,9 @@ use std::sync::atomic::{AtomicU32, Ordering};
 use std::test::Fail;
 use std::thread;
 use std::thread::Threads;
+use strip_kind::Kind;
 use strip_progress::Progress;
-use strip_worker::Gate;
+use strip_worker::{Gate, Limit, Stage, Standing};
 
 /// A standard error that counts the rows that come to it, keeps the first, and says each time that it failed.
 #[derive(Drop)]
@@ -53,10 +54,21 @@ impl Eprint for FailingError {
     }
 }
 
+/// How a search stands with this bound.
+fn standing(bound: Option<u64>) -> Standing {
+    Standing {
+        cost: 104_319,
+        bound,
+        lines: 1444,
+        most: 20_000,
+    }
+}
+
 /// Begins as many tasks, each by this worker.
 fn walk<G: Gate>(gate: &G, worker: u32, tasks: u32) {
+    let standing = standing(None);
     for part in 0..tasks {
-        gate.enter(worker, part);
+        gate.enter(worker, part, &standing);
     }
 }
 
@@ -80,6 +92,25 @@ fn rows_of(alloc: Global, tasks: u32, wanted: u32) -> u32 {
     host.rows()
 }
 
+/// How many rows come with the limits of so many steps, each reached three times, and with two limits past the last
+/// step.
+fn limit_rows_of(alloc: Global, steps: u32) -> u32 {
+    let host = FailingError::new(alloc);
+    let gate = Progress::new(&host);
+    let standing = standing(Some(85_504));
+    for number in 0..u64::from(steps) + 3 {
+        let limit = Limit {
+            number,
+            steps,
+            standing,
+        };
+        gate.reached(&limit);
+        gate.reached(&limit);
+        gate.reached(&limit);
+    }
+    host.rows()
+}
+
 #[test]
 fn a_row_comes_with_each_fortieth(rt: HostRuntime) -> Result<(), Fail> {
     let alloc = rt.alloc();
@@ -98,7 +129,54 @@ fn a_worker_counts_once(rt: HostRuntime) -> Result<(), Fail> {
     gate.opened(81, 64);
     walk(&gate, 63, 2);
     walk(&gate, 0, 1);
-    assert!(&rt; host.begins("3 of 81 tasks begun, by 2 workers"));
+    assert!(&rt;
+        host.begins("3 of 81 tasks begun, by 2 workers: cost 104319, 1444 of 20000 lines")
+    );
+    Ok(())
+}
+
+#[test]
+fn limits_have_few_rows(rt: HostRuntime) -> Result<(), Fail> {
+    let alloc = rt.alloc();
+    // Each number from 0 to the steps reaches a fortieth of its own.
+    assert!(&rt; limit_rows_of(alloc, 1) == 2);
+    assert!(&rt; limit_rows_of(alloc, 17) == 18);
+    assert!(&rt; limit_rows_of(alloc, 40) == 41);
+    // 41 fortieths have a first number, from 0 to 40.
+    assert!(&rt; limit_rows_of(alloc, 41) == 41);
+    assert!(&rt; limit_rows_of(alloc, 412) == 41);
+    Ok(())
+}
+
+#[test]
+fn the_first_limit_has_a_row(rt: HostRuntime) -> Result<(), Fail> {
+    let host = FailingError::new(rt.alloc());
+    let gate = Progress::new(&host);
+    let standing = standing(Some(85_504));
+    // Of 80 steps, 2 are a fortieth: 0 and 1 reach none, 5 and 4 two.
+    for number in [1, 0, 5, 4, 1] {
+        gate.reached(&Limit {
+            number,
+            steps: 80,
+            standing,
+        });
+    }
+    assert!(&rt; host.rows() == 2);
+    assert!(&rt; host.begins("limit 1 of 80: cost 104319, bound 85504, 1444 of 20000 lines"));
+    Ok(())
+}
+
+#[test]
+fn a_stage_that_has_ended_has_a_row(rt: HostRuntime) -> Result<(), Fail> {
+    let host = FailingError::new(rt.alloc());
+    let gate = Progress::new(&host);
+    gate.ended(&Stage {
+        kind: Kind::Pairs,
+        standing: standing(Some(85_504)),
+    });
+    assert!(&rt;
+        host.begins("search with pairs ended: cost 104319, bound 85504, 1444 of 20000 lines")
+    );
     Ok(())
 }
 

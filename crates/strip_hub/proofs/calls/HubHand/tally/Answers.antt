@@ -1,0 +1,9 @@
+use Rattle.std.proofs.Common.{◌∙◌, ap, arith, sym}
+use Rattle.strip_hand.specs.Search.{SearchData}
+use Rattle.strip_hub.proofs.calls.HubHand.tally.Goals as goal
+
+pub returns-clause-lines : goal.returns-clause-lines
+returns-clause-lines g c = omega (arith, c.peek-lines.ensures, c.cap-most.ensures)
+
+pub returns-clause-most : goal.returns-clause-most
+returns-clause-most g c = c.cap-most.ensures ∙ ap (λ (s : SearchData). s.cap) (sym c.requires.book_pass.search)
