@@ -8,6 +8,7 @@ mod choose;
 mod cooling;
 mod draws;
 pub mod laws;
+mod listed;
 mod moves;
 mod order;
 mod prices;
@@ -17,5 +18,6 @@ mod varying;
 
 pub use beside::vary_beside;
 pub use choose::greedy;
+pub use listed::{or_listed, path_of};
 pub use moves::improve;
 pub use varying::vary;
