@@ -1,5 +1,5 @@
 -- The values that items give.
-use Rattle.std.proofs.Common.{◌≡◌, ℕ, ◌≤◌, Option, None, Some, List, [], ◌∷◌, length, All, Any, Contains, take, take_all, inl, inr, refl, sym, ap, ◌∙◌, subst}
+use Rattle.std.proofs.Common.{◌≡◌, ◌↔◌, ℕ, ◌≤◌, Bool, true, false, not, IsTrue, IfNone, IfSome, is_some, true≢false, Bor, Option, None, Some, List, [], ◌∷◌, length, All, Any, Contains, take, take_all, inl, inr, refl, sym, ap, ◌∙◌, subst}
 use Rattle.std.specs.List.{cons_option}
 use Rattle.strip_words.specs.declared.item.Item.{Item as CodeItem}
 use Rattle.strip_words.specs.Words.{Word, Item, Operand, Joined, Apart, Flag, option_of, options_in, AreDistinct}
@@ -52,6 +52,14 @@ left_out name items n end none value some =
     let P : CodeItem → Type 0 = λ item. (value : Word) → ¬ Gives name value (item_data item) in
     let found = (any_map (Gives name value) item_data items).1 some in
     subst (All P) (take_all n items end) none found.0 found.1 found.2 value (subst (λ item. Gives name value (item_data item)) (sym found.3) found.4)
+
+-- an option is left out just where no value of it was found
+pub none_found : (name : Word) (items : List Item) (found : Option (Bor Word)) (none : Bool) → is_some found ≡ not none
+    → IfSome found (λ value. Any (Gives name value.now) items) → IfNone found (IsLeftOut name items) → IsTrue none ↔ IsLeftOut name items
+none_found name items None true is some left = (λ _. left, λ _. refl)
+none_found name items None false is some left = absurd (true≢false (sym is))
+none_found name items (Some value) true is some left = absurd (true≢false is)
+none_found name items (Some value) false is some left = (λ is. absurd (true≢false (sym is)), λ out. absurd (out value.now some))
 
 -- what the value of an option isn't, the option isn't
 pub not_chosen : (option : NumberOption) (value : Word) (items : List Item) → AreDistinct (options_in items) → Any (Gives option.name value) items

@@ -2,16 +2,19 @@
 use Rattle.std.proofs.Common.{◌≡◌, ◌≢◌, List, [], ◌∷◌, ap, sym, subst, ◌∙◌, refl, codes}
 use Rattle.strip_words.specs.Words.{Word}
 use Rattle.strip_words.specs.Solve.{SolveData, NameSolve}
+use Rattle.strip_words.specs.Films.{NameFilmFile}
 use Rattle.strip_words.specs.Plans.{PlanFilesData, NamePlanFiles}
 use Rattle.strip_words.specs.Gen.{GenData, NameGen, TrialData, NameTrial}
-use Rattle.strip_words.specs.Jobs.{JobData, Solve, Check, Convert, Dood, Sheet, Gen, Trial, NameJob, NameNoJob}
+use Rattle.strip_words.specs.Jobs.{JobData, Solve, Price, Check, Convert, Dood, Sheet, Gen, Trial, NameJob, NameNoJob}
 use Rattle.strip_words.proofs.Solving.{differ, solve_once}
+use Rattle.strip_words.proofs.Filming.{file_once}
 use Rattle.strip_words.proofs.Planning.{files_once}
 use Rattle.strip_words.proofs.Made.{gen_once, trial_once}
 
 -- the word of the job's command
 abbrev pub word_of : JobData → Word
 word_of (Solve job) = codes "solve"
+word_of (Price file) = codes "price"
 word_of (Check files) = codes "check"
 word_of (Convert files) = codes "convert"
 word_of (Dood files) = codes "dood"
@@ -22,6 +25,7 @@ word_of (Trial job) = codes "trial"
 -- words that name a job begin with its command's
 pub begins_so : (words : List Word) (job : JobData) → NameJob words job → (later : List Word) × (words ≡ word_of job ∷ later)
 begins_so words (Solve job) (items, rest, spelled, says) = (_, spelled.spelled)
+begins_so words (Price file) (items, rest, spelled, says) = (_, spelled.spelled)
 begins_so words (Check files) (items, rest, spelled, says) = (_, spelled.spelled)
 begins_so words (Convert files) (items, rest, spelled, says) = (_, spelled.spelled)
 begins_so words (Dood files) (items, rest, spelled, says) = (_, spelled.spelled)
@@ -40,6 +44,7 @@ begins_with words job word later is named =
 
 is_solve : (job : JobData) → word_of job ≡ codes "solve" → (said : SolveData) × (job ≡ Solve said)
 is_solve (Solve job) same = (job, refl)
+is_solve (Price file) same = differ (codes "price") (codes "solve") refl same
 is_solve (Check files) same = differ (codes "check") (codes "solve") refl same
 is_solve (Convert files) same = differ (codes "convert") (codes "solve") refl same
 is_solve (Dood files) same = differ (codes "dood") (codes "solve") refl same
@@ -47,8 +52,19 @@ is_solve (Sheet files) same = differ (codes "sheet") (codes "solve") refl same
 is_solve (Gen film) same = differ (codes "gen") (codes "solve") refl same
 is_solve (Trial job) same = differ (codes "trial") (codes "solve") refl same
 
+is_price : (job : JobData) → word_of job ≡ codes "price" → (file : Word) × (job ≡ Price file)
+is_price (Solve job) same = differ (codes "solve") (codes "price") refl same
+is_price (Price file) same = (file, refl)
+is_price (Check files) same = differ (codes "check") (codes "price") refl same
+is_price (Convert files) same = differ (codes "convert") (codes "price") refl same
+is_price (Dood files) same = differ (codes "dood") (codes "price") refl same
+is_price (Sheet files) same = differ (codes "sheet") (codes "price") refl same
+is_price (Gen film) same = differ (codes "gen") (codes "price") refl same
+is_price (Trial job) same = differ (codes "trial") (codes "price") refl same
+
 is_check : (job : JobData) → word_of job ≡ codes "check" → (files : PlanFilesData) × (job ≡ Check files)
 is_check (Solve job) same = differ (codes "solve") (codes "check") refl same
+is_check (Price file) same = differ (codes "price") (codes "check") refl same
 is_check (Check files) same = (files, refl)
 is_check (Convert files) same = differ (codes "convert") (codes "check") refl same
 is_check (Dood files) same = differ (codes "dood") (codes "check") refl same
@@ -58,6 +74,7 @@ is_check (Trial job) same = differ (codes "trial") (codes "check") refl same
 
 is_convert : (job : JobData) → word_of job ≡ codes "convert" → (files : PlanFilesData) × (job ≡ Convert files)
 is_convert (Solve job) same = differ (codes "solve") (codes "convert") refl same
+is_convert (Price file) same = differ (codes "price") (codes "convert") refl same
 is_convert (Check files) same = differ (codes "check") (codes "convert") refl same
 is_convert (Convert files) same = (files, refl)
 is_convert (Dood files) same = differ (codes "dood") (codes "convert") refl same
@@ -67,6 +84,7 @@ is_convert (Trial job) same = differ (codes "trial") (codes "convert") refl same
 
 is_dood : (job : JobData) → word_of job ≡ codes "dood" → (files : PlanFilesData) × (job ≡ Dood files)
 is_dood (Solve job) same = differ (codes "solve") (codes "dood") refl same
+is_dood (Price file) same = differ (codes "price") (codes "dood") refl same
 is_dood (Check files) same = differ (codes "check") (codes "dood") refl same
 is_dood (Convert files) same = differ (codes "convert") (codes "dood") refl same
 is_dood (Dood files) same = (files, refl)
@@ -76,6 +94,7 @@ is_dood (Trial job) same = differ (codes "trial") (codes "dood") refl same
 
 is_sheet : (job : JobData) → word_of job ≡ codes "sheet" → (files : PlanFilesData) × (job ≡ Sheet files)
 is_sheet (Solve job) same = differ (codes "solve") (codes "sheet") refl same
+is_sheet (Price file) same = differ (codes "price") (codes "sheet") refl same
 is_sheet (Check files) same = differ (codes "check") (codes "sheet") refl same
 is_sheet (Convert files) same = differ (codes "convert") (codes "sheet") refl same
 is_sheet (Dood files) same = differ (codes "dood") (codes "sheet") refl same
@@ -85,6 +104,7 @@ is_sheet (Trial job) same = differ (codes "trial") (codes "sheet") refl same
 
 is_gen : (job : JobData) → word_of job ≡ codes "gen" → (film : GenData) × (job ≡ Gen film)
 is_gen (Solve job) same = differ (codes "solve") (codes "gen") refl same
+is_gen (Price file) same = differ (codes "price") (codes "gen") refl same
 is_gen (Check files) same = differ (codes "check") (codes "gen") refl same
 is_gen (Convert files) same = differ (codes "convert") (codes "gen") refl same
 is_gen (Dood files) same = differ (codes "dood") (codes "gen") refl same
@@ -94,6 +114,7 @@ is_gen (Trial job) same = differ (codes "trial") (codes "gen") refl same
 
 is_trial : (job : JobData) → word_of job ≡ codes "trial" → (said : TrialData) × (job ≡ Trial said)
 is_trial (Solve job) same = differ (codes "solve") (codes "trial") refl same
+is_trial (Price file) same = differ (codes "price") (codes "trial") refl same
 is_trial (Check files) same = differ (codes "check") (codes "trial") refl same
 is_trial (Convert files) same = differ (codes "convert") (codes "trial") refl same
 is_trial (Dood files) same = differ (codes "dood") (codes "trial") refl same
@@ -111,6 +132,9 @@ pub one_job : (words : List Word) (a b : JobData) → NameJob words a → NameJo
 one_job words (Solve job) b one two =
     let is = is_solve b (same_word words (Solve job) b one two) in
     ap Solve (solve_once words job is.0 one (subst (NameJob words) is.1 two)) ∙ sym is.1
+one_job words (Price file) b one two =
+    let is = is_price b (same_word words (Price file) b one two) in
+    ap Price (file_once (codes "price") words file is.0 one (subst (NameJob words) is.1 two)) ∙ sym is.1
 one_job words (Check files) b one two =
     let is = is_check b (same_word words (Check files) b one two) in
     ap Check (files_once (codes "check") words files is.0 one (subst (NameJob words) is.1 two)) ∙ sym is.1
@@ -132,19 +156,25 @@ one_job words (Trial job) b one two =
 
 module _ (words later : List Word) (word : Word) (begins : words ≡ word ∷ later) where
   -- words that begin with none of the commands' words name no job
-  pub no_command : word ≢ codes "solve" → word ≢ codes "check" → word ≢ codes "convert" → word ≢ codes "dood" → word ≢ codes "sheet" → word ≢ codes "gen" → word ≢ codes "trial" → NameNoJob words
-  no_command solve check convert dood sheet gen trial (Solve job) names = solve (sym (begins_with words (Solve job) word later begins names))
-  no_command solve check convert dood sheet gen trial (Check files) names = check (sym (begins_with words (Check files) word later begins names))
-  no_command solve check convert dood sheet gen trial (Convert files) names = convert (sym (begins_with words (Convert files) word later begins names))
-  no_command solve check convert dood sheet gen trial (Dood files) names = dood (sym (begins_with words (Dood files) word later begins names))
-  no_command solve check convert dood sheet gen trial (Sheet files) names = sheet (sym (begins_with words (Sheet files) word later begins names))
-  no_command solve check convert dood sheet gen trial (Gen film) names = gen (sym (begins_with words (Gen film) word later begins names))
-  no_command solve check convert dood sheet gen trial (Trial job) names = trial (sym (begins_with words (Trial job) word later begins names))
+  pub no_command : word ≢ codes "solve" → word ≢ codes "price" → word ≢ codes "check" → word ≢ codes "convert" → word ≢ codes "dood" → word ≢ codes "sheet" → word ≢ codes "gen" → word ≢ codes "trial" → NameNoJob words
+  no_command solve price check convert dood sheet gen trial (Solve job) names = solve (sym (begins_with words (Solve job) word later begins names))
+  no_command solve price check convert dood sheet gen trial (Price file) names = price (sym (begins_with words (Price file) word later begins names))
+  no_command solve price check convert dood sheet gen trial (Check files) names = check (sym (begins_with words (Check files) word later begins names))
+  no_command solve price check convert dood sheet gen trial (Convert files) names = convert (sym (begins_with words (Convert files) word later begins names))
+  no_command solve price check convert dood sheet gen trial (Dood files) names = dood (sym (begins_with words (Dood files) word later begins names))
+  no_command solve price check convert dood sheet gen trial (Sheet files) names = sheet (sym (begins_with words (Sheet files) word later begins names))
+  no_command solve price check convert dood sheet gen trial (Gen film) names = gen (sym (begins_with words (Gen film) word later begins names))
+  no_command solve price check convert dood sheet gen trial (Trial job) names = trial (sym (begins_with words (Trial job) word later begins names))
 
   -- and those that begin with a command's word name none where they name none of its jobs
   pub no_solve : word ≡ codes "solve" → ((job : SolveData) → ¬ NameSolve words job) → NameNoJob words
   no_solve is none job names =
       let found = is_solve job (begins_with words job word later begins names ∙ is) in
+      none found.0 (subst (NameJob words) found.1 names)
+
+  pub no_price : word ≡ codes "price" → ((file : Word) → ¬ NameFilmFile (codes "price") words file) → NameNoJob words
+  no_price is none job names =
+      let found = is_price job (begins_with words job word later begins names ∙ is) in
       none found.0 (subst (NameJob words) found.1 names)
 
   pub no_check : word ≡ codes "check" → ((files : PlanFilesData) → ¬ NamePlanFiles (codes "check") words files) → NameNoJob words

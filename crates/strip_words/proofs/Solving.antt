@@ -5,10 +5,10 @@ use Rattle.std.proofs.lemmas.Slice.Eq.{bytes_eq-Decides}
 use Rattle.strip_kind.specs.declared.kind.Kind.{Kind}
 use Rattle.strip_kind.specs.declared.kind.Kind.TheVariants.{Plain, Pairs, Groups, Arrivals}
 use Rattle.strip_words.specs.Words.{Word, Item, AreDistinct, IsSpelled, options_in}
-use Rattle.strip_words.specs.Options.{IsNumber, IsPicked}
+use Rattle.strip_words.specs.Options.{IsChosen, IsNumber, IsPicked}
 use Rattle.strip_words.specs.declared.item.Item.{Item as CodeItem}
 use Rattle.strip_words.specs.Shown.{items_data}
-use Rattle.strip_words.specs.Solve.{AreWorkers, all_workers, nodes_option, solve, workers_option, table_option, tries_option, steps_option, bounds_option, bound_word, SolveData, SayJob, NameSolve}
+use Rattle.strip_words.specs.Solve.{AreWorkers, all_workers, nodes_for, solve, workers_option, table_option, tries_option, steps_option, bounds_option, bound_word, SolveData, SayJob, NameSolve}
 use Rattle.strip_pay.proofs.Lists.{same_test}
 use Rattle.strip_words.proofs.Given.{chosen_once, given_number_once, not_chosen, picked_once}
 use Rattle.strip_words.proofs.Spelled.{said}
@@ -62,7 +62,8 @@ solve_once words a b (items, rest, spelled, one) names =
     let two = said solve refl words items rest spelled (λ items rest. SayJob items rest b) names in
     let file : a.file ≡ b.file = (let p = one.file in let q = two.file in cc) in
     let workers = workers_once items a.workers b.workers spelled.once one.workers two.workers in
-    let nodes = chosen_once nodes_option items a.nodes b.nodes spelled.once one.nodes two.nodes in
+    let auto = same_test a.auto b.auto (λ is. two.auto.1 (one.auto.0 is)) (λ is. one.auto.1 (two.auto.0 is)) in
+    let nodes = chosen_once (nodes_for b.auto) items a.nodes b.nodes spelled.once (subst (λ flag. IsChosen (nodes_for flag) items a.nodes) auto one.nodes) two.nodes in
     let table = chosen_once table_option items a.table b.table spelled.once one.table two.table in
     let tries = given_number_once tries_option items a.tries b.tries spelled.once one.tries two.tries in
     let steps = given_number_once steps_option items a.steps b.steps spelled.once one.steps two.steps in
@@ -81,4 +82,5 @@ solve_once words a b (items, rest, spelled, one) names =
       proof = proof i;
       progress = progress i;
       steal = steal i;
+      auto = auto i;
     }

@@ -2,11 +2,13 @@
 use Rattle.std.specs.Prelude.{List, codes}
 use Rattle.strip_words.specs.Words.{Word}
 use Rattle.strip_words.specs.Solve.{SolveData, NameSolve}
+use Rattle.strip_words.specs.Films.{NameFilmFile}
 use Rattle.strip_words.specs.Plans.{PlanFilesData, NamePlanFiles}
 use Rattle.strip_words.specs.Gen.{GenData, NameGen, TrialData, NameTrial}
 
 pub data JobData : Type 0 where
   Solve : SolveData → JobData
+  Price : Word → JobData
   Check : PlanFilesData → JobData
   Convert : PlanFilesData → JobData
   Dood : PlanFilesData → JobData
@@ -17,6 +19,7 @@ pub data JobData : Type 0 where
 -- the words name this job
 abbrev pub NameJob : List Word → JobData → Type 0
 NameJob words (Solve job) = NameSolve words job
+NameJob words (Price file) = NameFilmFile (codes "price") words file
 NameJob words (Check files) = NamePlanFiles (codes "check") words files
 NameJob words (Convert files) = NamePlanFiles (codes "convert") words files
 NameJob words (Dood files) = NamePlanFiles (codes "dood") words files

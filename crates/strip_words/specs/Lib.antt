@@ -2,6 +2,7 @@ pub mod Words
 pub mod Options
 pub mod Reader
 pub mod Solve
+pub mod Films
 pub mod Plans
 pub mod Gen
 pub mod Jobs

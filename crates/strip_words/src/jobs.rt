@@ -1,5 +1,6 @@
 // Jobs.
 
+use crate::films::FilmFile;
 use crate::making::{GenJob, TrialJob};
 use crate::plans::PlanFiles;
 use crate::solve::SolveJob;
@@ -9,6 +10,8 @@ use crate::solve::SolveJob;
 pub enum Job {
     /// A film is to be solved.
     Solve(SolveJob),
+    /// The order of a film's rows is to be priced.
+    Price(FilmFile),
     /// A plan is to be checked.
     Check(PlanFiles),
     /// A plan is to be written in the newest format.

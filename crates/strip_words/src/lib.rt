@@ -4,6 +4,7 @@
 mod command;
 mod effort;
 mod fault;
+mod films;
 mod item;
 mod jobs;
 pub mod laws;
@@ -16,6 +17,7 @@ mod reader;
 mod solve;
 
 pub use fault::WordsFault;
+pub use films::FilmFile;
 pub use jobs::Job;
 pub use making::{GenJob, TrialJob};
 pub use naming::job;

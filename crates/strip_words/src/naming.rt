@@ -5,6 +5,7 @@ ghost use Rattle.strip_words.specs.Jobs.{NameJob, NameNoJob};
 ghost use Rattle.strip_words.specs.Shown.{texts, job_data};
 
 use crate::WordsFault;
+use crate::films::film_file;
 use crate::jobs::Job;
 use crate::making::{gen_job, trial_job};
 use crate::plans::plan_files;
@@ -23,6 +24,8 @@ pub fn job(alloc: Global, words: &[String]) -> Result<Job, WordsFault>
     let word = word.as_str();
     if word == "solve" {
         Ok(Job::Solve(solve_job(alloc, later)?))
+    } else if word == "price" {
+        Ok(Job::Price(film_file(alloc, "price", later)?))
     } else if word == "check" {
         Ok(Job::Check(plan_files(alloc, "check", later)?))
     } else if word == "convert" {

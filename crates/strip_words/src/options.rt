@@ -69,6 +69,13 @@ pub(crate) fn value_of<'w>(items: &[Item<'w>], name: &str) -> Option<&'w str>
     None
 }
 
+/// Whether no item gives the option a value.
+pub(crate) fn is_left_out(items: &[Item], name: &str) -> bool
+    ensures { IsTrue result ↔ IsLeftOut name.now (items_data items.now) }
+{
+    value_of(items, name).is_none()
+}
+
 /// Whether the option that has no value stands among the items.
 pub(crate) fn has_flag(items: &[Item], name: &str) -> bool
     ensures { IsTrue result ↔ Contains (items_data items.now) (AFlag name.now) }

@@ -2,8 +2,8 @@
 ghost use Rattle.std.specs.Prelude.{◌≡◌, ◌↔◌, ◌∷◌, ℕ, Option, Contains, IfOk, IfErr, IsTrue, codes, true};
 ghost use Rattle.strip_words.specs.declared.fault.WordsFault.TheVariants.{BadWords as NoJob};
 ghost use Rattle.strip_words.specs.Options.{IsChosen};
-ghost use Rattle.strip_words.specs.Solve.{AreWorkers, NameSolve, SolveData, bounds_option, bound_word};
-ghost use Rattle.strip_words.specs.Words.{AreDistinct, options_in};
+ghost use Rattle.strip_words.specs.Solve.{AreWorkers, LeavesOpen, NameSolve, SolveData, auto_flag, bounds_option, bound_word, nodes_for};
+ghost use Rattle.strip_words.specs.Words.{AreDistinct, Flag as AFlag, options_in};
 ghost use Rattle.strip_words.specs.Shown.{items_data, solve_data, texts};
 
 use crate::WordsFault;
@@ -11,7 +11,7 @@ use crate::command::{ChoiceOption, Command, CommandOption, FreeOption, NumberOpt
 use crate::effort::effort_of;
 use crate::item::Item;
 use crate::number::number_of;
-use crate::options::{has_flag, value_of};
+use crate::options::{has_flag, is_left_out, value_of};
 use crate::reader::read;
 use std::alloc::Global;
 use strip_kind::Kind;
@@ -29,6 +29,7 @@ const SOLVE: Command = Command {
         CommandOption::Flag(PROOF),
         CommandOption::Flag(PROGRESS),
         CommandOption::Flag(STEAL),
+        CommandOption::Flag(AUTO),
     ],
 };
 
@@ -44,6 +45,12 @@ pub(crate) const NODES: NumberOption = NumberOption {
     least: 1,
     most: 16_777_216,
     default: 1_000_000,
+};
+
+/// The same where the program chooses the bounds and the steps.
+const NODES_OF_AUTO: NumberOption = NumberOption {
+    default: 20_000,
+    ..NODES
 };
 
 pub(crate) const TABLE: NumberOption = NumberOption {
@@ -77,6 +84,8 @@ const PROGRESS: &str = "--progress";
 
 const STEAL: &str = "--steal";
 
+const AUTO: &str = "--auto";
+
 /// As many workers as there are processors.
 const ALL_WORKERS: &str = "auto";
 
@@ -103,6 +112,8 @@ pub struct SolveJob {
     pub progress: bool,
     /// Whether several workers take tasks from a queue of their own first, and then from the others'.
     pub steal: bool,
+    /// Whether the program chooses the bounds and the steps. Then the words say no table, steps, bounds or stealing.
+    pub auto: bool,
 }
 
 /// The job to solve that the words behind `solve` name.
@@ -114,7 +125,8 @@ pub(crate) fn solve_job(alloc: Global, later: &[String]) -> Result<SolveJob, Wor
     let reading = read(alloc, &SOLVE, later)?;
     let items = reading.items.as_slice();
     let workers = workers_of(items)?;
-    let nodes = NODES.chosen(items)?;
+    let auto = auto_of(items)?;
+    let nodes = nodes_of(items, auto)?;
     let effort = effort_of(items)?;
     let proof = has_flag(items, PROOF);
     let progress = has_flag(items, PROGRESS);
@@ -132,7 +144,50 @@ pub(crate) fn solve_job(alloc: Global, later: &[String]) -> Result<SolveJob, Wor
         proof,
         progress,
         steal,
+        auto,
     })
+}
+
+/// Whether the items leave the bounds and the steps to the program. `BadWords` if they do, but also say one of the
+/// options that it then chooses.
+fn auto_of(items: &[Item]) -> Result<bool, WordsFault>
+    ensures flag { IfOk result (λ auto. IsTrue auto ↔ Contains (items_data items.now) (AFlag auto_flag)) }
+    ensures chosen { IfOk result (λ auto. auto ≡ true → LeavesOpen (items_data items.now)) }
+    ensures bad { IfErr result (λ e. Contains (items_data items.now) (AFlag auto_flag)
+        × ¬ LeavesOpen (items_data items.now)) }
+{
+    if !has_flag(items, AUTO) {
+        Ok(false)
+    } else if leaves_open(items) {
+        Ok(true)
+    } else {
+        Err(WordsFault::BadWords)
+    }
+}
+
+/// Whether the items say none of the options that `--auto` leaves to the program.
+fn leaves_open(items: &[Item]) -> bool
+    ensures { IsTrue result ↔ LeavesOpen (items_data items.now) }
+{
+    // Without short circuits the result is one formula of four tests, and one lemma proves it.
+    is_left_out(items, TABLE.name)
+        & is_left_out(items, STEPS.name)
+        & is_left_out(items, BOUNDS.name)
+        & !has_flag(items, STEAL)
+}
+
+/// The greatest number of lines that the items say. Its default is less where the program chooses the bounds and the
+/// steps.
+fn nodes_of(items: &[Item], auto: bool) -> Result<u64, WordsFault>
+    requires { AreDistinct (options_in (items_data items.now)) }
+    ensures ok { IfOk result (IsChosen (nodes_for auto) (items_data items.now)) }
+    ensures bad { IfErr result (λ e. (n : ℕ) → ¬ IsChosen (nodes_for auto) (items_data items.now) n) }
+{
+    if auto {
+        NODES_OF_AUTO.chosen(items)
+    } else {
+        NODES.chosen(items)
+    }
 }
 
 /// How many workers the items say, or none if they are to be as many as there are processors.

@@ -1,7 +1,7 @@
-use Rattle.std.proofs.Common.{◌≤◌, ℕ, Option, None, Some, List, IfSome, inl, inr, arith}
+use Rattle.std.proofs.Common.{◌≤◌, ℕ, Bool, true, false, Option, None, Some, List, IfSome, inl, inr, arith}
 use Rattle.strip_words.specs.Words.{Word, Item, operands_of}
 use Rattle.strip_words.specs.Options.{NumberOption, FreeOption, IsChosen, IsGiven}
-use Rattle.strip_words.specs.Solve.{AreWorkers, workers_option, nodes_option, table_option, tries_option, steps_option}
+use Rattle.strip_words.specs.Solve.{AreWorkers, workers_option, nodes_option, nodes_for, table_option, tries_option, steps_option}
 use Rattle.strip_words.specs.Gen.{GenData, IsSized, NameFilm}
 use Rattle.strip_words.proofs.laws.numbers_lie_within_their_ends.Goals as goal
 
@@ -12,6 +12,10 @@ within option items n low high chosen = elim chosen [
   | inl left_out ↦ (omega (arith, low, left_out.1), omega (arith, high, left_out.1))
   | inr given ↦ given.2.within
 ]
+
+nodes_within : (auto : Bool) (items : List Item) (n : ℕ) → IsChosen (nodes_for auto) items n → (1 ≤ n) × (n ≤ 16777216)
+nodes_within true items n chosen = within (nodes_for true) items n (omega arith) (omega arith) chosen
+nodes_within false items n chosen = within (nodes_for false) items n (omega arith) (omega arith) chosen
 
 free : (option : FreeOption) (items : List Item) (n : Option ℕ) → IsGiven option items n → IfSome n (λ n. n ≤ option.most)
 free option items None given = tt
@@ -32,7 +36,7 @@ sized operands film named = (named.scene_count.within.0, named.scene_count.withi
 pub returns : goal.returns
 returns c = record {
   workers = λ words job named. workers_within named.0 job.workers named.3.workers;
-  nodes = λ words job named. within nodes_option named.0 job.nodes (omega arith) (omega arith) named.3.nodes;
+  nodes = λ words job named. nodes_within job.auto named.0 job.nodes named.3.nodes;
   table = λ words job named. within table_option named.0 job.table (omega arith) (omega arith) named.3.table;
   tries = λ words job named. free tries_option named.0 job.tries named.3.tries;
   steps = λ words job named. free_within steps_option named.0 job.steps named.3.steps;

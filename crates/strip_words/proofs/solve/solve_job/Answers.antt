@@ -1,7 +1,9 @@
 use Rattle.std.proofs.Common.{arith, ◌≡◌, [], ◌∷◌, codes, length, sym, ap, ◌∙◌, subst}
 use Rattle.strip_words.specs.Words.{Word, operands_of}
-use Rattle.strip_words.specs.Solve.{SayJob}
+use Rattle.strip_words.specs.Options.{IsChosen}
+use Rattle.strip_words.specs.Solve.{SayJob, nodes_for}
 use Rattle.strip_words.specs.Shown.{texts, strs, items_data, rest_data, solve_data}
+use Rattle.strip_pay.proofs.Lists.{same_test}
 use Rattle.strip_words.proofs.Results.{err_from, if_err, no_memory}
 use Rattle.strip_words.proofs.Shows.{one_str, operand_count}
 use Rattle.strip_words.proofs.Given.{distinct_in}
@@ -22,10 +24,17 @@ returns-in_err-effort-clause-bad c = if_err c.from_residual-in_err-effort.result
     let says = said_by_items (codes "solve" ∷ texts c.args.later.now) c.in_ok-reading.reading.items.items c.as_slice-items.result.now (rest_data c.in_ok-reading.reading.rest) job c.as_slice-items.ensures.value c.in_ok-reading.ensures.ok names in
     c.in_err-effort.ensures.bad job.table job.tries job.steps job.kind says.table says.tries says.steps says.kind)
 
+pub returns-in_err-auto-clause-bad : goal.returns-in_err-auto-clause-bad
+returns-in_err-auto-clause-bad c = if_err c.from_residual-in_err-auto.result _ (λ e is job names.
+    let says = said_by_items (codes "solve" ∷ texts c.args.later.now) c.in_ok-reading.reading.items.items c.as_slice-items.result.now (rest_data c.in_ok-reading.reading.rest) job c.as_slice-items.ensures.value c.in_ok-reading.ensures.ok names in
+    c.in_err-auto.ensures.bad.1 (says.chosen (says.auto.1 c.in_err-auto.ensures.bad.0)))
+
 pub returns-in_err-nodes-clause-bad : goal.returns-in_err-nodes-clause-bad
 returns-in_err-nodes-clause-bad c = if_err c.from_residual-in_err-nodes.result _ (λ e is job names.
     let says = said_by_items (codes "solve" ∷ texts c.args.later.now) c.in_ok-reading.reading.items.items c.as_slice-items.result.now (rest_data c.in_ok-reading.reading.rest) job c.as_slice-items.ensures.value c.in_ok-reading.ensures.ok names in
-    c.in_err-nodes.ensures.bad job.nodes says.nodes)
+    let flag = c.in_ok-auto.ensures.flag in
+    let auto = same_test job.auto c.in_ok-auto.auto (λ is. flag.1 (says.auto.0 is)) (λ is. says.auto.1 (flag.0 is)) in
+    c.in_err-nodes.ensures.bad job.nodes (subst (λ auto. IsChosen (nodes_for auto) (items_data c.as_slice-items.result.now) job.nodes) auto says.nodes))
 
 pub returns-clause-named : goal.returns-clause-named
 returns-clause-named c =
@@ -46,6 +55,7 @@ returns-clause-named c =
       proof = c.has_flag-proof.result;
       progress = c.has_flag-progress.result;
       steal = c.has_flag-steal.result;
+      auto = c.in_ok-auto.auto;
     }) in
     let says : SayJob (items_data slice) (rest_data reading.rest) job = record {
       file = ap (λ items. operands_of (items_data items) (rest_data reading.rest)) c.as_slice-items.ensures.value ∙ sym all ∙ one_str operands c.index.result.now one
@@ -59,6 +69,8 @@ returns-clause-named c =
       proof = c.has_flag-proof.ensures;
       progress = c.has_flag-progress.ensures;
       steal = c.has_flag-steal.ensures;
+      auto = c.in_ok-auto.ensures.flag;
+      chosen = c.in_ok-auto.ensures.chosen;
     } in (
       items_data reading.items.items,
       rest_data reading.rest,
@@ -69,8 +81,8 @@ returns-clause-named c =
 pub workers_of-requires : goal.workers_of-requires
 workers_of-requires c = distinct_in _ _ c.as_slice-items.ensures.value c.in_ok-reading.ensures.ok.once
 
-pub chosen-requires : goal.chosen-requires
-chosen-requires c = distinct_in _ _ c.as_slice-items.ensures.value c.in_ok-reading.ensures.ok.once
+pub nodes_of-requires : goal.nodes_of-requires
+nodes_of-requires c = distinct_in _ _ c.as_slice-items.ensures.value c.in_ok-reading.ensures.ok.once
 
 pub effort_of-requires : goal.effort_of-requires
 effort_of-requires c = distinct_in _ _ c.as_slice-items.ensures.value c.in_ok-reading.ensures.ok.once
