@@ -1,2 +1,5 @@
 mod Back
+pub mod Chosen
+pub mod Priced
+mod Rows
 mod Readable

@@ -1,5 +1,5 @@
 -- A plan that was found can be said by a text.
-use Rattle.std.proofs.Common.{◌≡◌, ◌≢◌, ◌<◌, ◌≤◌, ◌^◌, ℕ, List, [], ◌∷◌, length, get_or, All, subst, arith}
+use Rattle.std.proofs.Common.{◌≡◌, ◌≢◌, ◌<◌, ◌≤◌, ◌^◌, ℕ, List, [], ◌∷◌, length, get_or, All, Bool, subst, arith}
 use Rattle.std.proofs.lemmas.List.{length-map}
 use Rattle.strip_mask.proofs.Below.{is_set_below}
 use Rattle.strip_kind.specs.declared.kind.Kind.{Kind}
@@ -18,7 +18,8 @@ use Rattle.strip_reduce.specs.Reduction.{reduced}
 use Rattle.strip_proof.specs.Plan.{PlanData}
 use Rattle.strip_proof.specs.Text.{IsReadableLine, IsReadablePlan}
 use Rattle.strip_check.specs.Accepted.{class_rules}
-use Rattle.strip_solve.specs.Solved.{IsSolved}
+use Rattle.strip_solve.specs.Solved.{IsSolved, IsSolvedBy}
+use Rattle.strip_solve.proofs.Chosen.{SolvedSomehow, solved_somehow}
 
 -- each of justified lines has a set and a bound that a text can say
 lines_readable : (kind : Kind) (film : FilmData) (lines : List Line) → IsFilm (reduced film).film → BoundsFinish (class_rules kind film)
@@ -31,7 +32,7 @@ lines_readable kind film lines is bounds begin are = λ place none within.
       bound = finish_small (reduced film).film line.set line.bound is lies (lines_are_true (class_rules kind film) lines is bounds begin are place none within);
     }
 
-no_order : (n : ℕ) (order : List ℕ) → 0 < n → IsOrder n order → order ≢ []
+pub no_order : (n : ℕ) (order : List ℕ) → 0 < n → IsOrder n order → order ≢ []
 no_order n [] some is same = let none : 0 ≡ 1 = is.once 0 some in omega (arith, none)
 no_order n (scene ∷ order) some is same = cc
 
@@ -51,3 +52,13 @@ solved_readable inst kind most plan is film bounds begin few solved =
       few = omega (arith, solved.few_lines, few, solved.proof.few_rows);
       lines = lines_readable kind (film_of inst) plan.lines film bounds begin solved.proof.justified;
     }
+
+-- the same of a plan whose bounds were chosen or told
+pub chosen_readable : (inst : InstanceData) (auto : Bool) (kind : Kind) (most : ℕ) (plan : PlanData) → IsInstance inst → IsFilm (reduced (film_of inst)).film
+    → ((kind : Kind) → BoundsFinish (class_rules kind (film_of inst))) → ((kind : Kind) → BeginLeast (class_rules kind (film_of inst))) → most ≤ 16777216
+    → IsSolvedBy auto kind (film_of inst) most plan → IsReadablePlan inst plan
+chosen_readable inst auto kind most plan is film bounds begin few solved = by (solved_somehow auto kind (film_of inst) most plan solved)
+  where
+    by : SolvedSomehow (film_of inst) most plan → IsReadablePlan inst plan
+    by (some, lines, fewer, is_solved) =
+        solved_readable inst some lines plan is film (bounds some) (begin some) (omega (arith, few, fewer)) is_solved

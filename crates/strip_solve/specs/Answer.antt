@@ -9,7 +9,7 @@ use Rattle.strip_proof.specs.declared.plan.Plan.{Plan}
 use Rattle.strip_proof.specs.Plan.{plan_data}
 use Rattle.strip_proof.specs.Text.{IsReadablePlan}
 use Rattle.strip_solve.specs.declared.solve.SearchOptions.{SearchOptions}
-use Rattle.strip_solve.specs.Solved.{IsSolved}
+use Rattle.strip_solve.specs.Solved.{IsSolvedBy}
 
 -- a search may go by so many lines and entries
 pub record MayBe (options : SearchOptions) : Type 0 where
@@ -21,7 +21,7 @@ pub record MayBe (options : SearchOptions) : Type 0 where
 -- the answer for an instance: a plan of it, which a text can say, where no more than 64 classes are left, and else
 -- how many there are
 pub record IsAnswerFor (options : SearchOptions) (inst : InstanceData) (answer : Result Plan ReduceFault) : Type 0 where
-  pub solved : IfOk answer (λ plan. IsSolved options.kind (film_of inst) options.nodes (plan_data plan))
+  pub solved : IfOk answer (λ plan. IsSolvedBy options.auto options.kind (film_of inst) options.nodes (plan_data plan))
   pub readable : IfOk answer (λ plan. IsReadablePlan inst (plan_data plan))
   pub few : OnOk answer (class_count (film_of inst) ≤ 64)
   pub too_many : (count : ℕ) → answer ≡ Err (TooManyClasses count) → (64 < count) × (count ≡ class_count (film_of inst))

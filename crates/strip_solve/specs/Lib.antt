@@ -1,3 +1,5 @@
+pub mod Own
+pub mod Priced
 pub mod Solved
 pub mod Searched
 pub mod Answer

@@ -1,6 +1,7 @@
 -- A plan that a search of an instance's classes found.
-use Rattle.std.specs.Prelude.{◌≡◌, ℕ, ◌+◌, ◌*◌, ◌<◌, ◌≤◌, ◌==◌, List, [], length, count_by}
+use Rattle.std.specs.Prelude.{◌≡◌, ◌⊎◌, ℕ, ◌+◌, ◌*◌, ◌<◌, ◌≤◌, ◌==◌, Bool, true, false, List, [], length, count_by, min}
 use Rattle.strip_kind.specs.declared.kind.Kind.{Kind}
+use Rattle.strip_kind.specs.declared.kind.Kind.TheVariants.{Pairs, Arrivals}
 use Rattle.strip_pay.specs.Film.{FilmData}
 use Rattle.strip_pay.specs.Order.{IsKeptOrder}
 use Rattle.strip_pay.specs.Pay.{IsLeast, pay_of}
@@ -20,6 +21,7 @@ use Rattle.strip_proof.specs.declared.plan.Status.{Status}
 use Rattle.strip_proof.specs.declared.plan.Status.TheVariants.{Optimal, Bounded}
 use Rattle.strip_proof.specs.Plan.{PlanData}
 use Rattle.strip_check.specs.Accepted.{class_rules}
+use Rattle.strip_solve.specs.Own.{own_order}
 
 -- the path that a search of the film starts with: the greedy one, improved by moves
 pub record IsStart (film : FilmData) (start : PathData) : Type 0 where
@@ -77,12 +79,13 @@ pub record IsOfClasses (film : FilmData) (order : List ℕ) : Type 0 where
   pub turned : (reduced film).film.pairs ≡ [] → classes ≡ oriented classes
 
 -- a plan of the film by static bounds of this kind, and with this many lines at most: its order keeps the pairs and
--- pays the cost, which is no more than the path costs that varying the start gave; no order that keeps the pairs
--- pays less than the bound; the lines prove it; and its status holds
+-- pays the cost, which is no more than the path costs that varying the start gave, nor than the order of the rows if
+-- that keeps the pairs; it is that order or one of the classes; no order that keeps the pairs pays less than the bound;
+-- the lines prove it; and its status holds
 pub record IsSolved (kind : Kind) (film : FilmData) (most : ℕ) (plan : PlanData) : Type 0 where
   pub same_kind : plan.kind ≡ kind
   pub order : IsKeptOrder film plan.order
-  pub of_classes : IsOfClasses film plan.order
+  pub of_classes : IsOfClasses film plan.order ⊎ (plan.order ≡ own_order film)
   pub cost : plan.cost ≡ pay_of film plan.order
   pub bound : IsLeast film plan.bound
   pub few_lines : plan.held ≤ most
@@ -91,5 +94,17 @@ pub record IsSolved (kind : Kind) (film : FilmData) (most : ℕ) (plan : PlanDat
   pub varied : PathData
   pub is_varied : IsVaried (reduced film).film start varied
   pub no_dearer : plan.cost ≤ varied.paid + (reduced film).apart
+  pub own : IsKeptOrder film (own_order film) → plan.cost ≤ pay_of film (own_order film)
   pub proof : AreProof kind film varied plan
   pub closes : Closes kind film most varied plan plan.status
+
+-- a plan of the film where the program chooses the bounds: by pairs and with 50,000 lines at most it is optimal; or it is
+-- one by arrivals, with this many lines at most
+abbrev pub IsChosen : FilmData → ℕ → PlanData → Type 0
+IsChosen film most plan =
+    (IsSolved Pairs film (min most 50000) plan × (plan.status ≡ Optimal)) ⊎ IsSolved Arrivals film most plan
+
+-- a plan of the film, where the program chooses the bounds or they are of this kind
+abbrev pub IsSolvedBy : Bool → Kind → FilmData → ℕ → PlanData → Type 0
+IsSolvedBy true kind film most plan = IsChosen film most plan
+IsSolvedBy false kind film most plan = IsSolved kind film most plan

@@ -31,7 +31,8 @@ use strip_memo::Memo;
 use strip_trim::trim;
 use strip_worker::{Ended, Gate, alone_through};
 
-/// The end of a search, and where its bound is its cost, those of its lines that the bound needs.
+/// The end of a search, and where its bound is its cost or that of the order of the rows, those of its lines that the bound
+/// needs.
 #[derive(Debug, Drop)]
 pub(crate) struct Closed {
     pub ended: Ended,
@@ -45,16 +46,17 @@ pub(crate) fn end_alone<F: Fn(u64, u64) -> u64, G: Gate>(
     kept: &StoredBound<F>,
     begun: &Path,
     options: SearchOptions,
+    own: u64,
     gate: &Told<G>,
 ) -> Result<Closed, Memory>
     requires keeps { Keeps (F.pre kept.now.f) (F.post kept.now.f) kept.now.kind kept.now.film.now }
     requires begun { IsComplete kept.now.film.now (path_data begun.now) }
     requires options { MayBe options }
-    ensures { IfOk result (IsClosed kept.now.kind kept.now.film.now (path_data begun.now) options.nodes) }
+    ensures { IfOk result (IsClosed kept.now.kind kept.now.film.now (path_data begun.now) options.nodes own) }
 {
     match options.steps {
-        None => walk_alone(alloc, kept, begun, options, gate),
-        Some(steps) => layers_alone(alloc, kept, begun, steps, options.nodes, gate),
+        None => walk_alone(alloc, kept, begun, options, own, gate),
+        Some(steps) => layers_alone(alloc, kept, begun, steps, options.nodes, own, gate),
     }
 }
 
@@ -64,12 +66,13 @@ fn walk_alone<F: Fn(u64, u64) -> u64, G: Gate>(
     kept: &StoredBound<F>,
     begun: &Path,
     options: SearchOptions,
+    own: u64,
     gate: &Told<G>,
 ) -> Result<Closed, Memory>
     requires keeps { Keeps (F.pre kept.now.f) (F.post kept.now.f) kept.now.kind kept.now.film.now }
     requires begun { IsComplete kept.now.film.now (path_data begun.now) }
     requires options { MayBe options }
-    ensures { IfOk result (IsClosed kept.now.kind kept.now.film.now (path_data begun.now) options.nodes) }
+    ensures { IfOk result (IsClosed kept.now.kind kept.now.film.now (path_data begun.now) options.nodes own) }
 {
     let mut memo = Memo::new(alloc, kept)?;
     let ended = alone_through(
@@ -81,7 +84,7 @@ fn walk_alone<F: Fn(u64, u64) -> u64, G: Gate>(
         options.entries,
         gate,
     )?;
-    let trimmed = trimmed(alloc, kept, &mut memo, &ended)?;
+    let trimmed = trimmed(alloc, kept, &mut memo, &ended, own)?;
     Ok(Closed { ended, trimmed })
 }
 
@@ -92,15 +95,16 @@ fn layers_alone<F: Fn(u64, u64) -> u64, G: Gate>(
     begun: &Path,
     steps: u32,
     most: u32,
+    own: u64,
     gate: &Told<G>,
 ) -> Result<Closed, Memory>
     requires keeps { Keeps (F.pre kept.now.f) (F.post kept.now.f) kept.now.kind kept.now.film.now }
     requires begun { IsComplete kept.now.film.now (path_data begun.now) }
     requires some { 1 ≤ most }
-    ensures { IfOk result (IsClosed kept.now.kind kept.now.film.now (path_data begun.now) most) }
+    ensures { IfOk result (IsClosed kept.now.kind kept.now.film.now (path_data begun.now) most own) }
 {
     let layered = search_by_layers(alloc, &Alone { kept }, gate, begun, steps, most)?;
-    close_layers(alloc, kept, begun, most, layered)
+    close_layers(alloc, kept, begun, most, own, layered)
 }
 
 /// The same by several workers, who answer the sets of each layer at once. The end is the same for any number of them.
@@ -111,6 +115,7 @@ pub(crate) fn layers_beside<R: Threads + Sync, F: Fn(u64, u64) -> u64 + Sync, G:
     begun: &Path,
     steps: u32,
     most: u32,
+    own: u64,
     workers: u32,
     gate: &Told<G>,
 ) -> Result<Closed, Memory>
@@ -118,7 +123,7 @@ pub(crate) fn layers_beside<R: Threads + Sync, F: Fn(u64, u64) -> u64 + Sync, G:
     requires begun { IsComplete kept.now.film.now (path_data begun.now) }
     requires some { 1 ≤ most }
     requires workers { 0 < workers }
-    ensures { IfOk result (IsClosed kept.now.kind kept.now.film.now (path_data begun.now) most) }
+    ensures { IfOk result (IsClosed kept.now.kind kept.now.film.now (path_data begun.now) most own) }
 {
     let by = |asks: &mut [Ask]| -> Result<(), Memory>
         requires { IsSync R.row × IsSync F.row × (0 < workers)
@@ -127,7 +132,7 @@ pub(crate) fn layers_beside<R: Threads + Sync, F: Fn(u64, u64) -> u64 + Sync, G:
         ensures { IfOk result (λ _. AreAnswered kept.entry.now.kind kept.entry.now.film.now asks.old asks.new) }
     { answer_beside(rt, alloc, kept, workers, asks) };
     let layered = search_by_layers(alloc, &Beside { kept, by }, gate, begun, steps, most)?;
-    close_layers(alloc, kept, begun, most, layered)
+    close_layers(alloc, kept, begun, most, own, layered)
 }
 
 /// The end of a search by layers that began with this path. Its lines are trimmed by what it found of static bounds.
@@ -136,12 +141,13 @@ fn close_layers<F: Fn(u64, u64) -> u64>(
     kept: &StoredBound<F>,
     begun: &Path,
     most: u32,
+    own: u64,
     layered: Layered,
 ) -> Result<Closed, Memory>
     requires keeps { Keeps (F.pre kept.now.f) (F.post kept.now.f) kept.now.kind kept.now.film.now }
     requires layered { IsLayered kept.now.kind kept.now.film.now (path_data begun.now) most (layered_data layered) }
     requires found { AreTrue kept.now.kind kept.now.film.now layered.found.values.entries }
-    ensures { IfOk result (IsClosed kept.now.kind kept.now.film.now (path_data begun.now) most) }
+    ensures { IfOk result (IsClosed kept.now.kind kept.now.film.now (path_data begun.now) most own) }
 {
     kept.film().keeps_limits();
     let Layered {
@@ -158,7 +164,7 @@ fn close_layers<F: Fn(u64, u64) -> u64>(
         |q, need| found.reach(kept, Mask(q), need),
     );
     let mut memo = Memo::new(alloc, &known)?;
-    let trimmed = trimmed(alloc, &known, &mut memo, &ended)?;
+    let trimmed = trimmed(alloc, &known, &mut memo, &ended, own)?;
     Ok(Closed { ended, trimmed })
 }
 
@@ -194,19 +200,20 @@ fn ended_of<F: Fn(u64, u64) -> u64>(
     })
 }
 
-/// The lines that the bound needs, where it is the cost.
+/// The lines that the bound needs, where it is the cost or what the order of the rows costs.
 pub(crate) fn trimmed<F: Fn(u64, u64) -> u64>(
     alloc: Global,
     kept: &StoredBound<F>,
     memo: &mut Memo,
     ended: &Ended,
+    own: u64,
 ) -> Result<Option<Vec<Line>>, Memory>
     requires keeps { Keeps (F.pre kept.now.f) (F.post kept.now.f) kept.now.kind kept.now.film.now }
     requires memo { IsMemo kept.now.kind kept.now.film.now memo.old }
     requires lines { AreJustified (rules_of kept.now.kind kept.now.film.now) ended.now.lines.items }
-    ensures { IfOk result (IsTrimmed kept.now.kind kept.now.film.now (ended_data ended.now)) }
+    ensures { IfOk result (IsTrimmed kept.now.kind kept.now.film.now own (ended_data ended.now)) }
 {
-    if ended.bound == ended.cost {
+    if ended.bound == ended.cost.min(own) {
         Ok(Some(trim(alloc, kept, memo, &ended.lines)?))
     } else {
         Ok(None)

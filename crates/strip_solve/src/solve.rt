@@ -1,10 +1,11 @@
 // A plan of an instance, by one worker or by several.
-ghost use Rattle.std.specs.Prelude.{◌≡◌, ◌+◌, ◌≤◌, ℕ, [], IfOk};
+ghost use Rattle.std.specs.Prelude.{◌≡◌, ◌+◌, ◌≤◌, ◌⊎◌, [], IfOk};
 ghost use Rattle.strip_pay.specs.Film.{FilmData};
 ghost use Rattle.strip_pay.specs.Order.{IsKeptOrder};
 ghost use Rattle.strip_pay.specs.Pay.{pay_of};
 ghost use Rattle.strip_film.specs.Path.{IsComplete};
 ghost use Rattle.strip_film.specs.Shown.{path_data};
+ghost use Rattle.strip_model.specs.Film.{film_of};
 ghost use Rattle.strip_reduce.specs.Law.{StandsFor};
 ghost use Rattle.strip_reduce.specs.Oriented.{oriented};
 ghost use Rattle.strip_reduce.specs.Reduction.{reduced as reduction};
@@ -12,10 +13,13 @@ ghost use Rattle.strip_reduce.specs.Shown.{reduced_data};
 ghost use Rattle.strip_bound.specs.StoredBound.{Keeps};
 ghost use Rattle.strip_proof.specs.Plan.{plan_data};
 ghost use Rattle.strip_solve.specs.Answer.{IsAnswerFor, MayBe};
-ghost use Rattle.strip_solve.specs.Searched.{IsProofOf, IsSearchedFrom};
-ghost use Rattle.strip_solve.specs.Solved.{IsSolved, IsStart};
+ghost use Rattle.strip_solve.specs.Own.{IsOwn, or_own, own_cost};
+ghost use Rattle.strip_solve.specs.Searched.{IsFound, IsProofOf, IsRows, IsSearchedFrom, IsStatusOf};
+ghost use Rattle.strip_solve.specs.Solved.{IsSolved, IsSolvedBy, IsStart};
 
+use crate::choosing::{choose_alone, choose_beside};
 use crate::ending::{Closed, end_alone, layers_beside, trimmed};
+use crate::own::{Own, own_cost, own_order};
 use crate::told::Told;
 use std::alloc::Global;
 use std::marker::Brand;
@@ -35,7 +39,7 @@ use strip_model::Instance;
 use strip_pay::laws::pays_stay_small;
 use strip_proof::{Plan, Status};
 use strip_reduce::{ReduceFault, Reduced, expand, orient, reduce};
-use strip_start::{greedy, improve, vary, vary_beside};
+use strip_start::{greedy, improve, or_listed, vary, vary_beside};
 use strip_store::{Bounded, Store};
 use strip_worker::{Ended, Gate, OpenGate};
 use strip_world::Limits;
@@ -59,6 +63,9 @@ pub struct SearchOptions {
     pub steps: Option<u32>,
     /// Whether each of several workers has a queue of tasks and takes from the others' where his own is empty.
     pub steal: bool,
+    /// Whether the program chooses kind and steps itself: a search with pairs and few lines first, and unless that ends one
+    /// by layers with arrivals. What is said of these, and of stealing, then doesn't count.
+    pub auto: bool,
 }
 
 /// A plan of the instance, found by one worker. `TooManyClasses` where more than 64 classes are left. It
@@ -88,7 +95,7 @@ pub fn solve_through<G: Gate>(
     the_rules_are_true();
     let reduced = reduce(alloc, inst)?;
     reduced.film.keeps_limits();
-    match solve_classes(alloc, &reduced, options, gate) {
+    match solve_classes(alloc, inst, &reduced, options, gate) {
         Ok(plan) => Ok(plan),
         Err(Memory) => Err(ReduceFault::Memory),
     }
@@ -112,38 +119,37 @@ pub fn solve_beside<R: Threads + Wait + Sync, G: Gate>(
     the_rules_are_true();
     let reduced = reduce(alloc, inst)?;
     reduced.film.keeps_limits();
-    match solve_classes_beside(rt, alloc, &reduced, options, workers, gate) {
+    match solve_classes_beside(rt, alloc, inst, &reduced, options, workers, gate) {
         Ok(plan) => Ok(plan),
         Err(Memory) => Err(ReduceFault::Memory),
     }
 }
 
-/// A plan of any film that the classes stand for, by one worker.
+/// A plan of the instance, which these classes stand for, by one worker.
 fn solve_classes<G: Gate>(
     alloc: Global,
+    inst: &Instance,
     reduced: &Reduced,
     options: SearchOptions,
     gate: &G,
 ) -> Result<Plan, Memory>
     requires { MayBe options }
-    ensures { (film : FilmData) → reduced_data reduced.now ≡ reduction film → StandsFor film (reduced_data reduced.now)
-        → IfOk result (λ plan. IsSolved options.kind film options.nodes (plan_data plan)) }
+    ensures { reduced_data reduced.now ≡ reduction (film_of inst.now) → StandsFor (film_of inst.now) (reduced_data reduced.now)
+        → IfOk result (λ plan. IsSolvedBy options.auto options.kind (film_of inst.now) options.nodes (plan_data plan)) }
 {
-    let film = &reduced.film;
-    film.keeps_limits();
-    let start = improve(film, &greedy(film));
-    let told = Told {
-        gate,
-        apart: reduced.apart,
-    };
-    let searched = search(alloc, film, &start, options, &told)?;
-    plan_of(alloc, reduced, &start, options, searched)
+    let own = own_order(alloc, inst)?;
+    if options.auto {
+        choose_alone(alloc, reduced, own, options, gate)
+    } else {
+        plan_alone(alloc, reduced, own, options, gate)
+    }
 }
 
-/// A plan of any film that the classes stand for, by several workers.
+/// The same by several workers.
 fn solve_classes_beside<R: Threads + Wait + Sync, G: Gate>(
     rt: &R,
     alloc: Global,
+    inst: &Instance,
     reduced: &Reduced,
     options: SearchOptions,
     workers: u32,
@@ -151,8 +157,28 @@ fn solve_classes_beside<R: Threads + Wait + Sync, G: Gate>(
 ) -> Result<Plan, Memory>
     requires options { MayBe options }
     requires workers { (2 ≤ workers) × (workers ≤ 64) }
+    ensures { reduced_data reduced.now ≡ reduction (film_of inst.now) → StandsFor (film_of inst.now) (reduced_data reduced.now)
+        → IfOk result (λ plan. IsSolvedBy options.auto options.kind (film_of inst.now) options.nodes (plan_data plan)) }
+{
+    let own = own_order(alloc, inst)?;
+    if options.auto {
+        choose_beside(rt, alloc, reduced, own, options, workers, gate)
+    } else {
+        plan_beside(rt, alloc, reduced, own, options, workers, gate)
+    }
+}
+
+/// A plan of any film that the classes stand for, by the bounds and steps that the options say and one worker.
+fn plan_alone<G: Gate>(
+    alloc: Global,
+    reduced: &Reduced,
+    own: Option<Own>,
+    options: SearchOptions,
+    gate: &G,
+) -> Result<Plan, Memory>
+    requires { MayBe options }
     ensures { (film : FilmData) → reduced_data reduced.now ≡ reduction film → StandsFor film (reduced_data reduced.now)
-        → IfOk result (λ plan. IsSolved options.kind film options.nodes (plan_data plan)) }
+        → IsOwn film own → IfOk result (λ plan. IsSolved options.kind film options.nodes (plan_data plan)) }
 {
     let film = &reduced.film;
     film.keeps_limits();
@@ -161,37 +187,69 @@ fn solve_classes_beside<R: Threads + Wait + Sync, G: Gate>(
         gate,
         apart: reduced.apart,
     };
-    let searched = search_beside(rt, alloc, film, &start, options, workers, &told)?;
-    plan_of(alloc, reduced, &start, options, searched)
+    let cost = own_cost(&own, reduced.apart);
+    let searched = search(alloc, film, &start, options, cost, &told)?;
+    plan_of(alloc, reduced, &start, options, own, searched)
+}
+
+/// The same by several workers.
+fn plan_beside<R: Threads + Wait + Sync, G: Gate>(
+    rt: &R,
+    alloc: Global,
+    reduced: &Reduced,
+    own: Option<Own>,
+    options: SearchOptions,
+    workers: u32,
+    gate: &G,
+) -> Result<Plan, Memory>
+    requires options { MayBe options }
+    requires workers { (2 ≤ workers) × (workers ≤ 64) }
+    ensures { (film : FilmData) → reduced_data reduced.now ≡ reduction film → StandsFor film (reduced_data reduced.now)
+        → IsOwn film own → IfOk result (λ plan. IsSolved options.kind film options.nodes (plan_data plan)) }
+{
+    let film = &reduced.film;
+    film.keeps_limits();
+    let start = improve(film, &greedy(film));
+    let told = Told {
+        gate,
+        apart: reduced.apart,
+    };
+    let cost = own_cost(&own, reduced.apart);
+    let searched = search_beside(rt, alloc, film, &start, options, cost, workers, &told)?;
+    plan_of(alloc, reduced, &start, options, own, searched)
 }
 
 /// A search: the path that it began with, its end, and where its bound is its cost, those of its lines that the
 /// bound needs.
 #[derive(Debug, Drop)]
-struct Searched {
-    begun: Path,
-    ended: Ended,
-    trimmed: Option<Vec<Line>>,
+pub(crate) struct Searched {
+    pub begun: Path,
+    pub ended: Ended,
+    pub trimmed: Option<Vec<Line>>,
 }
 
-/// The end of the search of a film that begins with what varying this path gives, by one worker.
-fn search<G: Gate>(
+/// The end of the search of a film that begins with what varying this path gives, or with the scenes as they are numbered if
+/// that is cheaper, by one worker.
+pub(crate) fn search<G: Gate>(
     alloc: Global,
     film: &Film,
     start: &Path,
     options: SearchOptions,
+    own: u64,
     gate: &Told<G>,
 ) -> Result<Searched, Memory>
     requires start { IsComplete film.now (path_data start.now) }
     requires options { MayBe options }
-    ensures { IfOk result (IsSearchedFrom options.kind film.now (path_data start.now) options.nodes) }
+    ensures { IfOk result (IsSearchedFrom options.kind film.now (path_data start.now) options.nodes own) }
 {
     let tables = BoundTables::of(alloc, film)?;
     let kept = StoredBound::new(film, options.kind, |q, need| {
         static_reach(film, &tables, options.kind, Mask(q), need)
     });
-    let begun = vary(film, start, useful_tries(&kept, start, options.tries));
-    let Closed { ended, trimmed } = end_alone(alloc, &kept, &begun, options, gate)?;
+    let varied = vary(film, start, useful_tries(&kept, start, options.tries));
+    let begun = or_listed(film, &varied);
+    let Closed { ended, trimmed } = end_alone(alloc, &kept, &begun, options, own, gate)?;
+    gate.end(options.kind, &ended, options.nodes);
     Ok(Searched {
         begun,
         ended,
@@ -200,27 +258,30 @@ fn search<G: Gate>(
 }
 
 /// The end of such a search by several workers, who share what they work out of the static bounds.
-fn search_beside<R: Threads + Wait + Sync, G: Gate>(
+pub(crate) fn search_beside<R: Threads + Wait + Sync, G: Gate>(
     rt: &R,
     alloc: Global,
     film: &Film,
     start: &Path,
     options: SearchOptions,
+    own: u64,
     workers: u32,
     gate: &Told<G>,
 ) -> Result<Searched, Memory>
     requires start { IsComplete film.now (path_data start.now) }
     requires options { MayBe options }
     requires workers { (2 ≤ workers) × (workers ≤ 64) }
-    ensures { IfOk result (IsSearchedFrom options.kind film.now (path_data start.now) options.nodes) }
+    ensures { IfOk result (IsSearchedFrom options.kind film.now (path_data start.now) options.nodes own) }
 {
     let tables = BoundTables::of(alloc, film)?;
     let kept = StoredBound::new(film, options.kind, |q, need| {
         static_reach(film, &tables, options.kind, Mask(q), need)
     });
     match options.steps {
-        None => search_stored::<Brand, R, _, G>(rt, alloc, &kept, start, options, workers, gate),
-        Some(steps) => search_layers(rt, alloc, &kept, start, options, steps, workers, gate),
+        None => search_stored::<Brand, R, _, G>(
+            rt, alloc, &kept, start, options, own, workers, gate,
+        ),
+        Some(steps) => search_layers(rt, alloc, &kept, start, options, steps, own, workers, gate),
     }
 }
 
@@ -232,6 +293,7 @@ fn search_layers<R: Threads + Wait + Sync, F: Fn(u64, u64) -> u64 + Sync, G: Gat
     start: &Path,
     options: SearchOptions,
     steps: u32,
+    own: u64,
     workers: u32,
     gate: &Told<G>,
 ) -> Result<Searched, Memory>
@@ -239,10 +301,11 @@ fn search_layers<R: Threads + Wait + Sync, F: Fn(u64, u64) -> u64 + Sync, G: Gat
     requires start { IsComplete kept.now.film.now (path_data start.now) }
     requires options { MayBe options }
     requires workers { (2 ≤ workers) × (workers ≤ 64) }
-    ensures { IfOk result (IsSearchedFrom kept.now.kind kept.now.film.now (path_data start.now) options.nodes) }
+    ensures { IfOk result (IsSearchedFrom kept.now.kind kept.now.film.now (path_data start.now) options.nodes own) }
 {
     let tries = useful_tries(kept, start, options.tries);
-    let begun = vary_beside(rt, kept.film(), start, tries, workers);
+    let varied = vary_beside(rt, kept.film(), start, tries, workers);
+    let begun = or_listed(kept.film(), &varied);
     let Closed { ended, trimmed } = layers_beside(
         rt,
         alloc,
@@ -250,9 +313,11 @@ fn search_layers<R: Threads + Wait + Sync, F: Fn(u64, u64) -> u64 + Sync, G: Gat
         &begun,
         steps,
         options.nodes,
+        own,
         workers,
         gate,
     )?;
+    gate.end(options.kind, &ended, options.nodes);
     Ok(Searched {
         begun,
         ended,
@@ -272,6 +337,7 @@ fn search_stored<
     kept: &StoredBound<F>,
     start: &Path,
     options: SearchOptions,
+    own: u64,
     workers: u32,
     gate: &Told<G>,
 ) -> Result<Searched, Memory>
@@ -281,7 +347,7 @@ fn search_stored<
     requires start { IsComplete kept.now.film.now (path_data start.now) }
     requires options { MayBe options }
     requires workers { (2 ≤ workers) × (workers ≤ 64) }
-    ensures { IfOk result (IsSearchedFrom kept.now.kind kept.now.film.now (path_data start.now) options.nodes) }
+    ensures { IfOk result (IsSearchedFrom kept.now.kind kept.now.film.now (path_data start.now) options.nodes own) }
 {
     let store: Store<N> = Store::new(alloc, kept)?;
     let stored = StoredBound::new(
@@ -290,7 +356,8 @@ fn search_stored<
         |q, need| store.reach(rt, kept, Mask(q), need),
     );
     let tries = useful_tries(&stored, start, options.tries);
-    let begun = vary_beside(rt, kept.film(), start, tries, workers);
+    let varied = vary_beside(rt, kept.film(), start, tries, workers);
+    let begun = or_listed(kept.film(), &varied);
     // The caller has a memo too.
     let mut memo = Memo::among(alloc, &stored, workers + 1)?;
     let limits = Limits {
@@ -308,7 +375,8 @@ fn search_stored<
         options.steal,
         gate,
     )?;
-    let trimmed = trimmed(alloc, &stored, &mut memo, &ended)?;
+    let trimmed = trimmed(alloc, &stored, &mut memo, &ended, own)?;
+    gate.end(options.kind, &ended, options.nodes);
     Ok(Searched {
         begun,
         ended,
@@ -318,7 +386,7 @@ fn search_stored<
 
 /// How often the path is to be varied: as often as asked for, 5,000 times for each class if nothing is said, and never
 /// if the static bound of all scenes says that no path is cheaper.
-fn useful_tries<F: Fn(u64, u64) -> u64>(
+pub(crate) fn useful_tries<F: Fn(u64, u64) -> u64>(
     kept: &StoredBound<F>,
     start: &Path,
     asked: Option<u32>,
@@ -333,20 +401,24 @@ fn useful_tries<F: Fn(u64, u64) -> u64>(
     asked.unwrap_or(TRIES_A_CLASS * film.scenes() as u32)
 }
 
-/// The plan of the instance that the end of its classes' search stands for.
-fn plan_of(
+/// The plan of the instance that the end of its classes' search stands for, or that of the rows' order if this is cheaper.
+pub(crate) fn plan_of(
     alloc: Global,
     reduced: &Reduced,
     start: &Path,
     options: SearchOptions,
+    own: Option<Own>,
     searched: Searched,
 ) -> Result<Plan, Memory>
     requires start { IsStart reduced.now.film (path_data start.now) }
-    requires searched { IsSearchedFrom options.kind reduced.now.film (path_data start.now) options.nodes searched }
+    requires searched { IsSearchedFrom options.kind reduced.now.film (path_data start.now) options.nodes
+        (own_cost own reduced.now.apart) searched }
     ensures solved { (film : FilmData) → reduced_data reduced.now ≡ reduction film
-        → StandsFor film (reduced_data reduced.now)
+        → StandsFor film (reduced_data reduced.now) → IsOwn film own
         → IfOk result (λ plan. IsSolved options.kind film options.nodes (plan_data plan)) }
-    ensures cost { IfOk result (λ plan. plan.cost ≡ searched.ended.cost + reduced.now.apart) }
+    ensures status { IfOk result (λ plan. IsStatusOf searched.trimmed plan.status) }
+    ensures cost { IfOk result (λ plan. plan.cost ≡ or_own (searched.ended.cost + reduced.now.apart) own) }
+    ensures bound { IfOk result (λ plan. plan.bound ≡ searched.ended.bound + reduced.now.apart) }
     ensures held { IfOk result (λ plan. plan.held ≡ searched.ended.held) }
 {
     reduced.film.keeps_limits();
@@ -364,16 +436,38 @@ fn plan_of(
         ..
     } = ended;
     let (status, lines) = proof_of(trimmed, lines);
-    let order = oriented(&reduced.film, order);
+    let (order, cost) = cheaper(alloc, reduced, order, cost + reduced.apart, own)?;
     Ok(Plan {
         status,
         kind: options.kind,
-        cost: cost + reduced.apart,
+        cost,
         bound: bound + reduced.apart,
         held,
-        order: expand(alloc, reduced, &order)?,
+        order,
         lines,
     })
+}
+
+/// The cheaper of an order of the classes, which costs so much with what is set apart, and that of the rows, and its cost in
+/// units of money. If they cost the same it is the first.
+fn cheaper(
+    alloc: Global,
+    reduced: &Reduced,
+    order: Vec<u8>,
+    cost: u64,
+    own: Option<Own>,
+) -> Result<(Vec<u16>, u64), Memory>
+    requires { IsKeptOrder reduced.now.film order.items }
+    ensures { IfOk result (λ least. IsRows own cost least.0.items least.1
+        ⊎ IsFound reduced.now.film (reduced_data reduced.now).members order.items own cost least.0.items least.1) }
+{
+    match own {
+        Some(rows) if rows.cost < cost => Ok((rows.order, rows.cost)),
+        _ => {
+            let order = oriented(&reduced.film, order);
+            Ok((expand(alloc, reduced, &order)?, cost))
+        }
+    }
 }
 
 /// The lines that prove the bound, of those that were found: where they were trimmed the bound is the cost.

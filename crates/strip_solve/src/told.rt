@@ -1,6 +1,7 @@
 // What is told of the search of an instance's classes.
+use strip_kind::Kind;
 use strip_layers::{Reached, Watch};
-use strip_worker::{Gate, Limit};
+use strip_worker::{Ended, Gate, Limit, Stage, Standing};
 
 /// The gate of a search of classes. It tells costs and bounds with what was set apart, in units of money.
 #[derive(Drop)]
@@ -9,29 +10,73 @@ pub(crate) struct Told<'g, G: Gate> {
     pub apart: u64,
 }
 
+/// The standing of the instance's search, by that of the classes', where so much is set apart.
+fn with_apart(standing: &Standing, apart: u64) -> Standing {
+    Standing {
+        cost: standing.cost.saturating_add(apart),
+        bound: match standing.bound {
+            Some(bound) => Some(bound.saturating_add(apart)),
+            None => None,
+        },
+        lines: standing.lines,
+        most: standing.most,
+    }
+}
+
+impl<'g, G: Gate> Told<'g, G> {
+    /// Tells that a search with static bounds of this kind, and at most so many lines, has ended so.
+    pub(crate) fn end(&self, kind: Kind, ended: &Ended, most: u32) {
+        let standing = Standing {
+            cost: ended.cost,
+            bound: Some(ended.bound),
+            lines: ended.held,
+            most,
+        };
+        self.gate.ended(&Stage {
+            kind,
+            standing: with_apart(&standing, self.apart),
+        });
+    }
+}
+
 impl<'g, G: Gate> Gate for Told<'g, G> {
     fn opened(&self, wanted: u32, workers: u32) {
         self.gate.opened(wanted, workers);
     }
 
-    fn enter(&self, worker: u32, part: u32) {
-        self.gate.enter(worker, part);
+    fn enter(&self, worker: u32, part: u32, standing: &Standing) {
+        self.gate
+            .enter(worker, part, &with_apart(standing, self.apart));
     }
 
     fn reached(&self, limit: &Limit) {
-        self.gate.reached(limit);
+        self.gate.reached(&Limit {
+            number: limit.number,
+            steps: limit.steps,
+            standing: with_apart(&limit.standing, self.apart),
+        });
+    }
+
+    fn ended(&self, stage: &Stage) {
+        self.gate.ended(&Stage {
+            kind: stage.kind,
+            standing: with_apart(&stage.standing, self.apart),
+        });
     }
 }
 
 impl<'g, G: Gate> Watch for Told<'g, G> {
     fn reached(&self, at: &Reached) {
+        let standing = Standing {
+            cost: at.cost,
+            bound: Some(at.bound),
+            lines: at.lines as u64,
+            most: at.most,
+        };
         self.gate.reached(&Limit {
             number: at.number,
             steps: at.steps,
-            cost: at.cost.saturating_add(self.apart),
-            bound: at.bound.saturating_add(self.apart),
-            lines: at.lines as u64,
-            most: at.most,
+            standing: with_apart(&standing, self.apart),
         });
     }
 }

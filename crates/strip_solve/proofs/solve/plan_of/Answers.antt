@@ -1,36 +1,20 @@
-use Rattle.std.proofs.Common.{◌∙◌, ◌+◌, ◌*◌, ◌≤◌, ℕ, List, Option, None, Some, Vec, Global, length, ap, sym, subst, arith}
+use Rattle.std.proofs.Common.{sym, subst, ◌+◌, ◌*◌, ◌<◌, ◌≤◌, ◌^◌, length, arith}
 use Rattle.strip_mask.proofs.Below.{IsSet-full}
-use Rattle.strip_kind.specs.declared.kind.Kind.{Kind}
 use Rattle.strip_pay.specs.Film.{FilmData}
-use Rattle.strip_film.specs.declared.shared.Line.{Line}
+use Rattle.strip_pay.specs.Order.{IsOrder}
 use Rattle.strip_film.specs.Film.{all_scenes}
 use Rattle.strip_film.specs.Path.{PathData}
 use Rattle.strip_film.specs.Shown.{path_data}
 use Rattle.strip_lines.specs.Lines.{rules_of}
 use Rattle.strip_count.specs.Paths.{factorial, candidate_count, is_candidate}
 use Rattle.strip_reduce.specs.Shown.{reduced_data}
-use Rattle.strip_reduce.specs.State.{way_back}
 use Rattle.strip_worker.specs.Ended.{EndedData}
 use Rattle.strip_worker.specs.Shown.{ended_data}
-use Rattle.strip_proof.specs.declared.plan.Status.{Status}
-use Rattle.strip_proof.specs.declared.plan.Status.TheVariants.{Optimal}
-use Rattle.strip_solve.specs.Searched.{IsProofOf, IsTrimmed}
-use Rattle.strip_solve.specs.Solved.{AreRows, IsSolved}
-use Rattle.strip_solve.proofs.Back.{HasOptimum, Tells, solved_by}
+use Rattle.strip_solve.proofs.Back.{HasOptimum, least_cost, solved_by, status_of}
 use Rattle.strip_solve.proofs.solve.plan_of.Goals as goal
 
--- the status tells whether the bound is the cost, and which of the lines are kept
-tells_so : (kind : Kind) (film : FilmData) (ended : EndedData) (trimmed : Option (Vec Line Global)) (status : Status) (lines : List Line)
-    → IsTrimmed kind film ended trimmed → IsProofOf trimmed ended.lines status lines
-    → Tells ended status × AreRows (rules_of kind film) status ended.lines lines
-tells_so kind film ended (Some rows) status lines (same, are) (is, alike) =
-    subst (λ (s : Status). Tells ended s × AreRows (rules_of kind film) s ended.lines lines) (sym is)
-    (same, subst (λ (ls : List Line). AreRows (rules_of kind film) Optimal ended.lines ls) (sym alike) are)
-tells_so kind film ended None status lines other (is, alike) =
-    subst (λ (s : Status). Tells ended s × AreRows (rules_of kind film) s ended.lines lines) (sym is) (other, alike)
-
 pub returns-clause-solved : goal.returns-clause-solved
-returns-clause-solved c = λ film same stands.
+returns-clause-solved c = λ film same stands is_own.
     let classes : FilmData = c.args.reduced.now.film in
     let ended : EndedData = ended_data c.args.searched.ended in
     let start : PathData = path_data c.args.start.now in
@@ -41,19 +25,20 @@ returns-clause-solved c = λ film same stands.
     let most = c.paths_are_few.ensures.most classes (is_candidate (rules_of c.args.options.kind classes) varied.paid) c.keeps_limits.ensures in
     let orders : candidate_count (rules_of c.args.options.kind classes) varied.paid ≤ 2 * factorial (length classes.casts)
     = omega (arith, most, c.paths_are_few.ensures.orders (length classes.casts)) in
-    let status = c.proof_of-status.result.0 in
-    let lines = c.proof_of-status.result.1.items in
-    let so = tells_so c.args.options.kind classes ended c.args.searched.trimmed status lines searched.trimmed c.proof_of-status.ensures in
-    subst (λ (order : List ℕ). IsSolved c.args.options.kind film c.args.options.nodes (record {
-      status = status;
-      kind = c.args.options.kind;
-      cost = ended.cost + c.args.reduced.now.apart;
-      bound = ended.bound + c.args.reduced.now.apart;
-      held = ended.held;
-      order = order;
-      lines = lines;
-    }))
-    (ap (way_back (reduced_data c.args.reduced.now).members) (sym c.deref.ensures.value) ∙ sym c.in_ok-expand.ensures)
-    (solved_by c.args.options.kind film c.args.options.nodes start varied ended c.oriented-order.result.items status lines (reduced_data c.args.reduced.now) same stands
-    c.requires.start c.requires.searched.is_varied searched.ended optimum orders c.oriented-order.ensures.kept c.oriented-order.ensures.pay so.0 so.1
-    c.oriented-order.ensures.turned)
+    let small : ended.cost < 2 ^ 64 =
+    let is : IsOrder (length classes.days) ended.order = subst (λ n. IsOrder n ended.order) (sym c.keeps_limits.ensures.day_count) searched.ended.order.is_order in
+    let less = c.pays_stay_small.ensures.small classes ended.order c.keeps_limits.ensures.hold_count is c.keeps_limits.ensures.day_sum c.keeps_limits.ensures.rate_sum
+    c.keeps_limits.ensures.hold_sum in
+    omega (arith, less, searched.ended.cost) in
+    solved_by c.args.options.kind film c.args.options.nodes start varied ended c.args.own c.in_ok-order.order.items c.in_ok-order.cost c.args.searched.trimmed
+    c.proof_of-status.result.0 c.proof_of-status.result.1.items (reduced_data c.args.reduced.now) same stands c.requires.start searched.is_varied searched.ended optimum
+    orders is_own small searched.trimmed c.proof_of-status.ensures c.in_ok-order.ensures
+
+pub returns-clause-status : goal.returns-clause-status
+returns-clause-status c =
+    status_of c.args.searched.trimmed c.args.searched.ended.lines.items c.proof_of-status.result.0 c.proof_of-status.result.1.items c.proof_of-status.ensures
+
+pub returns-clause-cost : goal.returns-clause-cost
+returns-clause-cost c =
+    least_cost c.args.reduced.now.film (reduced_data c.args.reduced.now).members c.args.searched.ended.order.items c.args.own
+    (c.args.searched.ended.cost + c.args.reduced.now.apart) c.in_ok-order.order.items c.in_ok-order.cost c.in_ok-order.ensures
