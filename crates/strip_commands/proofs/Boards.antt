@@ -1,17 +1,16 @@
 -- What is claimed of each command.
-use Rattle.std.proofs.Common.{◌≡◌, ◌∙◌, ◌⊎◌, inl, inr, ◌<◌, ◌≤◌, ℕ, List, Option, Result, Ok, Err, refl, sym, subst, ap}
+use Rattle.std.proofs.Common.{◌≡◌, ◌∙◌, ◌⊎◌, inl, inr, ◌≤◌, ℕ, List, refl, sym, subst}
 use Rattle.std.proofs.lemmas.Bool.{cases_lt}
 use Rattle.strip_model.specs.Data.{InstanceData}
 use Rattle.strip_model.specs.Film.{film_of}
 use Rattle.strip_reduce.specs.Reduction.{class_count}
 use Rattle.strip_reports.specs.Text.{dood_text}
 use Rattle.strip_reports.specs.Sheet.{sheet_text}
-use Rattle.strip_text.specs.Told.{ToldData}
 use Rattle.strip_words.specs.Words.{Word}
 use Rattle.strip_words.specs.Solve.{SolveData}
 use Rattle.strip_words.specs.Plans.{PlanFilesData}
 use Rattle.strip_words.specs.Gen.{GenData, TrialData}
-use Rattle.strip_words.specs.Jobs.{JobData, Solve, Check, Convert, Dood, Sheet, Gen, Trial, NameJob}
+use Rattle.strip_words.specs.Jobs.{JobData, Solve, Price, Check, Convert, Dood, Sheet, Gen, Trial, NameJob}
 use Rattle.strip_proof.specs.declared.plan.Status.{Status as PlanStatus}
 use Rattle.strip_proof.specs.declared.plan.Status.TheVariants.{Optimal, Bounded as CutShort}
 use Rattle.strip_proof.specs.Plan.{PlanData}
@@ -20,15 +19,17 @@ use Rattle.strip_answer.specs.declared.status.Status.TheVariants.{Done, Bounded}
 use Rattle.strip_io.specs.Files.{FilesData}
 use Rattle.strip_answer.proofs.Endings.{AreShown, IsOfJob}
 use Rattle.strip_inputs.specs.Fit.{AreTold, AreUnfit}
-use Rattle.strip_inputs.specs.Said.{film_said}
 use Rattle.strip_inputs.proofs.Ways.{due_by, due_told, due_unfit}
 use Rattle.strip_check_command.proofs.Audits.{audit_answers, audit_fit, audit_unfit}
 use Rattle.strip_commands.specs.Plan.{IsPlan, exit_of}
-use Rattle.strip_commands.specs.Solve.{HasClasses, IsAnswerTo, IsSolveAnswer, IsSolveDue, IsSolveFit, IsSolveUnfit}
+use Rattle.strip_commands.specs.Film.{IsFilmDue, IsFilmFit, IsFilmUnfit}
+use Rattle.strip_commands.specs.Solve.{IsSolveAnswer, IsSolveDue}
+use Rattle.strip_commands.specs.Price.{IsBrokenPlan, IsPriceStatus, IsPriced, IsPricedPlan}
 use Rattle.strip_commands.specs.Convert.{IsConvertDue, IsConvertFit, IsConverted}
 use Rattle.strip_commands.specs.Report.{IsReportDue, IsReportFit, IsReportUnfit, IsReported, Report}
 use Rattle.strip_commands.specs.Made.{IsGenDue, IsTrialDue, IsTried, made_of}
 use Rattle.strip_commands.specs.Due.{IsDueFor, IsFitFor, IsFitStatus, IsUnfitFor, board_claims}
+use Rattle.strip_commands.proofs.Films.{film_answers, film_told, film_unfit}
 
 exits : (status : PlanStatus) → (exit_of status ≡ Done) ⊎ (exit_of status ≡ Bounded)
 exits Optimal = inl refl
@@ -44,31 +45,51 @@ ends_answer : (status : Status) → (status ≡ Done) ⊎ (status ≡ Bounded) �
 ends_answer status (inl is) = subst IsOfJob (sym is) tt
 ends_answer status (inr is) = subst IsOfJob (sym is) tt
 
+-- the statuses of the answers to an instance
+solve_ends : (job : SolveData) (inst : InstanceData) (status : Status) (printed : List ℕ) → IsSolveAnswer job inst status printed → IsOfJob status
+solve_ends job inst status printed is = elim (cases_lt 64 (class_count (film_of inst))) [
+  | inl many ↦ subst IsOfJob (sym (is.too_many many).0) tt
+  | inr few ↦ ends_answer status (plan_ends job inst status printed (is.plan few))
+]
+
 module _ (job : SolveData) (before after : FilesData) (status : Status) (printed : List ℕ) (due : IsSolveDue job before after status printed) where
   solve_answers : IsOfJob status
-  solve_answers = by (film_said due.text) due.holds
-    where
-      by : (said : Result InstanceData (Option ToldData)) → IsAnswerTo job status printed said → IsOfJob status
-      by (Ok inst) is = elim (cases_lt 64 (class_count (film_of inst))) [
-        | inl many ↦ subst IsOfJob (sym (is.too_many many).0) tt
-        | inr few ↦ ends_answer status (plan_ends job inst status printed (is.plan few))
-      ]
-      by (Err told) is = subst IsOfJob (sym is.0) tt
+  solve_answers = film_answers (IsSolveAnswer job) job.file before after status printed due (λ inst is. solve_ends job inst status printed is)
 
-  -- what is due for an instance that the files tell
-  solve_told : (IsCount : ℕ → Type 0) (has : HasClasses IsCount job before) → IsSolveAnswer job has.inst status printed
-  solve_told IsCount has =
-      subst (IsAnswerTo job status printed) (ap film_said (due.told has.text has.told) ∙ has.says) due.holds
+  solve_fit : IsFilmFit job.file before → (status ≡ Done) ⊎ (status ≡ Bounded)
+  solve_fit has =
+      let answer = film_told (IsSolveAnswer job) job.file before after status printed due (λ count. count ≤ 64) has in
+      plan_ends job has.inst status printed (answer.plan has.count)
 
-  solve_fit : IsSolveFit job before → (status ≡ Done) ⊎ (status ≡ Bounded)
-  solve_fit has = plan_ends job has.inst status printed ((solve_told (λ count. count ≤ 64) has).plan has.count)
+  solve_unfit : (why : Status) → IsFilmUnfit job.file before why → status ≡ why
+  solve_unfit why unfit = film_unfit (IsSolveAnswer job) job.file before after status printed due (λ inst many is. (is.too_many many).0) why unfit
 
-  solve_unfit : (why : Status) → IsSolveUnfit job before why → status ≡ why
-  solve_unfit why (inl none, is) =
-      let way : IsAnswerTo job status printed (Err none.fault)
-      = subst (IsAnswerTo job status printed) (ap film_said (due.told none.text none.told) ∙ none.refused) due.holds in
-      way.0 ∙ sym is
-  solve_unfit why (inr has, is) = ((solve_told (λ count. 64 < count) has).too_many has.count).0 ∙ sym is
+-- the statuses of a plan of the rows, and of the reason against it
+priced_ends : (inst : InstanceData) (status : Status) (printed : List ℕ) → IsPricedPlan inst status printed ⊎ IsBrokenPlan inst status printed → IsPriceStatus status
+priced_ends inst status printed (inl is) = inl is.done
+priced_ends inst status printed (inr is) = inr is.refused
+
+price_ends : (inst : InstanceData) (status : Status) (printed : List ℕ) → IsPriced inst status printed → IsOfJob status
+price_ends inst status printed is = elim (cases_lt 64 (class_count (film_of inst))) [
+  | inl many ↦ subst IsOfJob (sym (is.too_many many).0) tt
+  | inr few ↦ by (priced_ends inst status printed (is.plan few))
+]
+  where
+    by : IsPriceStatus status → IsOfJob status
+    by (inl done) = subst IsOfJob (sym done) tt
+    by (inr refused) = subst IsOfJob (sym refused) tt
+
+module _ (film : List ℕ) (before after : FilesData) (status : Status) (printed : List ℕ) (due : IsFilmDue IsPriced film before after status printed) where
+  price_answers : IsOfJob status
+  price_answers = film_answers IsPriced film before after status printed due (λ inst is. price_ends inst status printed is)
+
+  price_fit : IsFilmFit film before → IsPriceStatus status
+  price_fit has =
+      let answer = film_told IsPriced film before after status printed due (λ count. count ≤ 64) has in
+      priced_ends has.inst status printed (answer.plan has.count)
+
+  price_unfit : (why : Status) → IsFilmUnfit film before why → status ≡ why
+  price_unfit why unfit = film_unfit IsPriced film before after status printed due (λ inst many is. (is.too_many many).0) why unfit
 
 module _ (files : PlanFilesData) (before after : FilesData) (status : Status) (printed : List ℕ) (due : IsConvertDue files before after status printed) where
   convert_answers : IsOfJob status
@@ -129,6 +150,7 @@ trial_answers job status printed due = elim (cases_lt 64 (class_count (film_of (
 
 job_answers : (job : JobData) (before after : FilesData) (status : Status) (printed : List ℕ) → IsDueFor job before after status printed → IsOfJob status
 job_answers (Solve job) before after status printed due = solve_answers job before after status printed due
+job_answers (Price film) before after status printed due = price_answers film before after status printed due
 job_answers (Check files) before after status printed due = audit_answers files before after status printed due
 job_answers (Convert files) before after status printed due = convert_answers files before after status printed due
 job_answers (Dood files) before after status printed due = report_answers dood_text files before after status printed due
@@ -139,6 +161,7 @@ job_answers (Trial job) before after status printed due = trial_answers job stat
 job_fit : (job : JobData) (before after : FilesData) (status : Status) (printed : List ℕ) → IsFitFor job before
     → IsDueFor job before after status printed → IsFitStatus job status
 job_fit (Solve job) before after status printed fit due = solve_fit job before after status printed due fit
+job_fit (Price film) before after status printed fit due = price_fit film before after status printed due fit
 job_fit (Check files) before after status printed fit due = audit_fit files before after status printed due fit
 job_fit (Convert files) before after status printed fit due = convert_fit files before after status printed due fit
 job_fit (Dood files) before after status printed fit due = report_fit dood_text files before after status printed due fit
@@ -149,6 +172,7 @@ job_fit (Trial job) before after status printed fit due = tried_ends job status 
 job_unfit : (job : JobData) (before after : FilesData) (status why : Status) (printed : List ℕ) → IsUnfitFor job before why
     → IsDueFor job before after status printed → status ≡ why
 job_unfit (Solve job) before after status why printed unfit due = solve_unfit job before after status printed due why unfit
+job_unfit (Price film) before after status why printed unfit due = price_unfit film before after status printed due why unfit
 job_unfit (Check files) before after status why printed unfit due = audit_unfit files before after status printed due why unfit
 job_unfit (Convert files) before after status why printed unfit due = convert_unfit files before after status printed due why unfit
 job_unfit (Dood files) before after status why printed unfit due = report_unfit dood_text files before after status printed due why unfit

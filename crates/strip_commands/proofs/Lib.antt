@@ -1,5 +1,7 @@
+pub mod Films
 pub mod Boards
 pub mod Printed
+pub mod Priced
 pub mod Reported
 pub mod Tried
 pub mod Proved

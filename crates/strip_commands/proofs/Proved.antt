@@ -16,6 +16,7 @@ use Rattle.strip_proof.specs.declared.plan.Status.{Status as PlanStatus}
 use Rattle.strip_proof.specs.declared.plan.Status.TheVariants.{Optimal, Bounded as CutShort}
 use Rattle.strip_proof.specs.Plan.{PlanData}
 use Rattle.strip_solve.specs.Solved.{Closes}
+use Rattle.strip_solve.proofs.Chosen.{SolvedSomehow, solved_somehow}
 use Rattle.strip_answer.specs.declared.status.Status.{Status}
 use Rattle.strip_answer.specs.declared.status.Status.TheVariants.{Done, NoJob, Bounded, NotAccepted, BadInstance, BadPlan, ReadFault, WriteFault, OutOfMemory}
 use Rattle.strip_answer.specs.Status.{code_of}
@@ -27,7 +28,8 @@ use Rattle.strip_inputs.specs.Said.{film_said}
 use Rattle.strip_commands.specs.Due.{IsDueFor, board_claims}
 use Rattle.strip_commands.specs.Plan.{IsPlan, exit_of}
 use Rattle.strip_commands.specs.Proved.{IsBoardProved, IsSolvedFilm}
-use Rattle.strip_commands.specs.Solve.{IsAnswerTo, IsSolveDue}
+use Rattle.strip_commands.specs.Film.{IsAnswerTo}
+use Rattle.strip_commands.specs.Solve.{IsSolveAnswer, IsSolveDue}
 
 -- the exit statuses of a plan
 abbrev pub IsOfPlan : Status → Type 0
@@ -44,20 +46,7 @@ optimal_closes kind film most begun plan CutShort closes is = absurd (let e : Bo
 -- a plan that was found and printed
 solved_film : (job : SolveData) (text printed : List ℕ) (inst : InstanceData) (status : Status) → film_said text ≡ Ok inst → IsPlan job inst status printed
     → IsSolvedFilm job text printed (code_of status)
-solved_film job text printed inst status says is = record {
-  inst = inst;
-  says = says;
-  plan = is.plan;
-  shown = is.text;
-  least = is.solved.bound;
-  kept = is.solved.order;
-  best = λ zero. record {
-    is_kept = is.solved.order;
-    pays =
-        sym is.solved.cost ∙ sym (optimal_closes job.kind (film_of inst) job.nodes is.solved.varied is.plan is.plan.status is.solved.closes (sym is.ends ∙ done_by status zero));
-    least = is.solved.bound;
-  };
-}
+solved_film job text printed inst status says is = by (solved_somehow job.auto job.kind (film_of inst) job.nodes is.plan is.solved)
   where
     done_by : (s : Status) → code_of s ≡ 0 → s ≡ Done
     done_by Done zero = refl
@@ -70,16 +59,33 @@ solved_film job text printed inst status says is = record {
     done_by WriteFault zero = absurd (let e : 8 ≡ 0 = zero in omega (arith, e))
     done_by OutOfMemory zero = absurd (let e : 9 ≡ 0 = zero in omega (arith, e))
 
+    by : SolvedSomehow (film_of inst) job.nodes is.plan → IsSolvedFilm job text printed (code_of status)
+    by (kind, lines, fewer, solved) = record {
+      inst = inst;
+      says = says;
+      plan = is.plan;
+      shown = is.text;
+      least = solved.bound;
+      kept = solved.order;
+      own = λ kept. omega (arith, solved.cost, solved.own kept);
+      best = λ zero. record {
+        is_kept = solved.order;
+        pays =
+            sym solved.cost ∙ sym (optimal_closes kind (film_of inst) lines solved.varied is.plan is.plan.status solved.closes (sym is.ends ∙ done_by status zero));
+        least = solved.bound;
+      };
+    }
+
 -- what is due for a job to solve with the status of a plan is a plan's text
 due_solved : (job : SolveData) (before after : FilesData) (text printed : List ℕ) (status : Status) → IsOfPlan status → before.bytes job.file ≡ Some text
     → IsSolveDue job before after status printed → IsSolvedFilm job text printed (code_of status)
 due_solved job before after text printed status of_plan told due =
-    by (film_said text) refl (subst (λ (t : List ℕ). IsAnswerTo job status printed (film_said t)) (due.told text told) due.holds)
+    by (film_said text) refl (subst (λ (t : List ℕ). IsAnswerTo (IsSolveAnswer job) status printed (film_said t)) (due.told text told) due.holds)
   where
     never : (why : Status) → why ≡ BadInstance → ¬ IsOfPlan why
     never why is of = subst IsOfPlan is of
 
-    by : (said : Result InstanceData (Option ToldData)) → film_said text ≡ said → IsAnswerTo job status printed said
+    by : (said : Result InstanceData (Option ToldData)) → film_said text ≡ said → IsAnswerTo (IsSolveAnswer job) status printed said
         → IsSolvedFilm job text printed (code_of status)
     by (Ok inst) is answer = elim (cases_lt 64 (class_count (film_of inst))) [
       | inl many ↦ absurd (never status (answer.too_many many).0 of_plan)

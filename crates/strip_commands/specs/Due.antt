@@ -5,7 +5,7 @@ use Rattle.strip_reduce.specs.Reduction.{class_count}
 use Rattle.strip_reports.specs.Text.{dood_text}
 use Rattle.strip_reports.specs.Sheet.{sheet_text}
 use Rattle.strip_words.specs.Gen.{IsSized}
-use Rattle.strip_words.specs.Jobs.{JobData, Solve, Check, Convert, Dood, Sheet, Gen, Trial, NameJob}
+use Rattle.strip_words.specs.Jobs.{JobData, Solve, Price, Check, Convert, Dood, Sheet, Gen, Trial, NameJob}
 use Rattle.strip_answer.specs.declared.status.Status.{Status}
 use Rattle.strip_answer.specs.declared.status.Status.TheVariants.{Done, Bounded, BadInstance}
 use Rattle.strip_answer.specs.Claims.{Claims}
@@ -13,7 +13,9 @@ use Rattle.strip_io.specs.Files.{FilesData}
 use Rattle.strip_inputs.specs.Both.{IsEither}
 use Rattle.strip_inputs.specs.Fit.{AreUnfit}
 use Rattle.strip_check_command.specs.Claims.{IsAuditDue, IsAuditFit, IsAuditStatus, IsAuditUnfit}
-use Rattle.strip_commands.specs.Solve.{IsSolveDue, IsSolveFit, IsSolveUnfit}
+use Rattle.strip_commands.specs.Film.{IsFilmDue, IsFilmFit, IsFilmUnfit}
+use Rattle.strip_commands.specs.Solve.{IsSolveDue}
+use Rattle.strip_commands.specs.Price.{IsPriceStatus, IsPriced}
 use Rattle.strip_commands.specs.Convert.{IsConvertDue, IsConvertFit}
 use Rattle.strip_commands.specs.Report.{IsReportDue, IsReportFit, IsReportUnfit}
 use Rattle.strip_commands.specs.Made.{IsGenDue, IsTrialDue, made_of}
@@ -21,6 +23,7 @@ use Rattle.strip_commands.specs.Made.{IsGenDue, IsTrialDue, made_of}
 -- the job asks for this file, by what the files tell
 abbrev pub IsFileOf : JobData → FilesData → List ℕ → Type 0
 IsFileOf (Solve job) told file = job.file ≡ file
+IsFileOf (Price film) told file = film ≡ file
 IsFileOf (Check files) told file = IsEither files.film files.plan told file
 IsFileOf (Convert files) told file = IsEither files.film files.plan told file
 IsFileOf (Dood files) told file = IsEither files.film files.plan told file
@@ -34,6 +37,7 @@ IsWithin (Solve job) =
     (1 ≤ job.nodes) × (job.nodes ≤ 16777216) × (64 ≤ job.table) × (job.table ≤ 4194304)
     × IfSome job.tries (λ tries. tries ≤ 100000000) × IfSome job.workers (λ workers. (1 ≤ workers) × (workers ≤ 64))
     × IfSome job.steps (λ steps. (1 ≤ steps) × (steps ≤ 1000))
+IsWithin (Price film) = Unit {0}
 IsWithin (Check files) = Unit {0}
 IsWithin (Convert files) = Unit {0}
 IsWithin (Dood files) = Unit {0}
@@ -46,6 +50,7 @@ IsWithin (Trial job) =
 -- what is due for the job
 abbrev pub IsDueFor : JobData → FilesData → FilesData → Status → List ℕ → Type 0
 IsDueFor (Solve job) before after status printed = IsSolveDue job before after status printed
+IsDueFor (Price film) before after status printed = IsFilmDue IsPriced film before after status printed
 IsDueFor (Check files) before after status printed = IsAuditDue files before after status printed
 IsDueFor (Convert files) before after status printed = IsConvertDue files before after status printed
 IsDueFor (Dood files) before after status printed = IsReportDue dood_text files before after status printed
@@ -55,7 +60,8 @@ IsDueFor (Trial job) before after status printed = IsTrialDue job status printed
 
 -- the job can be done with what its files tell, and the statuses with which it then ends, unless something fails
 abbrev pub IsFitFor : JobData → FilesData → Type 0
-IsFitFor (Solve job) told = IsSolveFit job told
+IsFitFor (Solve job) told = IsFilmFit job.file told
+IsFitFor (Price film) told = IsFilmFit film told
 IsFitFor (Check files) told = IsAuditFit files told
 IsFitFor (Convert files) told = IsConvertFit files told
 IsFitFor (Dood files) told = IsReportFit files told
@@ -65,6 +71,7 @@ IsFitFor (Trial job) told = class_count (film_of (made_of job.film)) ≤ 64
 
 abbrev pub IsFitStatus : JobData → Status → Type 0
 IsFitStatus (Solve job) status = (status ≡ Done) ⊎ (status ≡ Bounded)
+IsFitStatus (Price film) status = IsPriceStatus status
 IsFitStatus (Check files) status = IsAuditStatus status
 IsFitStatus (Convert files) status = status ≡ Done
 IsFitStatus (Dood files) status = status ≡ Done
@@ -74,7 +81,8 @@ IsFitStatus (Trial job) status = (status ≡ Done) ⊎ (status ≡ Bounded)
 
 -- it can't be done with what its files tell, as this status says
 abbrev pub IsUnfitFor : JobData → FilesData → Status → Type 0
-IsUnfitFor (Solve job) told why = IsSolveUnfit job told why
+IsUnfitFor (Solve job) told why = IsFilmUnfit job.file told why
+IsUnfitFor (Price film) told why = IsFilmUnfit film told why
 IsUnfitFor (Check files) told why = IsAuditUnfit files told why
 IsUnfitFor (Convert files) told why = AreUnfit files.film files.plan told why
 IsUnfitFor (Dood files) told why = IsReportUnfit files told why

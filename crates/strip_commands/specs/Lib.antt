@@ -1,5 +1,7 @@
 pub mod Plan
+pub mod Film
 pub mod Solve
+pub mod Price
 pub mod Convert
 pub mod Report
 pub mod Made

@@ -9,7 +9,7 @@ use Rattle.strip_proof.specs.Plan.{PlanData}
 use Rattle.strip_proof.specs.Rows.{bare_text, plan_text}
 use Rattle.strip_proof.specs.Text.{says}
 use Rattle.strip_check.specs.Accepted.{IsAccepted}
-use Rattle.strip_solve.specs.Solved.{IsSolved}
+use Rattle.strip_solve.specs.Solved.{IsSolvedBy}
 use Rattle.strip_answer.specs.declared.status.Status.{Status}
 use Rattle.strip_answer.specs.declared.status.Status.TheVariants.{Done, Bounded}
 
@@ -28,7 +28,7 @@ exit_of CutShort = Bounded
 pub record IsPlan (job : SolveData) (inst : InstanceData) (status : Status) (printed : List ℕ) : Type 0 where
   pub is_instance : IsInstance inst
   pub plan : PlanData
-  pub solved : IsSolved job.kind (film_of inst) job.nodes plan
+  pub solved : IsSolvedBy job.auto job.kind (film_of inst) job.nodes plan
   pub ends : status ≡ exit_of plan.status
   pub text : printed ≡ text_of job.proof inst plan
   pub proves : job.proof ≡ true → (says inst printed ≡ Ok plan) × IsAccepted (film_of inst) plan

@@ -1,18 +1,19 @@
 -- What a run proves that solved a film.
-use Rattle.std.specs.Prelude.{◌≡◌, ◌⊎◌, ℕ, List, ◌++◌, Some, Ok}
+use Rattle.std.specs.Prelude.{◌≡◌, ◌≤◌, ◌⊎◌, ℕ, List, ◌++◌, Some, Ok}
 use Rattle.strip_pay.specs.Order.{IsKeptOrder}
-use Rattle.strip_pay.specs.Pay.{IsBestOrder, IsLeast}
+use Rattle.strip_pay.specs.Pay.{IsBestOrder, IsLeast, pay_of}
 use Rattle.strip_model.specs.Data.{InstanceData}
 use Rattle.strip_model.specs.Film.{film_of}
 use Rattle.strip_words.specs.Solve.{NameSolve, SolveData}
 use Rattle.strip_proof.specs.Plan.{PlanData}
+use Rattle.strip_solve.specs.Own.{own_order}
 use Rattle.strip_answer.specs.Run.{RunData}
 use Rattle.strip_inputs.specs.Said.{film_said}
 use Rattle.strip_commands.specs.Plan.{text_of}
 
 -- the text of the job's file says an instance, and what was printed is the text of a plan of it: no order that
--- keeps the pairs pays less than the plan's bound, the order that it prints keeps them, and at the status 0 that
--- order is a cheapest one, which pays the bound
+-- keeps the pairs pays less than the plan's bound; the order that it prints keeps them, and pays no more than the order of
+-- the file's rows if that keeps them; and at the status 0 the printed order is a cheapest one, which pays the bound
 pub record IsSolvedFilm (job : SolveData) (text printed : List ℕ) (code : ℕ) : Type 0 where
   pub inst : InstanceData
   pub says : film_said text ≡ Ok inst
@@ -20,6 +21,8 @@ pub record IsSolvedFilm (job : SolveData) (text printed : List ℕ) (code : ℕ)
   pub shown : printed ≡ text_of job.proof inst plan
   pub least : IsLeast (film_of inst) plan.bound
   pub kept : IsKeptOrder (film_of inst) plan.order
+  pub own : IsKeptOrder (film_of inst) (own_order (film_of inst))
+      → pay_of (film_of inst) plan.order ≤ pay_of (film_of inst) (own_order (film_of inst))
   pub best : code ≡ 0 → IsBestOrder (film_of inst) plan.order plan.bound
 
 -- where the words name a job to solve a film, its file tells a text and the sink what it takes, and the status is 0

@@ -9,6 +9,7 @@ ghost use Rattle.strip_commands.specs.Solver.{Solves};
 
 use crate::convert::ConvertJob;
 use crate::making::{print_film, try_film};
+use crate::pricing::price_film;
 use crate::reports::{DoodJob, SheetJob};
 use crate::solve::solve;
 use std::alloc::Global;
@@ -62,6 +63,7 @@ fn answer_job<V: Fn(&Instance, SearchOptions, Option<u32>) -> Result<Plan, Reduc
 {
     match job {
         Job::Solve(job) => solve(alloc, solver, files, job),
+        Job::Price(names) => price_film(alloc, files, names),
         Job::Check(names) => audit(alloc, files, names),
         Job::Convert(names) => answer_plan::<ConvertJob, F>(alloc, files, names),
         Job::Dood(names) => answer_plan::<DoodJob, F>(alloc, files, names),

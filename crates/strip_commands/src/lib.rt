@@ -4,6 +4,7 @@
 mod answer;
 mod convert;
 mod making;
+mod pricing;
 mod program;
 mod reports;
 mod solve;

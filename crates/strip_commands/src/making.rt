@@ -82,7 +82,7 @@ fn try_classes<V: Fn(&Instance, SearchOptions, Option<u32>) -> Result<Plan, Redu
     requires few { classes ≤ 64 }
     ensures { IfOk result (λ answer. IsTrialDue (trial_data job.now) answer.status (answer_text answer)) }
 {
-    let options = options_of(job.kind, job.nodes, job.table, job.tries, job.steps, false);
+    let options = options_of(job.kind, job.nodes, job.table, job.tries, job.steps);
     match solver(inst, options, Some(1)) {
         Ok(plan) => try_plan(alloc, inst, job, classes, &plan),
         Err(ReduceFault::TooManyClasses { .. }) => unreachable!("there are at most 64 classes"),

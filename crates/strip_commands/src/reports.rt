@@ -3,7 +3,6 @@ ghost use Rattle.std.specs.Prelude.{◌≡◌, IfOk, codes};
 ghost use Rattle.strip_answer.specs.declared.status.Status.TheVariants.{Done, NotAccepted};
 ghost use Rattle.strip_answer.specs.Ending.{answer_text};
 ghost use Rattle.strip_answer.specs.Rows.{told_row};
-ghost use Rattle.strip_check.specs.declared.verdict.Reason.TheVariants.{NotAnOrder};
 ghost use Rattle.strip_check.specs.Told.{told_of};
 ghost use Rattle.strip_reports.specs.Text.{dood_text};
 ghost use Rattle.strip_reports.specs.Sheet.{sheet_text};
@@ -52,7 +51,7 @@ fn dood_of(alloc: Global, inst: &Instance, order: &[u16]) -> Result<Answer, Memo
     inst.keeps_limits();
     strip_reports::laws::the_total_of_days_is_the_pay();
     if !is_order(inst, order) {
-        return no_order(alloc);
+        return refused(alloc, Reason::NotAnOrder);
     }
     let text = strip_reports::dood::dood(alloc, inst, order)?;
     Ok(printed(alloc, text))
@@ -64,7 +63,7 @@ fn sheet_of(alloc: Global, inst: &Instance, order: &[u16]) -> Result<Answer, Mem
 {
     strip_reports::laws::the_total_of_the_sheet_is_the_pay();
     if !is_order(inst, order) {
-        return no_order(alloc);
+        return refused(alloc, Reason::NotAnOrder);
     }
     let text = strip_reports::sheet::sheet(alloc, inst, order)?;
     Ok(printed(alloc, text))
@@ -82,14 +81,14 @@ pub(crate) fn printed(alloc: Global, text: Vec<u8>) -> Answer
     }
 }
 
-/// The answer that refuses a list which isn't an order.
-fn no_order(alloc: Global) -> Result<Answer, Memory>
+/// The answer that tells a checker's reason against a plan.
+pub(crate) fn refused(alloc: Global, reason: Reason) -> Result<Answer, Memory>
     ensures status { IfOk result (λ answer. answer.status ≡ NotAccepted) }
-    ensures text { IfOk result (λ answer. answer_text answer ≡ told_row (codes "refused") (told_of NotAnOrder)) }
+    ensures text { IfOk result (λ answer. answer_text answer ≡ told_row (codes "refused") (told_of reason)) }
 {
     Ok(Answer {
         status: Status::NotAccepted,
-        text: told_row(alloc, b"refused", Reason::NotAnOrder.told())?,
+        text: told_row(alloc, b"refused", reason.told())?,
         lines: Vec::new(alloc),
     })
 }

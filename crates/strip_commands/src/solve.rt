@@ -1,5 +1,5 @@
 // The command `solve`.
-ghost use Rattle.std.specs.Prelude.{◌≡◌, ℕ, ◌^◌, ◌<◌, ◌≤◌, length, string_bytes, All, Err, Some, IfOk, IfSome};
+ghost use Rattle.std.specs.Prelude.{◌≡◌, ℕ, ◌^◌, ◌<◌, ◌≤◌, false, length, string_bytes, All, Err, Some, IfOk, IfSome};
 ghost use Rattle.strip_io.specs.Counts.{ReadFailed};
 ghost use Rattle.strip_words.specs.Shown.{solve_data};
 ghost use Rattle.strip_words.specs.Jobs.{Solve as ToSolve};
@@ -59,32 +59,56 @@ fn solve_instance<V: Fn(&Instance, SearchOptions, Option<u32>) -> Result<Plan, R
     ensures { IfOk result (λ answer. IsSolveAnswer (solve_data job.now) inst.now answer.status (answer_text answer)) }
 {
     written_plans_read_back();
-    let options = options_of(
-        job.kind, job.nodes, job.table, job.tries, job.steps, job.steal,
-    );
-    match solver(inst, options, narrow(job.workers)) {
+    match solver(inst, options_for(job), narrow(job.workers)) {
         Ok(plan) => answer_plan(alloc, inst, plan, job.proof),
         Err(ReduceFault::TooManyClasses { count }) => too_many_classes(alloc, count),
         Err(ReduceFault::Memory) => Err(Memory),
     }
 }
 
-/// What a search goes by, as a job says it.
+/// What a search goes by, as a job to solve says it.
+fn options_for(job: &SolveJob) -> SearchOptions
+    requires within { IsWithin (ToSolve (solve_data job.now)) }
+    ensures may_be { MayBe result }
+    ensures said { result ≡ record {
+      kind = job.now.kind;
+      nodes = job.now.nodes;
+      entries = job.now.table;
+      tries = job.now.tries;
+      steps = job.now.steps;
+      steal = job.now.steal;
+      auto = job.now.auto;
+    } }
+{
+    SearchOptions {
+        steal: job.steal,
+        auto: job.auto,
+        ..options_of(job.kind, job.nodes, job.table, job.tries, job.steps)
+    }
+}
+
+/// What a search goes by with these numbers and bounds, where nothing is stolen or chosen.
 pub(crate) fn options_of(
     kind: Kind,
     nodes: u64,
     table: u64,
     tries: Option<u64>,
     steps: Option<u64>,
-    steal: bool,
 ) -> SearchOptions
     requires nodes { (1 ≤ nodes) × (nodes ≤ 16777216) }
     requires table { (64 ≤ table) × (table ≤ 4194304) }
     requires tries { IfSome tries (λ number. number ≤ 100000000) }
     requires steps { IfSome steps (λ number. (1 ≤ number) × (number ≤ 1000)) }
     ensures may_be { MayBe result }
-    ensures said { result
-        ≡ record { kind = kind; nodes = nodes; entries = table; tries = tries; steps = steps; steal = steal } }
+    ensures said { result ≡ record {
+      kind = kind;
+      nodes = nodes;
+      entries = table;
+      tries = tries;
+      steps = steps;
+      steal = false;
+      auto = false;
+    } }
 {
     SearchOptions {
         kind,
@@ -92,7 +116,8 @@ pub(crate) fn options_of(
         entries: table as u32,
         tries: narrow(tries),
         steps: narrow(steps),
-        steal,
+        steal: false,
+        auto: false,
     }
 }
 
