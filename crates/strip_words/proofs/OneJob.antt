@@ -1,12 +1,11 @@
 -- Words name one job, of any kind.
-use Rattle.std.proofs.Common.{◌≡◌, ◌≢◌, List, [], ◌∷◌, ap, sym, subst, ◌∙◌, refl, codes}
+use Rattle.std.proofs.Common.{◌≡◌, ◌≢◌, Bool, true, false, bytes_eq, List, [], ◌∷◌, ap, sym, subst, ◌∙◌, refl, codes}
 use Rattle.strip_words.specs.Words.{Word}
-use Rattle.strip_words.specs.Solve.{SolveData, NameSolve}
-use Rattle.strip_words.specs.Films.{NameFilmFile}
-use Rattle.strip_words.specs.Plans.{PlanFilesData, NamePlanFiles}
-use Rattle.strip_words.specs.Gen.{GenData, NameGen, TrialData, NameTrial}
-use Rattle.strip_words.specs.Jobs.{JobData, Solve, Price, Check, Convert, Dood, Sheet, Gen, Trial, NameJob, NameNoJob}
-use Rattle.strip_words.proofs.Solving.{differ, solve_once}
+use Rattle.strip_words.specs.Solve.{SolveData}
+use Rattle.strip_words.specs.Plans.{PlanFilesData}
+use Rattle.strip_words.specs.Gen.{GenData, TrialData}
+use Rattle.strip_words.specs.Jobs.{JobData, Solve, Price, Arrange, Check, Convert, Dood, Sheet, Gen, Trial, NameJob, NameNoJob}
+use Rattle.strip_words.proofs.Solving.{solve_once}
 use Rattle.strip_words.proofs.Filming.{file_once}
 use Rattle.strip_words.proofs.Planning.{files_once}
 use Rattle.strip_words.proofs.Made.{gen_once, trial_once}
@@ -15,6 +14,7 @@ use Rattle.strip_words.proofs.Made.{gen_once, trial_once}
 abbrev pub word_of : JobData → Word
 word_of (Solve job) = codes "solve"
 word_of (Price file) = codes "price"
+word_of (Arrange files) = codes "arrange"
 word_of (Check files) = codes "check"
 word_of (Convert files) = codes "convert"
 word_of (Dood files) = codes "dood"
@@ -26,6 +26,7 @@ word_of (Trial job) = codes "trial"
 pub begins_so : (words : List Word) (job : JobData) → NameJob words job → (later : List Word) × (words ≡ word_of job ∷ later)
 begins_so words (Solve job) (items, rest, spelled, says) = (_, spelled.spelled)
 begins_so words (Price file) (items, rest, spelled, says) = (_, spelled.spelled)
+begins_so words (Arrange files) (items, rest, spelled, says) = (_, spelled.spelled)
 begins_so words (Check files) (items, rest, spelled, says) = (_, spelled.spelled)
 begins_so words (Convert files) (items, rest, spelled, says) = (_, spelled.spelled)
 begins_so words (Dood files) (items, rest, spelled, says) = (_, spelled.spelled)
@@ -42,170 +43,86 @@ begins_with words job word later is named =
 
 -- ---- a job whose command has this word is one of this command
 
-is_solve : (job : JobData) → word_of job ≡ codes "solve" → (said : SolveData) × (job ≡ Solve said)
-is_solve (Solve job) same = (job, refl)
-is_solve (Price file) same = differ (codes "price") (codes "solve") refl same
-is_solve (Check files) same = differ (codes "check") (codes "solve") refl same
-is_solve (Convert files) same = differ (codes "convert") (codes "solve") refl same
-is_solve (Dood files) same = differ (codes "dood") (codes "solve") refl same
-is_solve (Sheet files) same = differ (codes "sheet") (codes "solve") refl same
-is_solve (Gen film) same = differ (codes "gen") (codes "solve") refl same
-is_solve (Trial job) same = differ (codes "trial") (codes "solve") refl same
+-- one of two types, by a test
+abbrev pub IfTrue : Bool → Type 0 → Type 0 → Type 0
+IfTrue true this other = this
+IfTrue false this other = other
 
-is_price : (job : JobData) → word_of job ≡ codes "price" → (file : Word) × (job ≡ Price file)
-is_price (Solve job) same = differ (codes "solve") (codes "price") refl same
-is_price (Price file) same = (file, refl)
-is_price (Check files) same = differ (codes "check") (codes "price") refl same
-is_price (Convert files) same = differ (codes "convert") (codes "price") refl same
-is_price (Dood files) same = differ (codes "dood") (codes "price") refl same
-is_price (Sheet files) same = differ (codes "sheet") (codes "price") refl same
-is_price (Gen film) same = differ (codes "gen") (codes "price") refl same
-is_price (Trial job) same = differ (codes "trial") (codes "price") refl same
+-- there is a command with this word, and the job is one of it
+abbrev pub IsOf : Word → JobData → Type 0
+IsOf word job =
+    IfTrue (bytes_eq word (codes "solve")) ((said : SolveData) × (job ≡ Solve said))
+    (IfTrue (bytes_eq word (codes "price")) ((file : Word) × (job ≡ Price file))
+    (IfTrue (bytes_eq word (codes "arrange")) ((files : PlanFilesData) × (job ≡ Arrange files))
+    (IfTrue (bytes_eq word (codes "check")) ((files : PlanFilesData) × (job ≡ Check files))
+    (IfTrue (bytes_eq word (codes "convert")) ((files : PlanFilesData) × (job ≡ Convert files))
+    (IfTrue (bytes_eq word (codes "dood")) ((files : PlanFilesData) × (job ≡ Dood files))
+    (IfTrue (bytes_eq word (codes "sheet")) ((files : PlanFilesData) × (job ≡ Sheet files))
+    (IfTrue (bytes_eq word (codes "gen")) ((film : GenData) × (job ≡ Gen film))
+    (IfTrue (bytes_eq word (codes "trial")) ((said : TrialData) × (job ≡ Trial said))
+    ⊥))))))))
 
-is_check : (job : JobData) → word_of job ≡ codes "check" → (files : PlanFilesData) × (job ≡ Check files)
-is_check (Solve job) same = differ (codes "solve") (codes "check") refl same
-is_check (Price file) same = differ (codes "price") (codes "check") refl same
-is_check (Check files) same = (files, refl)
-is_check (Convert files) same = differ (codes "convert") (codes "check") refl same
-is_check (Dood files) same = differ (codes "dood") (codes "check") refl same
-is_check (Sheet files) same = differ (codes "sheet") (codes "check") refl same
-is_check (Gen film) same = differ (codes "gen") (codes "check") refl same
-is_check (Trial job) same = differ (codes "trial") (codes "check") refl same
+is_of_its_own : (job : JobData) → IsOf (word_of job) job
+is_of_its_own (Solve job) = (job, refl)
+is_of_its_own (Price file) = (file, refl)
+is_of_its_own (Arrange files) = (files, refl)
+is_of_its_own (Check files) = (files, refl)
+is_of_its_own (Convert files) = (files, refl)
+is_of_its_own (Dood files) = (files, refl)
+is_of_its_own (Sheet files) = (files, refl)
+is_of_its_own (Gen film) = (film, refl)
+is_of_its_own (Trial job) = (job, refl)
 
-is_convert : (job : JobData) → word_of job ≡ codes "convert" → (files : PlanFilesData) × (job ≡ Convert files)
-is_convert (Solve job) same = differ (codes "solve") (codes "convert") refl same
-is_convert (Price file) same = differ (codes "price") (codes "convert") refl same
-is_convert (Check files) same = differ (codes "check") (codes "convert") refl same
-is_convert (Convert files) same = (files, refl)
-is_convert (Dood files) same = differ (codes "dood") (codes "convert") refl same
-is_convert (Sheet files) same = differ (codes "sheet") (codes "convert") refl same
-is_convert (Gen film) same = differ (codes "gen") (codes "convert") refl same
-is_convert (Trial job) same = differ (codes "trial") (codes "convert") refl same
-
-is_dood : (job : JobData) → word_of job ≡ codes "dood" → (files : PlanFilesData) × (job ≡ Dood files)
-is_dood (Solve job) same = differ (codes "solve") (codes "dood") refl same
-is_dood (Price file) same = differ (codes "price") (codes "dood") refl same
-is_dood (Check files) same = differ (codes "check") (codes "dood") refl same
-is_dood (Convert files) same = differ (codes "convert") (codes "dood") refl same
-is_dood (Dood files) same = (files, refl)
-is_dood (Sheet files) same = differ (codes "sheet") (codes "dood") refl same
-is_dood (Gen film) same = differ (codes "gen") (codes "dood") refl same
-is_dood (Trial job) same = differ (codes "trial") (codes "dood") refl same
-
-is_sheet : (job : JobData) → word_of job ≡ codes "sheet" → (files : PlanFilesData) × (job ≡ Sheet files)
-is_sheet (Solve job) same = differ (codes "solve") (codes "sheet") refl same
-is_sheet (Price file) same = differ (codes "price") (codes "sheet") refl same
-is_sheet (Check files) same = differ (codes "check") (codes "sheet") refl same
-is_sheet (Convert files) same = differ (codes "convert") (codes "sheet") refl same
-is_sheet (Dood files) same = differ (codes "dood") (codes "sheet") refl same
-is_sheet (Sheet files) same = (files, refl)
-is_sheet (Gen film) same = differ (codes "gen") (codes "sheet") refl same
-is_sheet (Trial job) same = differ (codes "trial") (codes "sheet") refl same
-
-is_gen : (job : JobData) → word_of job ≡ codes "gen" → (film : GenData) × (job ≡ Gen film)
-is_gen (Solve job) same = differ (codes "solve") (codes "gen") refl same
-is_gen (Price file) same = differ (codes "price") (codes "gen") refl same
-is_gen (Check files) same = differ (codes "check") (codes "gen") refl same
-is_gen (Convert files) same = differ (codes "convert") (codes "gen") refl same
-is_gen (Dood files) same = differ (codes "dood") (codes "gen") refl same
-is_gen (Sheet files) same = differ (codes "sheet") (codes "gen") refl same
-is_gen (Gen film) same = (film, refl)
-is_gen (Trial job) same = differ (codes "trial") (codes "gen") refl same
-
-is_trial : (job : JobData) → word_of job ≡ codes "trial" → (said : TrialData) × (job ≡ Trial said)
-is_trial (Solve job) same = differ (codes "solve") (codes "trial") refl same
-is_trial (Price file) same = differ (codes "price") (codes "trial") refl same
-is_trial (Check files) same = differ (codes "check") (codes "trial") refl same
-is_trial (Convert files) same = differ (codes "convert") (codes "trial") refl same
-is_trial (Dood files) same = differ (codes "dood") (codes "trial") refl same
-is_trial (Sheet files) same = differ (codes "sheet") (codes "trial") refl same
-is_trial (Gen film) same = differ (codes "gen") (codes "trial") refl same
-is_trial (Trial job) same = (job, refl)
+is_of : (word : Word) (job : JobData) → word_of job ≡ word → IsOf word job
+is_of word job same = subst (λ word. IsOf word job) same (is_of_its_own job)
 
 -- ---- words name one job
 
--- two jobs that the same words name have commands of the same word
-same_word : (words : List Word) (a b : JobData) → NameJob words a → NameJob words b → word_of b ≡ word_of a
-same_word words a b one two = begins_with words b (word_of a) (begins_so words a one).0 (begins_so words a one).1 two
+-- two jobs that the same words name are the same if `make` makes each job of the first's command, and the words
+-- say what of
+same_job : {A : Type 0} (make : A → JobData) (words : List Word) (said : A) (b : JobData)
+    → (IsOf (word_of (make said)) b → (other : A) × (b ≡ make other))
+    → ((said other : A) → NameJob words (make said) → NameJob words (make other) → said ≡ other)
+    → NameJob words (make said) → NameJob words b → make said ≡ b
+same_job make words said b only once one two =
+    let begins = begins_so words (make said) one in
+    let is = only (is_of (word_of (make said)) b (begins_with words b (word_of (make said)) begins.0 begins.1 two)) in
+    ap make (once said is.0 one (subst (NameJob words) is.1 two)) ∙ sym is.1
 
 pub one_job : (words : List Word) (a b : JobData) → NameJob words a → NameJob words b → a ≡ b
-one_job words (Solve job) b one two =
-    let is = is_solve b (same_word words (Solve job) b one two) in
-    ap Solve (solve_once words job is.0 one (subst (NameJob words) is.1 two)) ∙ sym is.1
-one_job words (Price file) b one two =
-    let is = is_price b (same_word words (Price file) b one two) in
-    ap Price (file_once (codes "price") words file is.0 one (subst (NameJob words) is.1 two)) ∙ sym is.1
-one_job words (Check files) b one two =
-    let is = is_check b (same_word words (Check files) b one two) in
-    ap Check (files_once (codes "check") words files is.0 one (subst (NameJob words) is.1 two)) ∙ sym is.1
-one_job words (Convert files) b one two =
-    let is = is_convert b (same_word words (Convert files) b one two) in
-    ap Convert (files_once (codes "convert") words files is.0 one (subst (NameJob words) is.1 two)) ∙ sym is.1
-one_job words (Dood files) b one two =
-    let is = is_dood b (same_word words (Dood files) b one two) in
-    ap Dood (files_once (codes "dood") words files is.0 one (subst (NameJob words) is.1 two)) ∙ sym is.1
-one_job words (Sheet files) b one two =
-    let is = is_sheet b (same_word words (Sheet files) b one two) in
-    ap Sheet (files_once (codes "sheet") words files is.0 one (subst (NameJob words) is.1 two)) ∙ sym is.1
-one_job words (Gen film) b one two =
-    let is = is_gen b (same_word words (Gen film) b one two) in
-    ap Gen (gen_once words film is.0 one (subst (NameJob words) is.1 two)) ∙ sym is.1
-one_job words (Trial job) b one two =
-    let is = is_trial b (same_word words (Trial job) b one two) in
-    ap Trial (trial_once words job is.0 one (subst (NameJob words) is.1 two)) ∙ sym is.1
+one_job words (Solve job) b one two = same_job Solve words job b (λ is. is) (solve_once words) one two
+one_job words (Price file) b one two = same_job Price words file b (λ is. is) (file_once (codes "price") words) one two
+one_job words (Arrange files) b one two = same_job Arrange words files b (λ is. is) (files_once (codes "arrange") words) one two
+one_job words (Check files) b one two = same_job Check words files b (λ is. is) (files_once (codes "check") words) one two
+one_job words (Convert files) b one two = same_job Convert words files b (λ is. is) (files_once (codes "convert") words) one two
+one_job words (Dood files) b one two = same_job Dood words files b (λ is. is) (files_once (codes "dood") words) one two
+one_job words (Sheet files) b one two = same_job Sheet words files b (λ is. is) (files_once (codes "sheet") words) one two
+one_job words (Gen film) b one two = same_job Gen words film b (λ is. is) (gen_once words) one two
+one_job words (Trial job) b one two = same_job Trial words job b (λ is. is) (trial_once words) one two
 
 module _ (words later : List Word) (word : Word) (begins : words ≡ word ∷ later) where
+  -- words that begin with a command's word name no job if `make` makes each job of this command, and they name none of these
+  pub none_of : {A : Type 0} (make : A → JobData) → ((job : JobData) → IsOf word job → (said : A) × (job ≡ make said))
+      → ((said : A) → ¬ NameJob words (make said)) → NameNoJob words
+  none_of make only none job names =
+      let is = only job (is_of word job (begins_with words job word later begins names)) in
+      none is.0 (subst (NameJob words) is.1 names)
+
   -- words that begin with none of the commands' words name no job
-  pub no_command : word ≢ codes "solve" → word ≢ codes "price" → word ≢ codes "check" → word ≢ codes "convert" → word ≢ codes "dood" → word ≢ codes "sheet" → word ≢ codes "gen" → word ≢ codes "trial" → NameNoJob words
-  no_command solve price check convert dood sheet gen trial (Solve job) names = solve (sym (begins_with words (Solve job) word later begins names))
-  no_command solve price check convert dood sheet gen trial (Price file) names = price (sym (begins_with words (Price file) word later begins names))
-  no_command solve price check convert dood sheet gen trial (Check files) names = check (sym (begins_with words (Check files) word later begins names))
-  no_command solve price check convert dood sheet gen trial (Convert files) names = convert (sym (begins_with words (Convert files) word later begins names))
-  no_command solve price check convert dood sheet gen trial (Dood files) names = dood (sym (begins_with words (Dood files) word later begins names))
-  no_command solve price check convert dood sheet gen trial (Sheet files) names = sheet (sym (begins_with words (Sheet files) word later begins names))
-  no_command solve price check convert dood sheet gen trial (Gen film) names = gen (sym (begins_with words (Gen film) word later begins names))
-  no_command solve price check convert dood sheet gen trial (Trial job) names = trial (sym (begins_with words (Trial job) word later begins names))
-
-  -- and those that begin with a command's word name none where they name none of its jobs
-  pub no_solve : word ≡ codes "solve" → ((job : SolveData) → ¬ NameSolve words job) → NameNoJob words
-  no_solve is none job names =
-      let found = is_solve job (begins_with words job word later begins names ∙ is) in
-      none found.0 (subst (NameJob words) found.1 names)
-
-  pub no_price : word ≡ codes "price" → ((file : Word) → ¬ NameFilmFile (codes "price") words file) → NameNoJob words
-  no_price is none job names =
-      let found = is_price job (begins_with words job word later begins names ∙ is) in
-      none found.0 (subst (NameJob words) found.1 names)
-
-  pub no_check : word ≡ codes "check" → ((files : PlanFilesData) → ¬ NamePlanFiles (codes "check") words files) → NameNoJob words
-  no_check is none job names =
-      let found = is_check job (begins_with words job word later begins names ∙ is) in
-      none found.0 (subst (NameJob words) found.1 names)
-
-  pub no_convert : word ≡ codes "convert" → ((files : PlanFilesData) → ¬ NamePlanFiles (codes "convert") words files) → NameNoJob words
-  no_convert is none job names =
-      let found = is_convert job (begins_with words job word later begins names ∙ is) in
-      none found.0 (subst (NameJob words) found.1 names)
-
-  pub no_dood : word ≡ codes "dood" → ((files : PlanFilesData) → ¬ NamePlanFiles (codes "dood") words files) → NameNoJob words
-  no_dood is none job names =
-      let found = is_dood job (begins_with words job word later begins names ∙ is) in
-      none found.0 (subst (NameJob words) found.1 names)
-
-  pub no_sheet : word ≡ codes "sheet" → ((files : PlanFilesData) → ¬ NamePlanFiles (codes "sheet") words files) → NameNoJob words
-  no_sheet is none job names =
-      let found = is_sheet job (begins_with words job word later begins names ∙ is) in
-      none found.0 (subst (NameJob words) found.1 names)
-
-  pub no_gen : word ≡ codes "gen" → ((film : GenData) → ¬ NameGen words film) → NameNoJob words
-  no_gen is none job names =
-      let found = is_gen job (begins_with words job word later begins names ∙ is) in
-      none found.0 (subst (NameJob words) found.1 names)
-
-  pub no_trial : word ≡ codes "trial" → ((job : TrialData) → ¬ NameTrial words job) → NameNoJob words
-  no_trial is none job names =
-      let found = is_trial job (begins_with words job word later begins names ∙ is) in
-      none found.0 (subst (NameJob words) found.1 names)
+  pub no_command : word ≢ codes "solve" → word ≢ codes "price" → word ≢ codes "arrange" → word ≢ codes "check" → word ≢ codes "convert"
+      → word ≢ codes "dood" → word ≢ codes "sheet" → word ≢ codes "gen" → word ≢ codes "trial" → NameNoJob words
+  no_command solve price arrange check convert dood sheet gen trial job names = no_other job (sym (begins_with words job word later begins names))
+    where
+      no_other : (job : JobData) → word ≢ word_of job
+      no_other (Solve job) = solve
+      no_other (Price file) = price
+      no_other (Arrange files) = arrange
+      no_other (Check files) = check
+      no_other (Convert files) = convert
+      no_other (Dood files) = dood
+      no_other (Sheet files) = sheet
+      no_other (Gen film) = gen
+      no_other (Trial job) = trial
 
 pub no_words : (words : List Word) → words ≡ [] → NameNoJob words
 no_words words is job names = never (begins_so words job names).0 (word_of job) (sym is ∙ (begins_so words job names).1)

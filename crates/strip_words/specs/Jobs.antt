@@ -9,6 +9,7 @@ use Rattle.strip_words.specs.Gen.{GenData, NameGen, TrialData, NameTrial}
 pub data JobData : Type 0 where
   Solve : SolveData → JobData
   Price : Word → JobData
+  Arrange : PlanFilesData → JobData
   Check : PlanFilesData → JobData
   Convert : PlanFilesData → JobData
   Dood : PlanFilesData → JobData
@@ -20,6 +21,7 @@ pub data JobData : Type 0 where
 abbrev pub NameJob : List Word → JobData → Type 0
 NameJob words (Solve job) = NameSolve words job
 NameJob words (Price file) = NameFilmFile (codes "price") words file
+NameJob words (Arrange files) = NamePlanFiles (codes "arrange") words files
 NameJob words (Check files) = NamePlanFiles (codes "check") words files
 NameJob words (Convert files) = NamePlanFiles (codes "convert") words files
 NameJob words (Dood files) = NamePlanFiles (codes "dood") words files

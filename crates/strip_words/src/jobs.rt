@@ -12,6 +12,8 @@ pub enum Job {
     Solve(SolveJob),
     /// The order of a film's rows is to be priced.
     Price(FilmFile),
+    /// The film's text is to be printed with its scenes in a plan's order.
+    Arrange(PlanFiles),
     /// A plan is to be checked.
     Check(PlanFiles),
     /// A plan is to be written in the newest format.

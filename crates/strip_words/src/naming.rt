@@ -26,6 +26,8 @@ pub fn job(alloc: Global, words: &[String]) -> Result<Job, WordsFault>
         Ok(Job::Solve(solve_job(alloc, later)?))
     } else if word == "price" {
         Ok(Job::Price(film_file(alloc, "price", later)?))
+    } else if word == "arrange" {
+        Ok(Job::Arrange(plan_files(alloc, "arrange", later)?))
     } else if word == "check" {
         Ok(Job::Check(plan_files(alloc, "check", later)?))
     } else if word == "convert" {
