@@ -1,3 +1,6 @@
 mod Marks
+mod Places
+mod Arranged
+mod Paid
 mod back
 mod Examples

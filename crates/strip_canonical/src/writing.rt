@@ -33,7 +33,7 @@ pub fn write_instance(alloc: Global, inst: &Instance) -> Result<Vec<u8>, Memory>
 }
 
 /// The rows before those of the scenes.
-fn write_heads(alloc: Global, text: &mut Text, actors: &[Actor]) -> Result<(), Memory>
+pub(crate) fn write_heads(alloc: Global, text: &mut Text, actors: &[Actor]) -> Result<(), Memory>
     ensures { OnOk result (text.new ≡ text.old ++ csv_text (head_rows (map actor_data actors.now))) }
 {
     write_header(alloc, text, actors)?;
@@ -109,7 +109,12 @@ fn write_scenes(
     Ok(())
 }
 
-fn write_scene(alloc: Global, text: &mut Text, scene: &Scene, actors: usize) -> Result<(), Memory>
+pub(crate) fn write_scene(
+    alloc: Global,
+    text: &mut Text,
+    scene: &Scene,
+    actors: usize,
+) -> Result<(), Memory>
     requires { actors ≤ 64 }
     ensures { OnOk result (text.new ≡ text.old ++ csv_row (scene_fields actors (scene_data scene.now))) }
 {
@@ -124,7 +129,7 @@ fn write_scene(alloc: Global, text: &mut Text, scene: &Scene, actors: usize) -> 
 }
 
 /// The rows of pairs of these scenes.
-fn write_pairs(text: &mut Text, scenes: &[Scene], pairs: &[Pair]) -> Result<(), Memory>
+pub(crate) fn write_pairs(text: &mut Text, scenes: &[Scene], pairs: &[Pair]) -> Result<(), Memory>
     requires { All (IsKnownPair (length scenes.now)) pairs.now }
     ensures { OnOk result (text.new ≡ text.old ++ csv_text (map (pair_fields (scene_names scenes.now)) pairs.now)) }
 {

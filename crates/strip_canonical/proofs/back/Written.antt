@@ -1,15 +1,17 @@
 -- What a writer has written, a row after the other.
-use Rattle.std.proofs.Common.{◌≡◌, ℕ, ◌+◌, ◌<◌, ◌≤◌, List, [], ◌∷◌, ◌++◌, length, get_or, take, map, sym, ap, ◌∙◌, arith}
+use Rattle.std.proofs.Common.{◌≡◌, ℕ, ◌+◌, ◌<◌, ◌≤◌, List, [], ◌∷◌, ◌++◌, length, get_or, take, map, append_assoc, sym, ap, ◌∙◌, arith}
 use Rattle.std.specs.List.{flat_map}
+use Rattle.std.proofs.lemmas.Grind.{flat_map-append}
 use Rattle.std.proofs.lemmas.List.{flat_map_more, take_all, take_more, length-map, get_or-map}
 use Rattle.std.proofs.lemmas.List.Folds.{flat_map-map}
 use Rattle.strip_text.specs.Field.{Field}
 use Rattle.strip_text.specs.Rows.{csv_row, csv_text, field_of}
 use Rattle.std.specs.String.{string_bytes}
 use Rattle.strip_model.specs.declared.scene.Scene.{Scene}
-use Rattle.strip_model.specs.Data.{SceneData}
+use Rattle.strip_model.specs.Data.{InstanceData, SceneData}
 use Rattle.strip_model.specs.Instance.{scene_data}
 use Rattle.strip_instance.specs.Shown.{names_of as scene_names}
+use Rattle.strip_canonical.specs.Canonical.{body_rows, canonical_text, head_rows, names_of, pair_fields, scene_fields}
 
 -- one more piece of a text that grows by the elements of a list
 pub next_piece : {X : Type 0} (f : X → List ℕ) (front : List ℕ) (xs : List X) (i : ℕ) (d : X) → i < length xs
@@ -39,3 +41,13 @@ pub name-at : (scenes : List Scene) (n : ℕ) (d : Scene) → n < length scenes 
 name-at scenes n d within =
     get_or-map (λ (scene : SceneData). scene.name) (map scene_data scenes) n (scene_data d) [] (omega (arith, within, length-map scenes scene_data))
     ∙ ap (λ (scene : SceneData). scene.name) (get_or-map scene_data scenes n d (scene_data d) within)
+
+-- the rows before those of the scenes, these, and those of the pairs are all rows
+pub whole : (inst : InstanceData) → (csv_text (head_rows inst.actors) ++ csv_text (map (scene_fields (length inst.actors)) inst.scenes))
+    ++ csv_text (map (pair_fields (names_of inst)) inst.pairs) ≡ canonical_text inst
+whole inst =
+    let scenes = map (scene_fields (length inst.actors)) inst.scenes in
+    let pairs = map (pair_fields (names_of inst)) inst.pairs in
+    append_assoc (csv_text (head_rows inst.actors)) (csv_text scenes) (csv_text pairs)
+    ∙ ap (λ text. csv_text (head_rows inst.actors) ++ text) (sym (flat_map-append csv_row scenes pairs))
+    ∙ sym (flat_map-append csv_row (head_rows inst.actors) (body_rows inst))

@@ -1,24 +1,14 @@
-use Rattle.std.proofs.Common.{◌≡◌, ◌++◌, length, map, append_assoc, sym, ap, ◌∙◌, Ok}
-use Rattle.std.proofs.lemmas.Grind.{flat_map-append}
+use Rattle.std.proofs.Common.{◌≡◌, ◌++◌, length, map, ap, ◌∙◌, Ok}
 use Rattle.std.proofs.lemmas.Result.{IfOk-weaker}
-use Rattle.strip_text.specs.Rows.{csv_row, csv_text}
-use Rattle.strip_model.specs.Data.{InstanceData, SceneData}
+use Rattle.strip_text.specs.Rows.{csv_text}
+use Rattle.strip_model.specs.Data.{SceneData}
 use Rattle.strip_model.specs.Instance.{actor_data, scene_data}
 use Rattle.strip_instance.specs.Text.{HasReadableNames, says}
-use Rattle.strip_canonical.specs.Canonical.{body_rows, canonical_text, head_rows, names_of, pair_fields, scene_fields}
+use Rattle.strip_canonical.specs.Canonical.{canonical_text, head_rows, pair_fields, scene_fields}
 use Rattle.strip_canonical.proofs.back.Back.{says_it}
 use Rattle.strip_canonical.proofs.back.TextNames.{text_names}
+use Rattle.strip_canonical.proofs.back.Written.{whole}
 use Rattle.strip_canonical.proofs.writing.write_instance.Goals as goal
-
--- the rows before those of the scenes, these, and those of the pairs are all rows
-whole : (inst : InstanceData) → (csv_text (head_rows inst.actors) ++ csv_text (map (scene_fields (length inst.actors)) inst.scenes))
-    ++ csv_text (map (pair_fields (names_of inst)) inst.pairs) ≡ canonical_text inst
-whole inst =
-    let scenes = map (scene_fields (length inst.actors)) inst.scenes in
-    let pairs = map (pair_fields (names_of inst)) inst.pairs in
-    append_assoc (csv_text (head_rows inst.actors)) (csv_text scenes) (csv_text pairs)
-    ∙ ap (λ text. csv_text (head_rows inst.actors) ++ text) (sym (flat_map-append csv_row scenes pairs))
-    ∙ sym (flat_map-append csv_row (head_rows inst.actors) (body_rows inst))
 
 pub returns-clause-canonical : goal.returns-clause-canonical
 returns-clause-canonical c =
