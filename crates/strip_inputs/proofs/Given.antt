@@ -26,7 +26,8 @@ of_ok P Q (Err e) more holds = tt
 said_film : (inst : InstanceData) → IsInstance inst → HasReadableNames inst → IsSaidFilm inst
 said_film inst is names = record {
   is_instance = is;
-  names = record { apart = is.scene_names; bare = All-weaker _ _ (λ scene (name : IsReadableName is_scene_name scene.name). name.bare) inst.scenes names.scenes };
+  names = names;
+  scenes = record { apart = is.scene_names; bare = All-weaker _ _ (λ scene (name : IsReadableName is_scene_name scene.name). name.bare) inst.scenes names.scenes };
 }
 
 pub film_given : (text : List ℕ) (inst : InstanceData) → length text ≤ 1_048_576 → film_says text ≡ Ok inst → IsInstance inst → HasReadableNames inst

@@ -2,7 +2,7 @@
 use Rattle.std.specs.Prelude.{◌≡◌, ℕ, nat_le, List, length, Option, None, Some, Result, Ok, Err, codes, if◌then◌else◌}
 use Rattle.strip_model.specs.Data.{InstanceData, IsInstance}
 use Rattle.strip_instance.specs.Fault.{FaultData}
-use Rattle.strip_instance.specs.Text.{says as film_says}
+use Rattle.strip_instance.specs.Text.{HasReadableNames, says as film_says}
 use Rattle.strip_instance.specs.Told.{told_of as film_told}
 use Rattle.strip_proof.specs.declared.plan.Plan.{Plan}
 use Rattle.strip_proof.specs.declared.fault.PlanFault.{PlanFault}
@@ -46,10 +46,12 @@ abbrev pub IsRefusal : Status → Option ToldData → Status → List ℕ → Ty
 IsRefusal why told status printed = (status ≡ why) × (fault : ToldData) × (told ≡ Some fault)
     × (printed ≡ error_row fault)
 
--- an instance that a text says: it keeps the limits, and has names by which a plan's text can say an order
+-- an instance that a text says: it keeps the limits, and has names by which a film's text can say it and a plan's text an
+-- order of it
 pub record IsSaidFilm (inst : InstanceData) : Type 0 where
   pub is_instance : IsInstance inst
-  pub names : HasReadableScenes inst
+  pub names : HasReadableNames inst
+  pub scenes : HasReadableScenes inst
 
 -- what is given is what the text says, or refuses it
 abbrev pub IsFilmGiven : Result InstanceData (Option ToldData) → Input InstanceData → Type 0

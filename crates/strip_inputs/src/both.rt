@@ -2,11 +2,12 @@
 ghost use Rattle.std.specs.Prelude.{◌≡◌, ℕ, List, Err, IfOk, string_bytes};
 ghost use Rattle.strip_model.specs.Data.{InstanceData};
 ghost use Rattle.strip_proof.specs.Plan.{PlanData, plan_data};
-ghost use Rattle.strip_proof.specs.Text.{HasReadableScenes, IsReadablePlan};
+ghost use Rattle.strip_proof.specs.Text.{IsReadablePlan};
 ghost use Rattle.strip_answer.specs.declared.status.Status.{Status};
 ghost use Rattle.strip_answer.specs.Ending.{answer_text};
 ghost use Rattle.strip_answer.specs.Run.{FilesStay, HasReadFault};
 ghost use Rattle.strip_inputs.specs.Both.{AreSaid, BothSay, IsBothDue, IsEither, ways_of_input};
+ghost use Rattle.strip_inputs.specs.Said.{IsSaidFilm};
 
 use crate::film::film_input;
 use crate::input::Input;
@@ -25,7 +26,7 @@ pub trait PlanJob {
 
     /// The answer to the two, which texts say.
     fn answer(alloc: Global, inst: &Instance, plan: Plan) -> Result<Answer, Memory>
-        requires names { HasReadableScenes inst.now }
+        requires said { IsSaidFilm inst.now }
         requires readable { IsReadablePlan inst.now (plan_data plan) }
         ensures { IfOk result (λ answer. Due inst.now (plan_data plan) answer.status (answer_text answer)) };
 }

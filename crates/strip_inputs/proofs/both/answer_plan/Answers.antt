@@ -3,8 +3,8 @@ use Rattle.strip_inputs.specs.Both.{AreSaid}
 use Rattle.strip_inputs.proofs.Due.{given_due, refused_due}
 use Rattle.strip_inputs.proofs.both.answer_plan.Goals as goal
 
-pub answer-requires-clause-names : goal.answer-requires-clause-names
-answer-requires-clause-names g c = (subst AreSaid c.in-Said.is c.in_ok-inst.ensures.said).0.names
+pub answer-requires-clause-said : goal.answer-requires-clause-said
+answer-requires-clause-said g c = (subst AreSaid c.in-Said.is c.in_ok-inst.ensures.said).0
 
 pub answer-requires-clause-readable : goal.answer-requires-clause-readable
 answer-requires-clause-readable g c = (subst AreSaid c.in-Said.is c.in_ok-inst.ensures.said).1
