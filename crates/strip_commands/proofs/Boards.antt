@@ -10,14 +10,15 @@ use Rattle.strip_words.specs.Words.{Word}
 use Rattle.strip_words.specs.Solve.{SolveData}
 use Rattle.strip_words.specs.Plans.{PlanFilesData}
 use Rattle.strip_words.specs.Gen.{GenData, TrialData}
-use Rattle.strip_words.specs.Jobs.{JobData, Solve, Price, Check, Convert, Dood, Sheet, Gen, Trial, NameJob}
+use Rattle.strip_words.specs.Jobs.{JobData, Solve, Price, Arrange, Check, Convert, Dood, Sheet, Gen, Trial, NameJob}
 use Rattle.strip_proof.specs.declared.plan.Status.{Status as PlanStatus}
 use Rattle.strip_proof.specs.declared.plan.Status.TheVariants.{Optimal, Bounded as CutShort}
 use Rattle.strip_proof.specs.Plan.{PlanData}
 use Rattle.strip_answer.specs.declared.status.Status.{Status}
-use Rattle.strip_answer.specs.declared.status.Status.TheVariants.{Done, Bounded}
+use Rattle.strip_answer.specs.declared.status.Status.TheVariants.{Done, Bounded, NotAccepted}
 use Rattle.strip_io.specs.Files.{FilesData}
 use Rattle.strip_answer.proofs.Endings.{AreShown, IsOfJob}
+use Rattle.strip_inputs.specs.Both.{IsBothDue}
 use Rattle.strip_inputs.specs.Fit.{AreTold, AreUnfit}
 use Rattle.strip_inputs.proofs.Ways.{due_by, due_told, due_unfit}
 use Rattle.strip_check_command.proofs.Audits.{audit_answers, audit_fit, audit_unfit}
@@ -26,7 +27,9 @@ use Rattle.strip_commands.specs.Film.{IsFilmDue, IsFilmFit, IsFilmUnfit}
 use Rattle.strip_commands.specs.Solve.{IsSolveAnswer, IsSolveDue}
 use Rattle.strip_commands.specs.Price.{IsBrokenPlan, IsPriceStatus, IsPriced, IsPricedPlan}
 use Rattle.strip_commands.specs.Convert.{IsConvertDue, IsConvertFit, IsConverted}
-use Rattle.strip_commands.specs.Report.{IsReportDue, IsReportFit, IsReportUnfit, IsReported, Report}
+use Rattle.strip_commands.specs.Ordered.{HasOrder, IsOrderFit, IsOrderUnfit}
+use Rattle.strip_commands.specs.Report.{IsReported, Report}
+use Rattle.strip_commands.specs.Arrange.{IsArranged}
 use Rattle.strip_commands.specs.Made.{IsGenDue, IsTrialDue, IsTried, made_of}
 use Rattle.strip_commands.specs.Due.{IsDueFor, IsFitFor, IsFitStatus, IsUnfitFor, board_claims}
 use Rattle.strip_commands.proofs.Films.{film_answers, film_told, film_unfit}
@@ -102,36 +105,58 @@ module _ (files : PlanFilesData) (before after : FilesData) (status : Status) (p
   convert_unfit : (why : Status) → AreUnfit files.film files.plan before why → status ≡ why
   convert_unfit why unfit = due_unfit IsConverted files.film files.plan before after status printed why unfit due
 
-module _ (report : Report) (files : PlanFilesData) (before after : FilesData) (status : Status) (printed : List ℕ)
-    (due : IsReportDue report files before after status printed) where
-  abbrev reported : InstanceData → PlanData → Status → List ℕ → Type 0
-  reported inst plan = IsReported report inst plan.order
+-- a plan with an order is answered, and one without it is refused
+abbrev EndsByOrder : InstanceData → PlanData → Status → Type 0
+EndsByOrder inst plan status = (HasOrder inst plan × (status ≡ Done)) ⊎ ((¬ HasOrder inst plan) × (status ≡ NotAccepted))
 
-  report_answers : IsOfJob status
-  report_answers = due_by reported files.film files.plan before after status printed IsOfJob tt tt (λ inst plan. by_order inst plan.order) due
+reported_ends : (report : Report) (inst : InstanceData) (plan : PlanData) (status : Status) (printed : List ℕ) → IsReported report inst plan.order status printed
+    → EndsByOrder inst plan status
+reported_ends report inst plan status printed (inl is) = inl (is.is_order, is.done)
+reported_ends report inst plan status printed (inr none) = inr (none.no_order, none.refused)
+
+arranged_ends : (inst : InstanceData) (plan : PlanData) (status : Status) (printed : List ℕ) → IsArranged inst plan.order status printed → EndsByOrder inst plan status
+arranged_ends inst plan status printed (inl is) = inl (is.is_order, is.done)
+arranged_ends inst plan status printed (inr none) = inr (none.no_order, none.refused)
+
+module _ (Due : InstanceData → PlanData → Status → List ℕ → Type 0)
+    (ends : (inst : InstanceData) (plan : PlanData) (status : Status) (printed : List ℕ) → Due inst plan status printed → EndsByOrder inst plan status)
+    (files : PlanFilesData) (before after : FilesData) (status : Status) (printed : List ℕ)
+    (due : IsBothDue Due files.film files.plan before after status printed) where
+  order_answers : IsOfJob status
+  order_answers =
+      due_by Due files.film files.plan before after status printed IsOfJob tt tt (λ inst plan its. by inst plan (ends inst plan status printed its)) due
     where
-      by_order : (inst : InstanceData) (order : List ℕ) → IsReported report inst order status printed → IsOfJob status
-      by_order inst order (inl is) = subst IsOfJob (sym is.done) tt
-      by_order inst order (inr none) = subst IsOfJob (sym none.refused) tt
+      by : (inst : InstanceData) (plan : PlanData) → EndsByOrder inst plan status → IsOfJob status
+      by inst plan (inl is) = subst IsOfJob (sym is.1) tt
+      by inst plan (inr none) = subst IsOfJob (sym none.1) tt
 
-  -- what is due for an instance and a plan that the files tell
-  report_told : (inst : InstanceData) (plan : PlanData) → AreTold files.film files.plan before inst plan → IsReported report inst plan.order status printed
-  report_told inst plan told = (due_told reported files.film files.plan before after status printed inst plan told due).1
+  -- how it ends for an instance and a plan that the files tell
+  order_told : (inst : InstanceData) (plan : PlanData) → AreTold files.film files.plan before inst plan → EndsByOrder inst plan status
+  order_told inst plan told = ends inst plan status printed (due_told Due files.film files.plan before after status printed inst plan told due).1
 
-  report_fit : IsReportFit files before → status ≡ Done
-  report_fit (inst, plan, told, order) = by (report_told inst plan told)
+  order_fit : IsOrderFit files before → status ≡ Done
+  order_fit (inst, plan, told, order) = by (order_told inst plan told)
     where
-      by : IsReported report inst plan.order status printed → status ≡ Done
-      by (inl is) = is.done
-      by (inr none) = absurd (none.no_order order)
+      by : EndsByOrder inst plan status → status ≡ Done
+      by (inl is) = is.1
+      by (inr none) = absurd (none.0 order)
 
-  report_unfit : (why : Status) → IsReportUnfit files before why → status ≡ why
-  report_unfit why (inl unfit) = due_unfit reported files.film files.plan before after status printed why unfit due
-  report_unfit why (inr ((inst, plan, told, none), why_is)) = by (report_told inst plan told)
+  order_unfit : (why : Status) → IsOrderUnfit files before why → status ≡ why
+  order_unfit why (inl unfit) = due_unfit Due files.film files.plan before after status printed why unfit due
+  order_unfit why (inr ((inst, plan, told, none), why_is)) = by (order_told inst plan told)
     where
-      by : IsReported report inst plan.order status printed → status ≡ why
-      by (inl is) = absurd (none is.is_order)
-      by (inr is) = is.refused ∙ sym why_is
+      by : EndsByOrder inst plan status → status ≡ why
+      by (inl is) = absurd (none is.0)
+      by (inr is) = is.1 ∙ sym why_is
+
+abbrev dood_due : InstanceData → PlanData → Status → List ℕ → Type 0
+dood_due inst plan = IsReported dood_text inst plan.order
+
+abbrev sheet_due : InstanceData → PlanData → Status → List ℕ → Type 0
+sheet_due inst plan = IsReported sheet_text inst plan.order
+
+abbrev arrange_due : InstanceData → PlanData → Status → List ℕ → Type 0
+arrange_due inst plan = IsArranged inst plan.order
 
 gen_answers : (film : GenData) (status : Status) (printed : List ℕ) → IsGenDue film status printed → IsOfJob status
 gen_answers film status printed due = subst IsOfJob (sym due.done) tt
@@ -151,10 +176,11 @@ trial_answers job status printed due = elim (cases_lt 64 (class_count (film_of (
 job_answers : (job : JobData) (before after : FilesData) (status : Status) (printed : List ℕ) → IsDueFor job before after status printed → IsOfJob status
 job_answers (Solve job) before after status printed due = solve_answers job before after status printed due
 job_answers (Price film) before after status printed due = price_answers film before after status printed due
+job_answers (Arrange files) before after status printed due = order_answers arrange_due arranged_ends files before after status printed due
 job_answers (Check files) before after status printed due = audit_answers files before after status printed due
 job_answers (Convert files) before after status printed due = convert_answers files before after status printed due
-job_answers (Dood files) before after status printed due = report_answers dood_text files before after status printed due
-job_answers (Sheet files) before after status printed due = report_answers sheet_text files before after status printed due
+job_answers (Dood files) before after status printed due = order_answers dood_due (reported_ends dood_text) files before after status printed due
+job_answers (Sheet files) before after status printed due = order_answers sheet_due (reported_ends sheet_text) files before after status printed due
 job_answers (Gen film) before after status printed due = gen_answers film status printed due
 job_answers (Trial job) before after status printed due = trial_answers job status printed due
 
@@ -162,10 +188,11 @@ job_fit : (job : JobData) (before after : FilesData) (status : Status) (printed 
     → IsDueFor job before after status printed → IsFitStatus job status
 job_fit (Solve job) before after status printed fit due = solve_fit job before after status printed due fit
 job_fit (Price film) before after status printed fit due = price_fit film before after status printed due fit
+job_fit (Arrange files) before after status printed fit due = order_fit arrange_due arranged_ends files before after status printed due fit
 job_fit (Check files) before after status printed fit due = audit_fit files before after status printed due fit
 job_fit (Convert files) before after status printed fit due = convert_fit files before after status printed due fit
-job_fit (Dood files) before after status printed fit due = report_fit dood_text files before after status printed due fit
-job_fit (Sheet files) before after status printed fit due = report_fit sheet_text files before after status printed due fit
+job_fit (Dood files) before after status printed fit due = order_fit dood_due (reported_ends dood_text) files before after status printed due fit
+job_fit (Sheet files) before after status printed fit due = order_fit sheet_due (reported_ends sheet_text) files before after status printed due fit
 job_fit (Gen film) before after status printed fit due = due.done
 job_fit (Trial job) before after status printed fit due = tried_ends job status printed (due.tried fit)
 
@@ -173,10 +200,11 @@ job_unfit : (job : JobData) (before after : FilesData) (status why : Status) (pr
     → IsDueFor job before after status printed → status ≡ why
 job_unfit (Solve job) before after status why printed unfit due = solve_unfit job before after status printed due why unfit
 job_unfit (Price film) before after status why printed unfit due = price_unfit film before after status printed due why unfit
+job_unfit (Arrange files) before after status why printed unfit due = order_unfit arrange_due arranged_ends files before after status printed due why unfit
 job_unfit (Check files) before after status why printed unfit due = audit_unfit files before after status printed due why unfit
 job_unfit (Convert files) before after status why printed unfit due = convert_unfit files before after status printed due why unfit
-job_unfit (Dood files) before after status why printed unfit due = report_unfit dood_text files before after status printed due why unfit
-job_unfit (Sheet files) before after status why printed unfit due = report_unfit sheet_text files before after status printed due why unfit
+job_unfit (Dood files) before after status why printed unfit due = order_unfit dood_due (reported_ends dood_text) files before after status printed due why unfit
+job_unfit (Sheet files) before after status why printed unfit due = order_unfit sheet_due (reported_ends sheet_text) files before after status printed due why unfit
 job_unfit (Gen film) before after status why printed unfit due = absurd unfit
 job_unfit (Trial job) before after status why printed unfit due = (due.too_many unfit.0).0 ∙ sym unfit.1
 

@@ -11,8 +11,17 @@ use Rattle.strip_io.specs.Files.{FilesData}
 use Rattle.strip_inputs.specs.declared.input.Input.{Input}
 use Rattle.strip_inputs.specs.declared.input.Input.TheVariants.{Said}
 use Rattle.strip_inputs.specs.Input.{HasInput}
-use Rattle.strip_inputs.specs.Said.{IsFilmGiven, film_said}
+use Rattle.strip_inputs.specs.Said.{IsFilmGiven, IsSaidFilm, film_said}
 use Rattle.strip_commands.specs.Film.{HasClasses, IsAnswerTo, IsFilmDue, IsFilmUnfit}
+
+-- a film that is given is one that a text says
+pub film_is : (file : List ℕ) (before after : FilesData) (input : Input InstanceData) (inst : InstanceData) → input ≡ Said inst
+    → HasInput file 1_048_576 before after (λ text. IsFilmGiven (film_said text) input) → IsSaidFilm inst
+film_is file before after input inst is given = by (film_said given.text) (subst (IsFilmGiven (film_said given.text)) is given.holds)
+  where
+    by : (said : Result InstanceData (Option ToldData)) → IsFilmGiven said (Said inst) → IsSaidFilm inst
+    by (Ok other) film = subst IsSaidFilm (sym film.0) film.1
+    by (Err told) none = absurd none
 
 module _ (Due : InstanceData → Status → List ℕ → Type 0) (file : List ℕ) (before after : FilesData) (status : Status) (printed : List ℕ) where
   -- what is due for a text that says an instance, by what was given of it

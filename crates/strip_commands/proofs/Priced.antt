@@ -37,7 +37,7 @@ module _ {E : Type 0} (inst : InstanceData) where
           kept = is_own.order;
           done = ends;
           text = printed;
-          same = ap (says inst) printed ∙ back inst own said.names readable;
+          same = ap (says inst) printed ∙ back inst own said.scenes readable;
           accepted = is_own;
         });
         too_many = λ many. absurd (omega (arith, few, many));

@@ -70,7 +70,7 @@ plan_answer job inst plan (Ok answer) said few solved readable back ends text = 
     ends = ends;
     text = text;
     proves = λ asked. (
-      ap (says inst) (text ∙ proved_text job.proof inst plan asked) ∙ back inst plan said.names readable,
+      ap (says inst) (text ∙ proved_text job.proof inst plan asked) ∙ back inst plan said.scenes readable,
       chosen_accepted job.auto job.kind (film_of inst) job.nodes plan solved,
     );
   };

@@ -1,33 +1,19 @@
 -- A report that was printed, and a list that was refused.
-use Rattle.std.proofs.Common.{◌≡◌, ◌∙◌, inr, ℕ, List, [], ◌∷◌, ◌++◌, length, map, sum, codes, Result, Ok, Err, IfOk, ap}
+use Rattle.std.proofs.Common.{◌≡◌, ◌∙◌, ℕ, List, [], ◌∷◌, ◌++◌, length, map, sum, codes, ap}
 use Rattle.std.specs.Fmt.{decimal}
 use Rattle.std.specs.List.{range_with_len}
-use Rattle.strip_pay.specs.Order.{IsOrder}
 use Rattle.strip_pay.specs.Pay.{pay_of}
 use Rattle.strip_model.specs.Data.{InstanceData}
 use Rattle.strip_model.specs.Film.{film_of}
 use Rattle.strip_text.specs.Rows.{Row, csv_text}
-use Rattle.strip_check.specs.declared.verdict.Reason.TheVariants.{NotAnOrder}
-use Rattle.strip_check.specs.Told.{told_of}
 use Rattle.strip_reports.specs.Sheet.{header_row, scene_row, sheet_rows, total_pay, total_row}
-use Rattle.strip_answer.specs.declared.answer.Answer.{Answer}
-use Rattle.strip_answer.specs.declared.status.Status.TheVariants.{NotAccepted}
-use Rattle.strip_answer.specs.Ending.{answer_text}
-use Rattle.strip_answer.specs.Rows.{told_row}
-use Rattle.strip_commands.specs.Report.{IsReported, Report, TellsPay}
+use Rattle.strip_commands.specs.Report.{TellsPay}
 
 -- the last field of the rows is the pay, and so it is that of their text
 pub told_by_rows : (inst : InstanceData) (order printed : List ℕ) (all : List Row) → printed ≡ csv_text all
     → (rows : List Row) × (fields : Row) × (all ≡ rows ++ (fields ++ decimal (pay_of (film_of inst) order) ∷ []) ∷ [])
     → TellsPay inst order printed
 told_by_rows inst order printed all is (rows, fields, said) = (rows, fields, is ∙ ap csv_text said)
-
--- no list is refused that is an order
-pub refused_answer : {E : Type 0} (report : Report) (inst : InstanceData) (order : List ℕ) (r : Result Answer E) → ¬ IsOrder (length inst.scenes) order
-    → IfOk r (λ answer. answer.status ≡ NotAccepted) → IfOk r (λ answer. answer_text answer ≡ told_row (codes "refused") (told_of NotAnOrder))
-    → IfOk r (λ answer. IsReported report inst order answer.status (answer_text answer))
-refused_answer report inst order (Ok answer) none status text = inr (record { no_order = none; refused = status; text = text })
-refused_answer report inst order (Err e) none status text = tt
 
 -- the sheet's total is the pay
 pub sheet_total : (inst : InstanceData) (order : List ℕ) → total_pay (film_of inst) order ≡ pay_of (film_of inst) order

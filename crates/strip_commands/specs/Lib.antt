@@ -3,7 +3,9 @@ pub mod Film
 pub mod Solve
 pub mod Price
 pub mod Convert
+pub mod Ordered
 pub mod Report
+pub mod Arrange
 pub mod Made
 pub mod Due
 pub mod Solver

@@ -7,6 +7,7 @@ ghost use Rattle.strip_answer.specs.Run.{FilesStay, HasReadFault};
 ghost use Rattle.strip_commands.specs.Due.{IsDueFor, IsFileOf, IsWithin, board_claims};
 ghost use Rattle.strip_commands.specs.Solver.{Solves};
 
+use crate::arrange::ArrangeJob;
 use crate::convert::ConvertJob;
 use crate::making::{print_film, try_film};
 use crate::pricing::price_film;
@@ -64,6 +65,7 @@ fn answer_job<V: Fn(&Instance, SearchOptions, Option<u32>) -> Result<Plan, Reduc
     match job {
         Job::Solve(job) => solve(alloc, solver, files, job),
         Job::Price(names) => price_film(alloc, files, names),
+        Job::Arrange(names) => answer_plan::<ArrangeJob, F>(alloc, files, names),
         Job::Check(names) => audit(alloc, files, names),
         Job::Convert(names) => answer_plan::<ConvertJob, F>(alloc, files, names),
         Job::Dood(names) => answer_plan::<DoodJob, F>(alloc, files, names),

@@ -1,8 +1,9 @@
 // The command `convert`.
 ghost use Rattle.std.specs.Prelude.{IfOk};
 ghost use Rattle.strip_proof.specs.Plan.{plan_data};
-ghost use Rattle.strip_proof.specs.Text.{HasReadableScenes, IsReadablePlan};
+ghost use Rattle.strip_proof.specs.Text.{IsReadablePlan};
 ghost use Rattle.strip_answer.specs.Ending.{answer_text};
+ghost use Rattle.strip_inputs.specs.Said.{IsSaidFilm};
 ghost use Rattle.strip_commands.specs.Convert.{IsConverted};
 
 use std::alloc::Global;
@@ -28,7 +29,7 @@ impl PlanJob for ConvertJob {
 
 /// The answer that prints the plan with all its lines.
 fn written(alloc: Global, inst: &Instance, plan: Plan) -> Result<Answer, Memory>
-    requires names { HasReadableScenes inst.now }
+    requires said { IsSaidFilm inst.now }
     requires readable { IsReadablePlan inst.now (plan_data plan) }
     ensures { IfOk result (λ answer. IsConverted inst.now (plan_data plan) answer.status (answer_text answer)) }
 {

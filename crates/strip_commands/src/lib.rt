@@ -2,6 +2,7 @@
 #![tactic(auto)]
 
 mod answer;
+mod arrange;
 mod convert;
 mod making;
 mod pricing;

@@ -1,6 +1,6 @@
 -- Words that ask that it be told how a search gets on.
 use Rattle.std.specs.Prelude.{◌≡◌, Bool, true, false, List}
-use Rattle.strip_words.specs.Jobs.{JobData, Solve, Price, Check, Convert, Dood, Sheet, Gen, Trial}
+use Rattle.strip_words.specs.Jobs.{JobData, Solve, Price, Arrange, Check, Convert, Dood, Sheet, Gen, Trial}
 use Rattle.strip_words.specs.Solve.{NameSolve, SolveData}
 use Rattle.strip_words.specs.Words.{Word}
 
@@ -12,6 +12,7 @@ AskForProgress words = (job : SolveData) × NameSolve words job × (job.progress
 abbrev pub is_told : JobData → Bool
 is_told (Solve job) = job.progress
 is_told (Price file) = false
+is_told (Arrange files) = false
 is_told (Check files) = false
 is_told (Convert files) = false
 is_told (Dood files) = false

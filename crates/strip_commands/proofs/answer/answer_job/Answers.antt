@@ -11,11 +11,14 @@ stays_for : (before after : FilesData) (failed : Type 0) (job given : Job) → j
     → FilesStay before after (IsFileOf (job_data job) before) failed
 stays_for before after failed job given is = subst (λ (j : Job). FilesStay before after (IsFileOf (job_data j) before) failed) (sym is)
 
+pub returns-in-Arrange-clause-files : goal.returns-in-Arrange-clause-files
+returns-in-Arrange-clause-files g c = stays_for _ _ _ _ _ c.in-Arrange.is c.answer_plan.ensures.files
+
 pub returns-in-Check-clause-files : goal.returns-in-Check-clause-files
 returns-in-Check-clause-files g c = stays_for _ _ _ _ _ c.in-Check.is c.audit.ensures.files
 
 pub returns-in-Convert-clause-files : goal.returns-in-Convert-clause-files
-returns-in-Convert-clause-files g c = stays_for _ _ _ _ _ c.in-Convert.is c.answer_plan.ensures.files
+returns-in-Convert-clause-files g c = stays_for _ _ _ _ _ c.in-Convert.is c.answer_plan-in-Convert.ensures.files
 
 pub returns-in-Dood-clause-files : goal.returns-in-Dood-clause-files
 returns-in-Dood-clause-files g c = stays_for _ _ _ _ _ c.in-Dood.is c.answer_plan-in-Dood.ensures.files

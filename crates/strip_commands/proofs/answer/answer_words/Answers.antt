@@ -14,3 +14,8 @@ returns-in-Ok-clause-files g c =
 pub returns-in-Ok-clause-due : goal.returns-in-Ok-clause-due
 returns-in-Ok-clause-due g c =
     of_ok _ _ c.answer_job.result (λ answer due. inr (job_data c.in-Ok.job, c.in-Ok.ensures.named, due)) c.answer_job.ensures.due
+
+pub returns-in-Ok-clause-read : goal.returns-in-Ok-clause-read
+returns-in-Ok-clause-read g c = λ is.
+    let fault = c.answer_job.ensures.read is in
+    (fault.0, (job_data c.in-Ok.job, c.in-Ok.ensures.named, fault.1), fault.2)

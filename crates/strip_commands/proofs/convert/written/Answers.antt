@@ -14,5 +14,5 @@ returns c =
     record {
       done = refl;
       text = text;
-      same = ap (says c.args.inst.now) text ∙ c.written_plans_read_back.ensures.whole c.args.inst.now plan c.requires.names c.requires.readable;
+      same = ap (says c.args.inst.now) text ∙ c.written_plans_read_back.ensures.whole c.args.inst.now plan c.requires.said.scenes c.requires.readable;
     }

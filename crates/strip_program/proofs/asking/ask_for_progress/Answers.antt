@@ -1,5 +1,5 @@
 use Rattle.std.proofs.Common.{◌≡◌, ◌↔◌, Bool, true, false, List, ap, sym, ◌∙◌}
-use Rattle.strip_words.specs.Jobs.{JobData, NameJob, NameNoJob, Solve, Price, Check, Convert, Dood, Sheet, Gen, Trial}
+use Rattle.strip_words.specs.Jobs.{JobData, NameJob, NameNoJob, Solve, Price, Arrange, Check, Convert, Dood, Sheet, Gen, Trial}
 use Rattle.strip_words.specs.Shown.{job_data, texts}
 use Rattle.strip_words.specs.Words.{Word}
 use Rattle.strip_program.specs.Asking.{AskForProgress, is_told}
@@ -9,6 +9,7 @@ use Rattle.strip_program.proofs.asking.ask_for_progress.Goals as goal
 asks : (words : List Word) (job : JobData) → NameJob words job → is_told job ≡ true → AskForProgress words
 asks words (Solve job) names told = (job, names, told)
 asks words (Price file) names told = absurd (let e : false ≡ true = told in cc)
+asks words (Arrange files) names told = absurd (let e : false ≡ true = told in cc)
 asks words (Check files) names told = absurd (let e : false ≡ true = told in cc)
 asks words (Convert files) names told = absurd (let e : false ≡ true = told in cc)
 asks words (Dood files) names told = absurd (let e : false ≡ true = told in cc)
