@@ -4,7 +4,7 @@ use Rattle.strip_words.specs.Words.{Word}
 use Rattle.strip_words.specs.Solve.{SolveData}
 use Rattle.strip_words.specs.Plans.{PlanFilesData}
 use Rattle.strip_words.specs.Gen.{GenData, TrialData}
-use Rattle.strip_words.specs.Jobs.{JobData, Solve, Price, Arrange, Check, Convert, Dood, Sheet, Gen, Trial, NameJob, NameNoJob}
+use Rattle.strip_words.specs.Jobs.{JobData, Solve, Price, Arrange, Check, Convert, Dood, Sheet, Board, Gen, Trial, NameJob, NameNoJob}
 use Rattle.strip_words.proofs.Solving.{solve_once}
 use Rattle.strip_words.proofs.Filming.{file_once}
 use Rattle.strip_words.proofs.Planning.{files_once}
@@ -19,6 +19,7 @@ word_of (Check files) = codes "check"
 word_of (Convert files) = codes "convert"
 word_of (Dood files) = codes "dood"
 word_of (Sheet files) = codes "sheet"
+word_of (Board files) = codes "board"
 word_of (Gen film) = codes "gen"
 word_of (Trial job) = codes "trial"
 
@@ -31,6 +32,7 @@ begins_so words (Check files) (items, rest, spelled, says) = (_, spelled.spelled
 begins_so words (Convert files) (items, rest, spelled, says) = (_, spelled.spelled)
 begins_so words (Dood files) (items, rest, spelled, says) = (_, spelled.spelled)
 begins_so words (Sheet files) (items, rest, spelled, says) = (_, spelled.spelled)
+begins_so words (Board files) (items, rest, spelled, says) = (_, spelled.spelled)
 begins_so words (Gen film) (items, rest, spelled, says) = (_, spelled.spelled)
 begins_so words (Trial job) (items, rest, spelled, says) = (_, spelled.spelled)
 
@@ -58,9 +60,10 @@ IsOf word job =
     (IfTrue (bytes_eq word (codes "convert")) ((files : PlanFilesData) × (job ≡ Convert files))
     (IfTrue (bytes_eq word (codes "dood")) ((files : PlanFilesData) × (job ≡ Dood files))
     (IfTrue (bytes_eq word (codes "sheet")) ((files : PlanFilesData) × (job ≡ Sheet files))
+    (IfTrue (bytes_eq word (codes "board")) ((files : PlanFilesData) × (job ≡ Board files))
     (IfTrue (bytes_eq word (codes "gen")) ((film : GenData) × (job ≡ Gen film))
     (IfTrue (bytes_eq word (codes "trial")) ((said : TrialData) × (job ≡ Trial said))
-    ⊥))))))))
+    ⊥)))))))))
 
 is_of_its_own : (job : JobData) → IsOf (word_of job) job
 is_of_its_own (Solve job) = (job, refl)
@@ -70,6 +73,7 @@ is_of_its_own (Check files) = (files, refl)
 is_of_its_own (Convert files) = (files, refl)
 is_of_its_own (Dood files) = (files, refl)
 is_of_its_own (Sheet files) = (files, refl)
+is_of_its_own (Board files) = (files, refl)
 is_of_its_own (Gen film) = (film, refl)
 is_of_its_own (Trial job) = (job, refl)
 
@@ -97,6 +101,7 @@ one_job words (Check files) b one two = same_job Check words files b (λ is. is)
 one_job words (Convert files) b one two = same_job Convert words files b (λ is. is) (files_once (codes "convert") words) one two
 one_job words (Dood files) b one two = same_job Dood words files b (λ is. is) (files_once (codes "dood") words) one two
 one_job words (Sheet files) b one two = same_job Sheet words files b (λ is. is) (files_once (codes "sheet") words) one two
+one_job words (Board files) b one two = same_job Board words files b (λ is. is) (files_once (codes "board") words) one two
 one_job words (Gen film) b one two = same_job Gen words film b (λ is. is) (gen_once words) one two
 one_job words (Trial job) b one two = same_job Trial words job b (λ is. is) (trial_once words) one two
 
@@ -110,8 +115,8 @@ module _ (words later : List Word) (word : Word) (begins : words ≡ word ∷ la
 
   -- words that begin with none of the commands' words name no job
   pub no_command : word ≢ codes "solve" → word ≢ codes "price" → word ≢ codes "arrange" → word ≢ codes "check" → word ≢ codes "convert"
-      → word ≢ codes "dood" → word ≢ codes "sheet" → word ≢ codes "gen" → word ≢ codes "trial" → NameNoJob words
-  no_command solve price arrange check convert dood sheet gen trial job names = no_other job (sym (begins_with words job word later begins names))
+      → word ≢ codes "dood" → word ≢ codes "sheet" → word ≢ codes "board" → word ≢ codes "gen" → word ≢ codes "trial" → NameNoJob words
+  no_command solve price arrange check convert dood sheet board gen trial job names = no_other job (sym (begins_with words job word later begins names))
     where
       no_other : (job : JobData) → word ≢ word_of job
       no_other (Solve job) = solve
@@ -121,6 +126,7 @@ module _ (words later : List Word) (word : Word) (begins : words ≡ word ∷ la
       no_other (Convert files) = convert
       no_other (Dood files) = dood
       no_other (Sheet files) = sheet
+      no_other (Board files) = board
       no_other (Gen film) = gen
       no_other (Trial job) = trial
 

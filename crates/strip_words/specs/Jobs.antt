@@ -14,6 +14,7 @@ pub data JobData : Type 0 where
   Convert : PlanFilesData → JobData
   Dood : PlanFilesData → JobData
   Sheet : PlanFilesData → JobData
+  Board : PlanFilesData → JobData
   Gen : GenData → JobData
   Trial : TrialData → JobData
 
@@ -26,6 +27,7 @@ NameJob words (Check files) = NamePlanFiles (codes "check") words files
 NameJob words (Convert files) = NamePlanFiles (codes "convert") words files
 NameJob words (Dood files) = NamePlanFiles (codes "dood") words files
 NameJob words (Sheet files) = NamePlanFiles (codes "sheet") words files
+NameJob words (Board files) = NamePlanFiles (codes "board") words files
 NameJob words (Gen film) = NameGen words film
 NameJob words (Trial job) = NameTrial words job
 

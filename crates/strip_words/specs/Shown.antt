@@ -8,7 +8,7 @@ use Rattle.strip_words.specs.Options.{NumberOption as NumberData, FreeOption as 
 use Rattle.strip_words.specs.Solve.{SolveData}
 use Rattle.strip_words.specs.Plans.{PlanFilesData}
 use Rattle.strip_words.specs.Gen.{GenData, TrialData}
-use Rattle.strip_words.specs.Jobs.{JobData, Solve as ToSolve, Price as ToPrice, Arrange as ToArrange, Check as ToCheck, Convert as ToConvert, Dood as ToDood, Sheet as ToSheet, Gen as ToGen, Trial as ToTrial}
+use Rattle.strip_words.specs.Jobs.{JobData, Solve as ToSolve, Price as ToPrice, Arrange as ToArrange, Check as ToCheck, Convert as ToConvert, Dood as ToDood, Sheet as ToSheet, Board as ToBoard, Gen as ToGen, Trial as ToTrial}
 use Rattle.strip_words.specs.declared.command.Command.{Command}
 use Rattle.strip_words.specs.declared.command.NumberOption.{NumberOption}
 use Rattle.strip_words.specs.declared.command.FreeOption.{FreeOption}
@@ -20,7 +20,7 @@ use Rattle.strip_words.specs.declared.plans.PlanFiles.{PlanFiles}
 use Rattle.strip_words.specs.declared.making.GenJob.{GenJob}
 use Rattle.strip_words.specs.declared.making.TrialJob.{TrialJob}
 use Rattle.strip_words.specs.declared.jobs.Job.{Job}
-use Rattle.strip_words.specs.declared.jobs.Job.TheVariants.{Solve, Price, Arrange, Check, Convert, Dood, Sheet, Gen, Trial}
+use Rattle.strip_words.specs.declared.jobs.Job.TheVariants.{Solve, Price, Arrange, Check, Convert, Dood, Sheet, Board, Gen, Trial}
 use Rattle.strip_words.specs.declared.item.Item.{Item}
 use Rattle.strip_words.specs.declared.item.Item.TheVariants.{Operand, Joined, Apart, Flag}
 
@@ -109,5 +109,6 @@ job_data (Check files) = ToCheck (plan_files_data files)
 job_data (Convert files) = ToConvert (plan_files_data files)
 job_data (Dood files) = ToDood (plan_files_data files)
 job_data (Sheet files) = ToSheet (plan_files_data files)
+job_data (Board files) = ToBoard (plan_files_data files)
 job_data (Gen film) = ToGen (gen_data film)
 job_data (Trial job) = ToTrial (trial_data job)

@@ -22,6 +22,8 @@ pub enum Job {
     Dood(PlanFiles),
     /// The cost sheet of a plan's order is to be printed.
     Sheet(PlanFiles),
+    /// The page of a plan's order is to be printed.
+    Board(PlanFiles),
     /// A film that is made from a number is to be printed.
     Gen(GenJob),
     /// A film that is made from a number is to be solved, and its plan checked.

@@ -36,6 +36,8 @@ pub fn job(alloc: Global, words: &[String]) -> Result<Job, WordsFault>
         Ok(Job::Dood(plan_files(alloc, "dood", later)?))
     } else if word == "sheet" {
         Ok(Job::Sheet(plan_files(alloc, "sheet", later)?))
+    } else if word == "board" {
+        Ok(Job::Board(plan_files(alloc, "board", later)?))
     } else if word == "gen" {
         Ok(Job::Gen(gen_job(alloc, later)?))
     } else if word == "trial" {

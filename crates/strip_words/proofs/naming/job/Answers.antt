@@ -5,7 +5,7 @@ use Rattle.strip_words.specs.Solve.{NameSolve}
 use Rattle.strip_words.specs.Films.{NameFilmFile}
 use Rattle.strip_words.specs.Plans.{NamePlanFiles}
 use Rattle.strip_words.specs.Gen.{NameGen, NameTrial}
-use Rattle.strip_words.specs.Jobs.{Solve, Price, Arrange, Check, Convert, Dood, Sheet, Gen, Trial}
+use Rattle.strip_words.specs.Jobs.{Solve, Price, Arrange, Check, Convert, Dood, Sheet, Board, Gen, Trial}
 use Rattle.strip_words.specs.Shown.{gen_data, plan_files_data, solve_data, texts, trial_data}
 use Rattle.strip_words.proofs.Results.{err_from}
 use Rattle.strip_words.proofs.Shows.{texts_begin}
@@ -69,11 +69,19 @@ returns-in_err-plan_files-5-clause-bad c = err_from c.from_residual-in_err-plan_
     none_of (texts c.args.words.now) later (codes "sheet") begins Sheet (λ job is. is) (λ files names. c.in_err-plan_files-5.ensures.bad (sym given ∙ is) files
     (subst (λ ws. NamePlanFiles (codes "sheet") ws files) begins names)))
 
+pub returns-in_err-plan_files-6-clause-bad : goal.returns-in_err-plan_files-6-clause-bad
+returns-in_err-plan_files-6-clause-bad c = err_from c.from_residual-in_err-plan_files-6.result _ _ c.from_residual-in_err-plan_files-6.ensures.1 (λ e given is.
+    let later = texts (take (length c.args.words.now - 1) (drop 1 c.args.words.now)) in
+    let begins = texts_begin c.args.words.now c.word-item.result (codes "board") c.in-len1-up.len_at_least c.word-item.is
+    (sym c.as_str-word.ensures.value ∙ (bytes_eq-Decides c.as_str-word.result.now (codes "board")).0 (sym c.eq-else-eq-7.ensures ∙ c.if-eq-8.true)) in
+    none_of (texts c.args.words.now) later (codes "board") begins Board (λ job is. is) (λ files names. c.in_err-plan_files-6.ensures.bad (sym given ∙ is) files
+    (subst (λ ws. NamePlanFiles (codes "board") ws files) begins names)))
+
 pub returns-in_err-gen_job-clause-bad : goal.returns-in_err-gen_job-clause-bad
 returns-in_err-gen_job-clause-bad c = err_from c.from_residual-in_err-gen_job.result _ _ c.from_residual-in_err-gen_job.ensures.1 (λ e given is.
     let later = texts (take (length c.args.words.now - 1) (drop 1 c.args.words.now)) in
     let begins = texts_begin c.args.words.now c.word-item.result (codes "gen") c.in-len1-up.len_at_least c.word-item.is
-    (sym c.as_str-word.ensures.value ∙ (bytes_eq-Decides c.as_str-word.result.now (codes "gen")).0 (sym c.eq-else-eq-7.ensures ∙ c.if-eq-8.true)) in
+    (sym c.as_str-word.ensures.value ∙ (bytes_eq-Decides c.as_str-word.result.now (codes "gen")).0 (sym c.eq-else-eq-8.ensures ∙ c.if-eq-9.true)) in
     none_of (texts c.args.words.now) later (codes "gen") begins Gen (λ job is. is) (λ film names. c.in_err-gen_job.ensures.bad (sym given ∙ is) film
     (subst (λ ws. NameGen ws film) begins names)))
 
@@ -81,7 +89,7 @@ pub returns-in_err-trial_job-clause-bad : goal.returns-in_err-trial_job-clause-b
 returns-in_err-trial_job-clause-bad c = err_from c.from_residual-in_err-trial_job.result _ _ c.from_residual-in_err-trial_job.ensures.1 (λ e given is.
     let later = texts (take (length c.args.words.now - 1) (drop 1 c.args.words.now)) in
     let begins = texts_begin c.args.words.now c.word-item.result (codes "trial") c.in-len1-up.len_at_least c.word-item.is
-    (sym c.as_str-word.ensures.value ∙ (bytes_eq-Decides c.as_str-word.result.now (codes "trial")).0 (sym c.eq-else-eq-8.ensures ∙ c.if-eq-9.true)) in
+    (sym c.as_str-word.ensures.value ∙ (bytes_eq-Decides c.as_str-word.result.now (codes "trial")).0 (sym c.eq-else-eq-9.ensures ∙ c.if-eq-10.true)) in
     none_of (texts c.args.words.now) later (codes "trial") begins Trial (λ job is. is) (λ job names. c.in_err-trial_job.ensures.bad (sym given ∙ is) job
     (subst (λ ws. NameTrial ws job) begins names)))
 
@@ -127,23 +135,29 @@ returns-in_ok-plan_files-5-clause-named c =
     (sym c.as_str-word.ensures.value ∙ (bytes_eq-Decides c.as_str-word.result.now (codes "sheet")).0 (sym c.eq-else-eq-6.ensures ∙ c.if-eq-7.true)) in
     subst (λ ws. NamePlanFiles (codes "sheet") ws (plan_files_data c.in_ok-plan_files-5.field-0)) (sym begins) c.in_ok-plan_files-5.ensures.named
 
+pub returns-in_ok-plan_files-6-clause-named : goal.returns-in_ok-plan_files-6-clause-named
+returns-in_ok-plan_files-6-clause-named c =
+    let begins = texts_begin c.args.words.now c.word-item.result (codes "board") c.in-len1-up.len_at_least c.word-item.is
+    (sym c.as_str-word.ensures.value ∙ (bytes_eq-Decides c.as_str-word.result.now (codes "board")).0 (sym c.eq-else-eq-7.ensures ∙ c.if-eq-8.true)) in
+    subst (λ ws. NamePlanFiles (codes "board") ws (plan_files_data c.in_ok-plan_files-6.field-0)) (sym begins) c.in_ok-plan_files-6.ensures.named
+
 pub returns-in_ok-gen_job-clause-named : goal.returns-in_ok-gen_job-clause-named
 returns-in_ok-gen_job-clause-named c =
     let begins = texts_begin c.args.words.now c.word-item.result (codes "gen") c.in-len1-up.len_at_least c.word-item.is
-    (sym c.as_str-word.ensures.value ∙ (bytes_eq-Decides c.as_str-word.result.now (codes "gen")).0 (sym c.eq-else-eq-7.ensures ∙ c.if-eq-8.true)) in
+    (sym c.as_str-word.ensures.value ∙ (bytes_eq-Decides c.as_str-word.result.now (codes "gen")).0 (sym c.eq-else-eq-8.ensures ∙ c.if-eq-9.true)) in
     subst (λ ws. NameGen ws (gen_data c.in_ok-gen_job.field-0)) (sym begins) c.in_ok-gen_job.ensures.named
 
 pub returns-in_ok-trial_job-clause-named : goal.returns-in_ok-trial_job-clause-named
 returns-in_ok-trial_job-clause-named c =
     let begins = texts_begin c.args.words.now c.word-item.result (codes "trial") c.in-len1-up.len_at_least c.word-item.is
-    (sym c.as_str-word.ensures.value ∙ (bytes_eq-Decides c.as_str-word.result.now (codes "trial")).0 (sym c.eq-else-eq-8.ensures ∙ c.if-eq-9.true)) in
+    (sym c.as_str-word.ensures.value ∙ (bytes_eq-Decides c.as_str-word.result.now (codes "trial")).0 (sym c.eq-else-eq-9.ensures ∙ c.if-eq-10.true)) in
     subst (λ ws. NameTrial ws (trial_data c.in_ok-trial_job.field-0)) (sym begins) c.in_ok-trial_job.ensures.named
 
 pub returns-in_default-clause-bad : goal.returns-in_default-clause-bad
 returns-in_default-clause-bad c = λ _. no_words (texts c.args.words.now) (ap texts (nil_from_length c.args.words.now (omega arith)))
 
-pub returns-else-eq-9-clause-bad : goal.returns-else-eq-9-clause-bad
-returns-else-eq-9-clause-bad c = λ _.
+pub returns-else-eq-10-clause-bad : goal.returns-else-eq-10-clause-bad
+returns-else-eq-10-clause-bad c = λ _.
     let later = texts (take (length c.args.words.now - 1) (drop 1 c.args.words.now)) in
     let word = c.as_str-word.result.now in
     let begins = texts_begin c.args.words.now c.word-item.result word c.in-len1-up.len_at_least c.word-item.is (sym c.as_str-word.ensures.value) in
@@ -155,5 +169,6 @@ returns-else-eq-9-clause-bad c = λ _.
     (differ word (codes "convert") (sym c.eq-else-eq-4.ensures ∙ c.if-eq-5.false))
     (differ word (codes "dood") (sym c.eq-else-eq-5.ensures ∙ c.if-eq-6.false))
     (differ word (codes "sheet") (sym c.eq-else-eq-6.ensures ∙ c.if-eq-7.false))
-    (differ word (codes "gen") (sym c.eq-else-eq-7.ensures ∙ c.if-eq-8.false))
-    (differ word (codes "trial") (sym c.eq-else-eq-8.ensures ∙ c.if-eq-9.false))
+    (differ word (codes "board") (sym c.eq-else-eq-7.ensures ∙ c.if-eq-8.false))
+    (differ word (codes "gen") (sym c.eq-else-eq-8.ensures ∙ c.if-eq-9.false))
+    (differ word (codes "trial") (sym c.eq-else-eq-9.ensures ∙ c.if-eq-10.false))
