@@ -140,7 +140,7 @@ module _ (q : ℕ → Bool) (days casts : ℕ → ℕ) where
       ∙ ap (λ (n : ℕ). cond {A = ℕ} (q (casts scene)) (days scene) 0 + n) (worked_days later)
       ∙ sym (sum_by-cons (λ scene. cond {A = ℕ} (q (casts scene)) (days scene) 0) scene later)
 
-  any_days : (scenes : List ℕ) → All (λ scene. 0 < days scene) scenes → list_any q (all_days scenes) ≡ list_any (λ scene. q (casts scene)) scenes
+  pub any_days : (scenes : List ℕ) → All (λ scene. 0 < days scene) scenes → list_any q (all_days scenes) ≡ list_any (λ scene. q (casts scene)) scenes
   any_days [] some = refl
   any_days (scene ∷ later) some = by_days (days scene) (All-head (λ scene. 0 < days scene) scene later some)
       ∙ ap (λ (b : Bool). q (casts scene) || b) (any_days later (All-tail (λ scene. 0 < days scene) scene later some))

@@ -7,5 +7,5 @@ pub mod Paid
 mod Below
 mod Places
 mod Walk
-mod Total
+pub mod Total
 mod Added

@@ -26,7 +26,7 @@ actor_pay film order actor some =
     ∙ sym (paid_days (works film actor) (slice_index film.days) (slice_index film.rates actor) (slice_index film.holds actor) false order)
     ∙ paid_after-new (works film actor) (day_pay film actor) order
 
-some_days : (inst : InstanceData) (order : List ℕ) → IsInstance inst → IsOrder (length inst.scenes) order
+pub some_days : (inst : InstanceData) (order : List ℕ) → IsInstance inst → IsOrder (length inst.scenes) order
     → All (λ scene. 0 < slice_index (film_of inst).days scene) order
 some_days inst order is is_order k d lt =
     let scene = get_or order k d in

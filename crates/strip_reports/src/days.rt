@@ -46,7 +46,7 @@ impl Code {
 }
 
 /// For each day of the order, who works on it.
-pub(crate) fn crews(alloc: Global, inst: &Instance, order: &[u16]) -> Result<Vec<u64>, Memory>
+pub fn crews(alloc: Global, inst: &Instance, order: &[u16]) -> Result<Vec<u64>, Memory>
     requires { IsOrder (length inst.now.scenes) order.now }
     ensures crews { IfOk result (λ crews. crews.items ≡ crews_of (film_of inst.now) order.now) }
     ensures few { IfOk result (λ crews. length crews.items ≤ 19800) }
@@ -70,7 +70,7 @@ fn push_days(crews: &mut Vec<u64>, cast: u64, days: u64) -> Result<(), Memory>
 }
 
 /// How many days the actor works on.
-pub(crate) fn work_days(crews: &[u64], actor: u32) -> u64
+pub fn work_days(crews: &[u64], actor: u32) -> u64
     requires few { length crews.now ≤ 19800 }
     requires actor { actor < 64 }
     ensures { result ≡ work_days crews.now actor }
@@ -83,7 +83,7 @@ pub(crate) fn work_days(crews: &[u64], actor: u32) -> u64
 }
 
 /// How many days the actor waits on, who works on `work` days.
-pub(crate) fn hold_days(crews: &[u64], actor: u32, work: u64) -> u64
+pub fn hold_days(crews: &[u64], actor: u32, work: u64) -> u64
     requires few { length crews.now ≤ 19800 }
     requires actor { actor < 64 }
     requires work { work ≡ work_days crews.now actor }

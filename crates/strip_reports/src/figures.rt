@@ -12,7 +12,7 @@ use strip_model::Instance;
 
 /// What the sheet says of a scene of the order.
 #[derive(Clone, Copy)]
-pub(crate) struct Figures {
+pub struct Figures {
     /// Its first day, counted from 1 through the order.
     pub first: u64,
     /// Its last day, counted likewise.
@@ -28,7 +28,7 @@ pub(crate) struct Figures {
 
 /// What the sheet says of the scene at this place of the order. One turn for each scene of it and
 /// for each actor.
-pub(crate) fn figures_at(inst: &Instance, order: &[u16], place: usize) -> Figures
+pub fn figures_at(inst: &Instance, order: &[u16], place: usize) -> Figures
     requires order { All (λ scene. scene < length inst.now.scenes) order.now }
     requires short { length order.now ≤ 200 }
     requires place { place < length order.now }
@@ -51,7 +51,7 @@ pub(crate) fn figures_at(inst: &Instance, order: &[u16], place: usize) -> Figure
 }
 
 /// The days of these scenes. One turn for each of them.
-pub(crate) fn days_of(inst: &Instance, scenes: &[u16]) -> u64
+pub fn days_of(inst: &Instance, scenes: &[u16]) -> u64
     requires scenes { All (λ scene. scene < length inst.now.scenes) scenes.now }
     requires short { length scenes.now ≤ 200 }
     ensures days { result ≡ days_of (film_of inst.now) scenes.now }
@@ -73,7 +73,7 @@ fn days_in(inst: &Instance, scene: u16) -> u64
 }
 
 /// Who works in the scene, as a set of actor numbers.
-fn cast_of(inst: &Instance, scene: u16) -> Mask
+pub fn cast_of(inst: &Instance, scene: u16) -> Mask
     requires { scene < length inst.now.scenes }
     ensures cast { (actor : ℕ) → has result.0 actor ≡ works (film_of inst.now) actor scene }
     ensures lies { LiesBelow (length inst.now.actors) result.0 }
@@ -96,7 +96,7 @@ fn cast_among(inst: &Instance, scenes: &[u16]) -> Mask
 
 /// Who is held at this place of the order: he works in a scene before it and in one behind it, and
 /// not in the scene there.
-fn held_at(inst: &Instance, order: &[u16], place: usize) -> Mask
+pub fn held_at(inst: &Instance, order: &[u16], place: usize) -> Mask
     requires order { All (λ scene. scene < length inst.now.scenes) order.now }
     requires place { place < length order.now }
     ensures held { (actor : ℕ) → has result.0 actor ≡ is_held (film_of inst.now) order.now place actor }

@@ -7,3 +7,6 @@ mod figures;
 pub mod laws;
 pub mod sheet;
 mod sums;
+
+pub use days::{crews, hold_days, work_days};
+pub use figures::{Figures, cast_of, days_of, figures_at, held_at};
