@@ -1,0 +1,246 @@
+// The table of the actors.
+ghost use Rattle.std.specs.Prelude.{◌≡◌, ◌+◌, ◌*◌, ◌++◌, ◌<◌, ◌≤◌, length, map, position, reverse, IfOk, IfSome, OnOk};
+ghost use Rattle.std.specs.List.{range_with_len};
+ghost use Rattle.strip_mask.specs.Set.{has};
+ghost use Rattle.strip_pay.specs.Order.{IsOrder};
+ghost use Rattle.strip_model.specs.Film.{film_of};
+ghost use Rattle.strip_board.specs.Html.{begin_text, row_text, rows_text};
+ghost use Rattle.strip_board.specs.Actors.{actor_cells, actor_heads, actors_part, actors_table, earned_by, earned_by_all, first_day, last_day, total_cells};
+
+use crate::html::{Cell, begin_table, begin_totals, end_table, push_row};
+use std::alloc::Global;
+use strip_io::Memory;
+use strip_mask::Mask;
+use strip_model::Instance;
+use strip_reports::{crews, hold_days, work_days};
+
+/// What the days of an actor, or of all, come to.
+#[derive(Clone, Copy)]
+struct Earned {
+    /// How many days he works on.
+    worked: u64,
+    /// What he gets for them, in units of money.
+    work_pay: u64,
+    /// How many days he is held on.
+    held: u64,
+    /// What he gets for them.
+    hold_pay: u64,
+}
+
+/// Appends the table of the actors, if there are any.
+pub(crate) fn push_actors(
+    alloc: Global,
+    page: &mut Vec<u8>,
+    inst: &Instance,
+    order: &[u16],
+) -> Result<(), Memory>
+    requires { IsOrder (length inst.now.scenes) order.now }
+    ensures { OnOk result (page.new.items ≡ page.old.items ++ actors_part inst.now order.now) }
+{
+    if inst.actors().is_empty() {
+        return Ok(());
+    }
+    let crews = crews(alloc, inst, order)?;
+    page.extend_from_slice(b"<h2>Actors</h2>\n")?;
+    push_table(alloc, page, inst, &crews)
+}
+
+fn push_table(
+    alloc: Global,
+    page: &mut Vec<u8>,
+    inst: &Instance,
+    crews: &[u64],
+) -> Result<(), Memory>
+    requires { length crews.now ≤ 19800 }
+    ensures { OnOk result (page.new.items ≡ page.old.items ++ actors_table inst.now crews.now) }
+{
+    push_heads(alloc, page)?;
+    let total = push_rows(alloc, page, inst, crews)?;
+    begin_totals(page)?;
+    push_total(alloc, page, total)?;
+    end_table(page)
+}
+
+/// Begins the table with the heads of its columns.
+fn push_heads(alloc: Global, page: &mut Vec<u8>) -> Result<(), Memory>
+    ensures { OnOk result (page.new.items ≡ page.old.items ++ begin_text actor_heads) }
+{
+    begin_table(
+        alloc,
+        page,
+        &[
+            Cell::Word(b"Actor"),
+            Cell::Word(b"First"),
+            Cell::Word(b"Last"),
+            Cell::Word(b"Days worked"),
+            Cell::Word(b"Rate"),
+            Cell::Word(b"Pay for work"),
+            Cell::Word(b"Days held"),
+            Cell::Word(b"Hold rate"),
+            Cell::Word(b"Pay for holding"),
+            Cell::Word(b"Pay"),
+        ],
+    )
+}
+
+/// Appends the rows of the actors, and answers what their days come to together.
+fn push_rows(
+    alloc: Global,
+    page: &mut Vec<u8>,
+    inst: &Instance,
+    crews: &[u64],
+) -> Result<Earned, Memory>
+    requires { length crews.now ≤ 19800 }
+    ensures rows { OnOk result (page.new.items ≡ page.old.items
+        ++ rows_text (map (actor_cells inst.now crews.now) (range_with_len 0 (length inst.now.actors)))) }
+    ensures sums { IfOk result (λ total. total ≡ earned_by_all (film_of inst.now) crews.now) }
+    ensures small { IfOk result (λ total. total.work_pay + total.hold_pay ≤ 64 * (19800 * 2_000_000_000)) }
+{
+    let mut total = Earned {
+        worked: 0,
+        work_pay: 0,
+        held: 0,
+        hold_pay: 0,
+    };
+    for actor in 0..inst.actors().len() {
+        let earned = earned_by(inst, crews, actor);
+        push_actor(alloc, page, inst, crews, actor, earned)?;
+        total = plus(total, earned);
+    }
+    Ok(total)
+}
+
+/// What the actor's days come to.
+fn earned_by(inst: &Instance, crews: &[u64], actor: usize) -> Earned
+    requires few { length crews.now ≤ 19800 }
+    requires actor { actor < length inst.now.actors }
+    ensures earned { result ≡ earned_by (film_of inst.now) crews.now actor }
+    ensures worked { result.worked ≤ 19800 }
+    ensures work_pay { result.work_pay ≤ 19800 * 1_000_000_000 }
+    ensures held { result.held ≤ 19800 }
+    ensures hold_pay { result.hold_pay ≤ 19800 * 1_000_000_000 }
+{
+    let known = &inst.actors()[actor];
+    let worked = work_days(crews, actor as u32);
+    let held = hold_days(crews, actor as u32, worked);
+    Earned {
+        worked,
+        work_pay: known.rate * worked,
+        held,
+        hold_pay: known.hold * held,
+    }
+}
+
+fn plus(a: Earned, b: Earned) -> Earned
+    requires worked { a.worked + b.worked ≤ 64 * 19800 }
+    requires work_pay { a.work_pay + b.work_pay ≤ 64 * (19800 * 1_000_000_000) }
+    requires held { a.held + b.held ≤ 64 * 19800 }
+    requires hold_pay { a.hold_pay + b.hold_pay ≤ 64 * (19800 * 1_000_000_000) }
+    ensures { result ≡ record { worked = a.worked + b.worked; work_pay = a.work_pay + b.work_pay; held = a.held + b.held; hold_pay = a.hold_pay + b.hold_pay } }
+{
+    Earned {
+        worked: a.worked + b.worked,
+        work_pay: a.work_pay + b.work_pay,
+        held: a.held + b.held,
+        hold_pay: a.hold_pay + b.hold_pay,
+    }
+}
+
+/// Appends the row of the actor.
+fn push_actor(
+    alloc: Global,
+    page: &mut Vec<u8>,
+    inst: &Instance,
+    crews: &[u64],
+    actor: usize,
+    earned: Earned,
+) -> Result<(), Memory>
+    requires few { length crews.now ≤ 19800 }
+    requires actor { actor < length inst.now.actors }
+    requires earned { earned ≡ earned_by (film_of inst.now) crews.now actor }
+    requires small { earned.work_pay + earned.hold_pay ≤ 19800 * 2_000_000_000 }
+    ensures { OnOk result (page.new.items ≡ page.old.items ++ row_text (actor_cells inst.now crews.now actor)) }
+{
+    let known = &inst.actors()[actor];
+    push_row(
+        alloc,
+        page,
+        &[
+            Cell::Name(known.name.as_bytes()),
+            Cell::Number(first_day(crews, actor as u32)),
+            Cell::Number(last_day(crews, actor as u32)),
+            Cell::Number(earned.worked),
+            Cell::Number(known.rate),
+            Cell::Number(earned.work_pay),
+            Cell::Number(earned.held),
+            Cell::Number(known.hold),
+            Cell::Number(earned.hold_pay),
+            Cell::Number(earned.work_pay + earned.hold_pay),
+        ],
+    )
+}
+
+/// Appends the row of what all actors get.
+fn push_total(alloc: Global, page: &mut Vec<u8>, total: Earned) -> Result<(), Memory>
+    requires { total.work_pay + total.hold_pay ≤ 64 * (19800 * 2_000_000_000) }
+    ensures { OnOk result (page.new.items ≡ page.old.items ++ row_text (total_cells total)) }
+{
+    push_row(
+        alloc,
+        page,
+        &[
+            Cell::Word(b"Total"),
+            Cell::Empty,
+            Cell::Empty,
+            Cell::Number(total.worked),
+            Cell::Empty,
+            Cell::Number(total.work_pay),
+            Cell::Number(total.held),
+            Cell::Empty,
+            Cell::Number(total.hold_pay),
+            Cell::Number(total.work_pay + total.hold_pay),
+        ],
+    )
+}
+
+/// The first day on which the actor works, counted from 1; 0 if he works on none.
+fn first_day(crews: &[u64], actor: u32) -> u64
+    requires few { length crews.now ≤ 19800 }
+    requires actor { actor < 64 }
+    ensures { result ≡ first_day crews.now actor }
+{
+    match place_from_front(crews, actor) {
+        Some(place) => place as u64 + 1,
+        None => 0,
+    }
+}
+
+/// The last day on which the actor works, counted from 1; 0 if he works on none.
+fn last_day(crews: &[u64], actor: u32) -> u64
+    requires few { length crews.now ≤ 19800 }
+    requires actor { actor < 64 }
+    ensures { result ≡ last_day crews.now actor }
+{
+    match place_from_end(crews, actor) {
+        Some(place) => (crews.len() - place) as u64,
+        None => 0,
+    }
+}
+
+/// How many days there are before the first on which the actor works.
+fn place_from_front(crews: &[u64], actor: u32) -> Option<usize>
+    requires { actor < 64 }
+    ensures place { result ≡ position (λ crew. has crew actor) crews.now }
+    ensures within { IfSome result (λ place. place < length crews.now) }
+{
+    crews.iter().position(|crew| Mask(*crew).has(actor))
+}
+
+/// How many days there are behind the last on which the actor works.
+fn place_from_end(crews: &[u64], actor: u32) -> Option<usize>
+    requires { actor < 64 }
+    ensures place { result ≡ position (λ crew. has crew actor) (reverse crews.now) }
+    ensures within { IfSome result (λ place. place < length crews.now) }
+{
+    crews.iter().rev().position(|crew| Mask(*crew).has(actor))
+}

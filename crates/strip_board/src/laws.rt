@@ -1,0 +1,49 @@
+//! Laws of the definitions. Each function does nothing: its contract is the law.
+ghost use Rattle.std.specs.Prelude.{◌≡◌, ◌↔◌, ℕ, ◌+◌, ◌<◌, ◌≤◌, true, List, All, drop, length, slice_index, take};
+ghost use Rattle.strip_pay.specs.declared.pair.Pair.{Pair};
+ghost use Rattle.strip_pay.specs.Order.{IsOrder, KeepsPair};
+ghost use Rattle.strip_pay.specs.Pairs.{IsKnownPair};
+ghost use Rattle.strip_pay.specs.Pay.{pay_of, works};
+ghost use Rattle.strip_model.specs.Data.{InstanceData, IsInstance};
+ghost use Rattle.strip_model.specs.Film.{film_of};
+ghost use Rattle.strip_reports.specs.Days.{crews_of, days_of, is_held, scene_at, waits_on, works_on};
+ghost use Rattle.strip_reports.specs.Sheet.{total_pay};
+ghost use Rattle.strip_board.specs.Actors.{earned_by_all};
+ghost use Rattle.strip_board.specs.Board.{breaks};
+ghost use Rattle.strip_board.specs.Html.{escaped};
+ghost use Rattle.strip_board.specs.Shown.{BeginsEntity, IsNoMarkup, shown};
+
+/// A name in a page begins and ends no tag and no value of an attribute: none of the bytes of its text is one of
+/// `<`, `>`, `"` and `'`, and each `&` begins an entity. The page shows the name itself, so different names look different.
+pub fn names_are_text_alone()
+    ensures markup { (name : List ℕ) → All IsNoMarkup (escaped name) }
+    ensures entities { (name : List ℕ) (place : ℕ) → slice_index (escaped name) place ≡ 38
+        → BeginsEntity (drop place (escaped name)) }
+    ensures shown { (name : List ℕ) → shown (escaped name) ≡ name }
+{}
+
+/// The totals of both tables are what the order pays.
+pub fn both_totals_are_the_pay()
+    ensures scenes { (inst : InstanceData) (order : List ℕ) → total_pay (film_of inst) order ≡ pay_of (film_of inst) order }
+    ensures actors { (inst : InstanceData) (order : List ℕ) → IsInstance inst → IsOrder (length inst.scenes) order
+        → (earned_by_all (film_of inst) (crews_of (film_of inst) order)).work_pay
+        + (earned_by_all (film_of inst) (crews_of (film_of inst) order)).hold_pay ≡ pay_of (film_of inst) order }
+{}
+
+/// The marks of a scene are those of each of its days in the Day Out of Days report.
+pub fn marks_are_those_of_the_days()
+    ensures works { (inst : InstanceData) (order : List ℕ) (place day actor : ℕ) → IsInstance inst
+        → IsOrder (length inst.scenes) order → place < length order
+        → days_of (film_of inst) (take place order) ≤ day → day < days_of (film_of inst) (take (place + 1) order)
+        → works_on (crews_of (film_of inst) order) actor day ≡ works (film_of inst) actor (scene_at order place) }
+    ensures held { (inst : InstanceData) (order : List ℕ) (place day actor : ℕ) → IsInstance inst
+        → IsOrder (length inst.scenes) order → place < length order
+        → days_of (film_of inst) (take place order) ≤ day → day < days_of (film_of inst) (take (place + 1) order)
+        → waits_on (crews_of (film_of inst) order) actor day ≡ is_held (film_of inst) order place actor }
+{}
+
+/// A page warns of exactly the pairs that the order breaks.
+pub fn warnings_are_of_broken_pairs()
+    ensures { (n : ℕ) (order : List ℕ) (pair : Pair) → IsOrder n order → IsKnownPair n pair
+        → (breaks order pair ≡ true) ↔ (¬ KeepsPair order pair) }
+{}
