@@ -10,7 +10,7 @@ use Rattle.strip_words.specs.Words.{Word}
 use Rattle.strip_words.specs.Solve.{SolveData}
 use Rattle.strip_words.specs.Plans.{PlanFilesData}
 use Rattle.strip_words.specs.Gen.{GenData, TrialData}
-use Rattle.strip_words.specs.Jobs.{JobData, Solve, Price, Arrange, Check, Convert, Dood, Sheet, Gen, Trial, NameJob}
+use Rattle.strip_words.specs.Jobs.{JobData, Solve, Price, Arrange, Check, Convert, Dood, Sheet, Board, Gen, Trial, NameJob}
 use Rattle.strip_proof.specs.declared.plan.Status.{Status as PlanStatus}
 use Rattle.strip_proof.specs.declared.plan.Status.TheVariants.{Optimal, Bounded as CutShort}
 use Rattle.strip_proof.specs.Plan.{PlanData}
@@ -30,6 +30,7 @@ use Rattle.strip_commands.specs.Convert.{IsConvertDue, IsConvertFit, IsConverted
 use Rattle.strip_commands.specs.Ordered.{HasOrder, IsOrderFit, IsOrderUnfit}
 use Rattle.strip_commands.specs.Report.{IsReported, Report}
 use Rattle.strip_commands.specs.Arrange.{IsArranged}
+use Rattle.strip_commands.specs.Board.{IsPageOrNone}
 use Rattle.strip_commands.specs.Made.{IsGenDue, IsTrialDue, IsTried, made_of}
 use Rattle.strip_commands.specs.Due.{IsDueFor, IsFitFor, IsFitStatus, IsUnfitFor, board_claims}
 use Rattle.strip_commands.proofs.Films.{film_answers, film_told, film_unfit}
@@ -118,6 +119,10 @@ arranged_ends : (inst : InstanceData) (plan : PlanData) (status : Status) (print
 arranged_ends inst plan status printed (inl is) = inl (is.is_order, is.done)
 arranged_ends inst plan status printed (inr none) = inr (none.no_order, none.refused)
 
+page_ends : (inst : InstanceData) (plan : PlanData) (status : Status) (printed : List ℕ) → IsPageOrNone inst plan status printed → EndsByOrder inst plan status
+page_ends inst plan status printed (inl is) = inl (is.is_order, is.done)
+page_ends inst plan status printed (inr none) = inr (none.no_order, none.refused)
+
 module _ (Due : InstanceData → PlanData → Status → List ℕ → Type 0)
     (ends : (inst : InstanceData) (plan : PlanData) (status : Status) (printed : List ℕ) → Due inst plan status printed → EndsByOrder inst plan status)
     (files : PlanFilesData) (before after : FilesData) (status : Status) (printed : List ℕ)
@@ -181,6 +186,7 @@ job_answers (Check files) before after status printed due = audit_answers files 
 job_answers (Convert files) before after status printed due = convert_answers files before after status printed due
 job_answers (Dood files) before after status printed due = order_answers dood_due (reported_ends dood_text) files before after status printed due
 job_answers (Sheet files) before after status printed due = order_answers sheet_due (reported_ends sheet_text) files before after status printed due
+job_answers (Board files) before after status printed due = order_answers IsPageOrNone page_ends files before after status printed due
 job_answers (Gen film) before after status printed due = gen_answers film status printed due
 job_answers (Trial job) before after status printed due = trial_answers job status printed due
 
@@ -193,6 +199,7 @@ job_fit (Check files) before after status printed fit due = audit_fit files befo
 job_fit (Convert files) before after status printed fit due = convert_fit files before after status printed due fit
 job_fit (Dood files) before after status printed fit due = order_fit dood_due (reported_ends dood_text) files before after status printed due fit
 job_fit (Sheet files) before after status printed fit due = order_fit sheet_due (reported_ends sheet_text) files before after status printed due fit
+job_fit (Board files) before after status printed fit due = order_fit IsPageOrNone page_ends files before after status printed due fit
 job_fit (Gen film) before after status printed fit due = due.done
 job_fit (Trial job) before after status printed fit due = tried_ends job status printed (due.tried fit)
 
@@ -205,6 +212,7 @@ job_unfit (Check files) before after status why printed unfit due = audit_unfit 
 job_unfit (Convert files) before after status why printed unfit due = convert_unfit files before after status printed due why unfit
 job_unfit (Dood files) before after status why printed unfit due = order_unfit dood_due (reported_ends dood_text) files before after status printed due why unfit
 job_unfit (Sheet files) before after status why printed unfit due = order_unfit sheet_due (reported_ends sheet_text) files before after status printed due why unfit
+job_unfit (Board files) before after status why printed unfit due = order_unfit IsPageOrNone page_ends files before after status printed due why unfit
 job_unfit (Gen film) before after status why printed unfit due = absurd unfit
 job_unfit (Trial job) before after status why printed unfit due = (due.too_many unfit.0).0 ∙ sym unfit.1
 

@@ -5,7 +5,7 @@ use Rattle.strip_reduce.specs.Reduction.{class_count}
 use Rattle.strip_reports.specs.Text.{dood_text}
 use Rattle.strip_reports.specs.Sheet.{sheet_text}
 use Rattle.strip_words.specs.Gen.{IsSized}
-use Rattle.strip_words.specs.Jobs.{JobData, Solve, Price, Arrange, Check, Convert, Dood, Sheet, Gen, Trial, NameJob}
+use Rattle.strip_words.specs.Jobs.{JobData, Solve, Price, Arrange, Check, Convert, Dood, Sheet, Board, Gen, Trial, NameJob}
 use Rattle.strip_answer.specs.declared.status.Status.{Status}
 use Rattle.strip_answer.specs.declared.status.Status.TheVariants.{Done, Bounded, BadInstance}
 use Rattle.strip_answer.specs.Claims.{Claims}
@@ -20,6 +20,7 @@ use Rattle.strip_commands.specs.Convert.{IsConvertDue, IsConvertFit}
 use Rattle.strip_commands.specs.Ordered.{IsOrderFit, IsOrderUnfit}
 use Rattle.strip_commands.specs.Report.{IsReportDue}
 use Rattle.strip_commands.specs.Arrange.{IsArrangeDue}
+use Rattle.strip_commands.specs.Board.{IsBoardDue}
 use Rattle.strip_commands.specs.Made.{IsGenDue, IsTrialDue, made_of}
 
 -- the job asks for this file, by what the files tell
@@ -31,6 +32,7 @@ IsFileOf (Check files) told file = IsEither files.film files.plan told file
 IsFileOf (Convert files) told file = IsEither files.film files.plan told file
 IsFileOf (Dood files) told file = IsEither files.film files.plan told file
 IsFileOf (Sheet files) told file = IsEither files.film files.plan told file
+IsFileOf (Board files) told file = IsEither files.film files.plan told file
 IsFileOf (Gen film) told file = ⊥
 IsFileOf (Trial job) told file = ⊥
 
@@ -46,6 +48,7 @@ IsWithin (Check files) = Unit {0}
 IsWithin (Convert files) = Unit {0}
 IsWithin (Dood files) = Unit {0}
 IsWithin (Sheet files) = Unit {0}
+IsWithin (Board files) = Unit {0}
 IsWithin (Gen film) = IsSized film
 IsWithin (Trial job) =
     IsSized job.film × (1 ≤ job.nodes) × (job.nodes ≤ 16777216) × (64 ≤ job.table) × (job.table ≤ 4194304)
@@ -60,6 +63,7 @@ IsDueFor (Check files) before after status printed = IsAuditDue files before aft
 IsDueFor (Convert files) before after status printed = IsConvertDue files before after status printed
 IsDueFor (Dood files) before after status printed = IsReportDue dood_text files before after status printed
 IsDueFor (Sheet files) before after status printed = IsReportDue sheet_text files before after status printed
+IsDueFor (Board files) before after status printed = IsBoardDue files before after status printed
 IsDueFor (Gen film) before after status printed = IsGenDue film status printed
 IsDueFor (Trial job) before after status printed = IsTrialDue job status printed
 
@@ -72,6 +76,7 @@ IsFitFor (Check files) told = IsAuditFit files told
 IsFitFor (Convert files) told = IsConvertFit files told
 IsFitFor (Dood files) told = IsOrderFit files told
 IsFitFor (Sheet files) told = IsOrderFit files told
+IsFitFor (Board files) told = IsOrderFit files told
 IsFitFor (Gen film) told = Unit {0}
 IsFitFor (Trial job) told = class_count (film_of (made_of job.film)) ≤ 64
 
@@ -83,6 +88,7 @@ IsFitStatus (Check files) status = IsAuditStatus status
 IsFitStatus (Convert files) status = status ≡ Done
 IsFitStatus (Dood files) status = status ≡ Done
 IsFitStatus (Sheet files) status = status ≡ Done
+IsFitStatus (Board files) status = status ≡ Done
 IsFitStatus (Gen film) status = status ≡ Done
 IsFitStatus (Trial job) status = (status ≡ Done) ⊎ (status ≡ Bounded)
 
@@ -95,6 +101,7 @@ IsUnfitFor (Check files) told why = IsAuditUnfit files told why
 IsUnfitFor (Convert files) told why = AreUnfit files.film files.plan told why
 IsUnfitFor (Dood files) told why = IsOrderUnfit files told why
 IsUnfitFor (Sheet files) told why = IsOrderUnfit files told why
+IsUnfitFor (Board files) told why = IsOrderUnfit files told why
 IsUnfitFor (Gen film) told why = ⊥
 IsUnfitFor (Trial job) told why = (64 < class_count (film_of (made_of job.film))) × (why ≡ BadInstance)
 

@@ -6,6 +6,7 @@ pub mod Convert
 pub mod Ordered
 pub mod Report
 pub mod Arrange
+pub mod Board
 pub mod Made
 pub mod Due
 pub mod Solver

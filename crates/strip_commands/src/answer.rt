@@ -8,6 +8,7 @@ ghost use Rattle.strip_commands.specs.Due.{IsDueFor, IsFileOf, IsWithin, board_c
 ghost use Rattle.strip_commands.specs.Solver.{Solves};
 
 use crate::arrange::ArrangeJob;
+use crate::board::BoardJob;
 use crate::convert::ConvertJob;
 use crate::making::{print_film, try_film};
 use crate::pricing::price_film;
@@ -70,6 +71,7 @@ fn answer_job<V: Fn(&Instance, SearchOptions, Option<u32>) -> Result<Plan, Reduc
         Job::Convert(names) => answer_plan::<ConvertJob, F>(alloc, files, names),
         Job::Dood(names) => answer_plan::<DoodJob, F>(alloc, files, names),
         Job::Sheet(names) => answer_plan::<SheetJob, F>(alloc, files, names),
+        Job::Board(names) => answer_plan::<BoardJob, F>(alloc, files, names),
         Job::Gen(film) => Ok(print_film(alloc, film)?),
         Job::Trial(job) => Ok(try_film(alloc, solver, job)?),
     }

@@ -3,6 +3,7 @@
 
 mod answer;
 mod arrange;
+mod board;
 mod convert;
 mod making;
 mod pricing;

@@ -1,6 +1,6 @@
 -- Words that ask that it be told how a search gets on.
 use Rattle.std.specs.Prelude.{◌≡◌, Bool, true, false, List}
-use Rattle.strip_words.specs.Jobs.{JobData, Solve, Price, Arrange, Check, Convert, Dood, Sheet, Gen, Trial}
+use Rattle.strip_words.specs.Jobs.{JobData, Solve, Price, Arrange, Check, Convert, Dood, Sheet, Board, Gen, Trial}
 use Rattle.strip_words.specs.Solve.{NameSolve, SolveData}
 use Rattle.strip_words.specs.Words.{Word}
 
@@ -17,5 +17,6 @@ is_told (Check files) = false
 is_told (Convert files) = false
 is_told (Dood files) = false
 is_told (Sheet files) = false
+is_told (Board files) = false
 is_told (Gen film) = false
 is_told (Trial job) = false

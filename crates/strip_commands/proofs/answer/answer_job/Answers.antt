@@ -25,3 +25,6 @@ returns-in-Dood-clause-files g c = stays_for _ _ _ _ _ c.in-Dood.is c.answer_pla
 
 pub returns-in-Sheet-clause-files : goal.returns-in-Sheet-clause-files
 returns-in-Sheet-clause-files g c = stays_for _ _ _ _ _ c.in-Sheet.is c.answer_plan-in-Sheet.ensures.files
+
+pub returns-in-Board-clause-files : goal.returns-in-Board-clause-files
+returns-in-Board-clause-files g c = stays_for _ _ _ _ _ c.in-Board.is c.answer_plan-in-Board.ensures.files

@@ -1,5 +1,5 @@
 use Rattle.std.proofs.Common.{◌≡◌, ◌↔◌, Bool, true, false, List, ap, sym, ◌∙◌}
-use Rattle.strip_words.specs.Jobs.{JobData, NameJob, NameNoJob, Solve, Price, Arrange, Check, Convert, Dood, Sheet, Gen, Trial}
+use Rattle.strip_words.specs.Jobs.{JobData, NameJob, NameNoJob, Solve, Price, Arrange, Check, Convert, Dood, Sheet, Board, Gen, Trial}
 use Rattle.strip_words.specs.Shown.{job_data, texts}
 use Rattle.strip_words.specs.Words.{Word}
 use Rattle.strip_program.specs.Asking.{AskForProgress, is_told}
@@ -14,6 +14,7 @@ asks words (Check files) names told = absurd (let e : false ≡ true = told in c
 asks words (Convert files) names told = absurd (let e : false ≡ true = told in cc)
 asks words (Dood files) names told = absurd (let e : false ≡ true = told in cc)
 asks words (Sheet files) names told = absurd (let e : false ≡ true = told in cc)
+asks words (Board files) names told = absurd (let e : false ≡ true = told in cc)
 asks words (Gen film) names told = absurd (let e : false ≡ true = told in cc)
 asks words (Trial job) names told = absurd (let e : false ≡ true = told in cc)
 

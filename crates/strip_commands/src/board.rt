@@ -1,0 +1,38 @@
+// The command `board`.
+ghost use Rattle.std.specs.Prelude.{IfOk};
+ghost use Rattle.strip_proof.specs.Plan.{plan_data};
+ghost use Rattle.strip_answer.specs.Ending.{answer_text};
+ghost use Rattle.strip_commands.specs.Board.{IsPageOrNone};
+
+use crate::reports::{printed, refused};
+use std::alloc::Global;
+use strip_answer::Answer;
+use strip_check::Reason;
+use strip_inputs::PlanJob;
+use strip_io::Memory;
+use strip_model::{Instance, is_order};
+use strip_proof::Plan;
+
+/// The page of the plan's order, or that it is no order.
+pub(crate) struct BoardJob;
+
+impl PlanJob for BoardJob {
+    ghost use Rattle.strip_commands.specs.Board.{IsPageOrNone};
+
+    ghost Due = { IsPageOrNone };
+
+    fn answer(alloc: Global, inst: &Instance, plan: Plan) -> Result<Answer, Memory> {
+        page_of(alloc, inst, &plan)
+    }
+}
+
+/// The answer to an instance and a plan.
+fn page_of(alloc: Global, inst: &Instance, plan: &Plan) -> Result<Answer, Memory>
+    ensures { IfOk result (λ answer. IsPageOrNone inst.now (plan_data plan.now) answer.status (answer_text answer)) }
+{
+    if !is_order(inst, &plan.order) {
+        return refused(alloc, Reason::NotAnOrder);
+    }
+    let page = strip_board::board(alloc, inst, plan)?;
+    Ok(printed(alloc, page))
+}
