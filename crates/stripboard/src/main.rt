@@ -1,9 +1,12 @@
 //! Prints the shooting order of a film that costs least.
 #![tactic(auto)]
 
+mod asking;
+mod outcome;
+
+use crate::outcome::run;
 use std::process::ExitCode;
 use strip_host::{Host, exit_code};
-use strip_program::run;
 
 fn main(rt: HostRuntime) -> ExitCode {
     match Host::of(&rt) {

@@ -1,8 +1,13 @@
 //! Runs cases, and tells which of them differ from what they want.
 #![tactic(auto)]
 
+mod files;
+mod judging;
+mod outcome;
+mod running;
+
+use crate::outcome::run;
 use std::process::ExitCode;
-use strip_case_runs::run;
 use strip_host::{Host, exit_code};
 
 fn main(rt: HostRuntime) -> ExitCode {

@@ -1,8 +1,10 @@
 //! Tells whether a plan's lines justify its bound.
 #![tactic(auto)]
 
+mod outcome;
+
+use crate::outcome::run;
 use std::process::ExitCode;
-use strip_check_program::run;
 use strip_host::{Host, exit_code};
 
 fn main(rt: HostRuntime) -> ExitCode {

@@ -1,6 +1,0 @@
-use Rattle.std.proofs.Common.{take}
-use Rattle.strip_case_runs.specs.Runs.{InTurn, IsDone}
-use Rattle.strip_case_runs.proofs.running.do_all.Given as goal
-
-abbrev pub invariant-loop-action : goal.invariant-loop-action
-invariant-loop-action g l = InTurn IsDone (take l.action-index l.actions) l.fn.files.items l.files.items
