@@ -8,13 +8,13 @@ ghost use Rattle.strip_lines.specs.Lines.{known, least_step, rules_of};
 ghost use Rattle.strip_memo.specs.Memo.{IsMemo};
 ghost use Rattle.strip_check.specs.Reasons.{by_lines, justified};
 
-use strip_best::Best;
 use strip_bound::StoredBound;
 use strip_film::{Film, on, step, step_with};
 use strip_kind::Kind;
 use strip_mask::Mask;
 use strip_memo::Memo;
 use strip_rule::{open_firsts, open_firsts_with};
+use strip_trim::Best;
 
 /// Whether the lines justify a bound for a set: its static bound decides, or else a step and what is known
 /// of the rest for each open first. Where static bounds are dear, the steps come first.

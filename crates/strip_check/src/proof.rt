@@ -13,7 +13,6 @@ ghost use Rattle.strip_check.specs.Reasons.{bound_checks, end_checks, is_right, 
 use crate::justify::{is_justified, justified, known};
 use crate::verdict::Reason;
 use std::alloc::Global;
-use strip_best::Best;
 use strip_bound::{BoundTables, StoredBound, static_reach};
 use strip_film::{Film, Line};
 use strip_io::Memory;
@@ -21,6 +20,7 @@ use strip_mask::Mask;
 use strip_memo::Memo;
 use strip_proof::{Plan, Status};
 use strip_reduce::Reduced;
+use strip_trim::Best;
 
 /// The first reason against the plan's lines, its bound and its status.
 pub(crate) fn against_proof(

@@ -4,7 +4,7 @@ use Rattle.strip_model.specs.Data.{InstanceData}
 use Rattle.strip_model.specs.Film.{film_of}
 use Rattle.strip_reduce.specs.Reduction.{class_count}
 use Rattle.strip_instance.specs.Text.{HasReadableNames, says}
-use Rattle.strip_canonical.specs.Canonical.{canonical_text}
+use Rattle.strip_instance.specs.Canonical.{canonical_text}
 use Rattle.strip_proof.specs.Plan.{PlanData}
 use Rattle.strip_solve.specs.Solved.{IsSolved}
 use Rattle.strip_words.specs.Gen.{GenData, TrialData}

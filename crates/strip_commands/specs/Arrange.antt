@@ -5,8 +5,8 @@ use Rattle.strip_pay.specs.Pay.{pay_of}
 use Rattle.strip_model.specs.Data.{InstanceData}
 use Rattle.strip_model.specs.Film.{film_of}
 use Rattle.strip_instance.specs.Text.{says}
-use Rattle.strip_canonical.specs.Arranged.{arranged}
-use Rattle.strip_canonical.specs.Canonical.{canonical_text}
+use Rattle.strip_instance.specs.Arranged.{arranged}
+use Rattle.strip_instance.specs.Canonical.{canonical_text}
 use Rattle.strip_solve.specs.Own.{own_order}
 use Rattle.strip_words.specs.Plans.{PlanFilesData}
 use Rattle.strip_answer.specs.declared.status.Status.{Status}

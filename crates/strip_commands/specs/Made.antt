@@ -6,7 +6,7 @@ use Rattle.strip_model.specs.Film.{film_of}
 use Rattle.strip_reduce.specs.Reduction.{class_count}
 use Rattle.strip_text.specs.Rows.{csv_row}
 use Rattle.strip_instance.specs.Text.{says}
-use Rattle.strip_canonical.specs.Canonical.{canonical_text}
+use Rattle.strip_instance.specs.Canonical.{canonical_text}
 use Rattle.strip_gen.specs.Made.{generated}
 use Rattle.strip_proof.specs.Plan.{PlanData}
 use Rattle.strip_proof.specs.Rows.{status_word}

@@ -1,3 +1,7 @@
+pub mod Canonical
+pub mod Arranged
+pub mod Steps
+pub mod Ways
 pub mod Field
 pub mod Fault
 pub mod Parts

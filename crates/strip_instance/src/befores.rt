@@ -13,11 +13,11 @@ ghost use Rattle.strip_instance.specs.Faults.{before_checks, befores_checks, way
 ghost use Rattle.strip_instance.specs.Shown.{names_of, rows_from};
 
 use crate::fault::InstanceFault;
+use crate::laws::the_shortest_way_is_one;
 use crate::names::scene_number;
 use crate::row::{is_before_row, next_row};
+use crate::way::shortest_way;
 use std::alloc::Global;
-use strip_cycle::laws::the_shortest_way_is_one;
-use strip_cycle::shortest_way;
 use strip_io::Memory;
 use strip_model::Scene;
 use strip_pay::{Befores, Pair};

@@ -1,15 +1,19 @@
 //! Laws of the definitions. Each function does nothing: its contract is the law.
-ghost use Rattle.std.specs.Prelude.{◌≡◌, ◌≢◌, ◌↔◌, ℕ, List, [], slice_index_or, None, Some, Ok, Err};
-ghost use Rattle.strip_mask.specs.Set.{has};
+ghost use Rattle.std.specs.Prelude.{◌≡◌, ◌≢◌, ◌↔◌, ℕ, List, [], slice_index_or, None, Some, Ok, Err, length};
+ghost use Rattle.strip_mask.specs.Set.{has, numbers_below};
 ghost use Rattle.strip_pay.specs.declared.pair.Pair.{Pair};
 ghost use Rattle.strip_pay.specs.Pairs.{FitPairs, Leads};
-ghost use Rattle.strip_cycle.specs.Ways.{IsShortestWay};
+ghost use Rattle.strip_instance.specs.Ways.{IsShortestWay};
 ghost use Rattle.strip_model.specs.Data.{InstanceData, IsInstance};
 ghost use Rattle.strip_text.specs.Field.{Field};
 ghost use Rattle.strip_instance.specs.Befores.{shortest_way};
 ghost use Rattle.strip_instance.specs.Fault.{Memory};
 ghost use Rattle.strip_instance.specs.Field.{is_work_mark};
 ghost use Rattle.strip_instance.specs.Text.{HasReadableNames, cast_of_marks, says};
+ghost use Rattle.strip_pay.specs.Order.{IsOrder};
+ghost use Rattle.strip_pay.specs.Pay.{pay_of};
+ghost use Rattle.strip_model.specs.Film.{film_of};
+ghost use Rattle.strip_instance.specs.Arranged.{arranged};
 
 /// An instance that a text says keeps the limits of instances.
 pub fn what_is_said_keeps_the_limits()
@@ -41,4 +45,20 @@ pub fn the_shortest_way_is_found()
         → shortest_way n pairs from to ≡ Some way → IsShortestWay pairs from to way }
     ensures none { (n : ℕ) (pairs : List Pair) (from to : ℕ) → FitPairs n pairs → from ≢ to
         → (shortest_way n pairs from to ≡ None) ↔ (¬ Leads pairs from to) }
+{}
+
+/// There is at most one shortest way, so its definition fixes it.
+pub fn the_shortest_way_is_one()
+    ensures { (pairs : List Pair) (from to : ℕ) (a b : List ℕ) → IsShortestWay pairs from to a
+        → IsShortestWay pairs from to b → a ≡ b }
+{}
+
+/// An instance whose scenes are numbered by another order keeps the limits, and its scenes pay by their new
+/// numbers what that order pays.
+pub fn an_arranged_instance_pays_the_same()
+    ensures limits { (inst : InstanceData) (order : List ℕ) → IsInstance inst → IsOrder (length inst.scenes) order
+        → IsInstance (arranged inst order) }
+    ensures pay { (inst : InstanceData) (order : List ℕ) → IsOrder (length inst.scenes) order
+        → pay_of (film_of (arranged inst order)) (numbers_below (length (film_of (arranged inst order)).casts))
+        ≡ pay_of (film_of inst) order }
 {}

@@ -7,7 +7,7 @@ use Rattle.strip_pay.proofs.Lists.{contains_none}
 use Rattle.strip_film.specs.declared.shared.Line.{Line}
 use Rattle.strip_film.specs.Rules.{Rules}
 use Rattle.strip_film.specs.Shoot.{step_cost}
-use Rattle.strip_best.specs.Best.{best_bound}
+use Rattle.strip_trim.specs.Best.{best_bound}
 use Rattle.strip_trim.specs.Marks.{Follows, IsBestOf, MarksMore}
 use Rattle.strip_trim.proofs.Marking.{marked_none}
 

@@ -4,9 +4,9 @@ use Rattle.std.proofs.lemmas.Bool.{cases_eq, cases_lt}
 use Rattle.std.proofs.lemmas.List.{get_or_default, get_or-map, length-map}
 use Rattle.strip_film.specs.declared.shared.Line.{Line}
 use Rattle.strip_lines.specs.Lines.{line_at}
-use Rattle.strip_best.specs.declared.best.BestLine.{BestLine}
-use Rattle.strip_best.specs.Best.{AreBestLines, IsBestLine, IsPlaceOf, best_at, best_bound, no_best, sets_of}
-use Rattle.strip_best.proofs.Known.{bound_best, bound_none}
+use Rattle.strip_trim.specs.declared.best.BestLine.{BestLine}
+use Rattle.strip_trim.specs.Best.{AreBestLines, IsBestLine, IsPlaceOf, best_at, best_bound, no_best, sets_of}
+use Rattle.strip_trim.proofs.BestKnown.{bound_best, bound_none}
 use Rattle.strip_trim.specs.Marks.{IsBestOf}
 
 -- ---- a set has a best line where a line has it

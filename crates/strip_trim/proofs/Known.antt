@@ -10,8 +10,8 @@ use Rattle.strip_film.specs.Rules.{Rules}
 use Rattle.strip_film.specs.Shoot.{step_cost}
 use Rattle.strip_lines.specs.Lines.{AreJustified, IsJustified, known, line_at, no_line}
 use Rattle.strip_lines.proofs.Grown.{known-static}
-use Rattle.strip_best.specs.Best.{best_bound}
-use Rattle.strip_best.proofs.Known.{bound_least, bound_line, bound_none, known_best}
+use Rattle.strip_trim.specs.Best.{best_bound}
+use Rattle.strip_trim.proofs.BestKnown.{bound_least, bound_line, bound_none, known_best}
 use Rattle.strip_trim.specs.Trimmed.{AreTrimmed, LeadsOn, Reached, Stays}
 use Rattle.strip_trim.proofs.Found.{best_or_none, bound_at}
 use Rattle.strip_trim.proofs.Reached.{reached_on}

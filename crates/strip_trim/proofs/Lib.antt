@@ -1,3 +1,8 @@
+pub mod BestKnown
+pub mod Placed
+pub mod Sorted
+pub mod First
+pub mod BestFound
 pub mod Found
 pub mod Marking
 pub mod Followers

@@ -3,8 +3,8 @@ use Rattle.std.proofs.Common.{◌≡◌, ℕ, ◌<◌, Bool, true, false, List, 
 use Rattle.std.proofs.lemmas.Bool.{cases_eq}
 use Rattle.std.proofs.lemmas.List.{get_or-set_same, get_or-set_other}
 use Rattle.strip_film.specs.declared.shared.Line.{Line}
-use Rattle.strip_best.specs.declared.best.BestLine.{BestLine}
-use Rattle.strip_best.specs.Best.{AreBestLines, IsPlaceOf, best_at, no_best}
+use Rattle.strip_trim.specs.declared.best.BestLine.{BestLine}
+use Rattle.strip_trim.specs.Best.{AreBestLines, IsPlaceOf, best_at, no_best}
 use Rattle.strip_trim.specs.Marks.{IsBestOf, MarksMore, is_marked}
 use Rattle.strip_trim.proofs.Found.{best_of_entry, no_entry, one_best}
 

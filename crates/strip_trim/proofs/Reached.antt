@@ -10,8 +10,8 @@ use Rattle.strip_film.specs.Finish.{rest_after}
 use Rattle.strip_film.specs.Rules.{Rules}
 use Rattle.strip_film.proofs.Lists.{rest_after-append}
 use Rattle.strip_lines.specs.Lines.{line_at}
-use Rattle.strip_best.specs.declared.best.BestLine.{BestLine}
-use Rattle.strip_best.specs.Best.{AreBestLines, IsBestLine, best_at, no_best, sets_of}
+use Rattle.strip_trim.specs.declared.best.BestLine.{BestLine}
+use Rattle.strip_trim.specs.Best.{AreBestLines, IsBestLine, best_at, no_best, sets_of}
 use Rattle.strip_trim.specs.Marks.{AreMarked, Follows, IsBestOf, MarksMore, is_marked}
 use Rattle.strip_trim.specs.Trimmed.{Leads, LeadsOn, Reached, Stays}
 use Rattle.strip_trim.proofs.Found.{best_of_entry, best_of_some, entry_of}

@@ -8,7 +8,7 @@ use Rattle.strip_film.specs.Finish.{rest_after}
 use Rattle.strip_film.specs.Rules.{Rules}
 use Rattle.strip_film.specs.Shoot.{step_cost}
 use Rattle.strip_lines.specs.Lines.{line_at}
-use Rattle.strip_best.specs.Best.{IsBestLine, best_bound}
+use Rattle.strip_trim.specs.Best.{IsBestLine, best_bound}
 
 -- the best line of the set leads on to what remains after the scene: its bound is above the static one, and above
 -- the step with the static bound of what then remains; and the scene is one of the firsts

@@ -1,10 +1,12 @@
 //! Laws of the definitions. Each function does nothing: its contract is the law.
-ghost use Rattle.std.specs.Prelude.{◌≡◌, ℕ, ◌≤◌, Bool, List, length, count_by};
+ghost use Rattle.std.specs.Prelude.{◌≡◌, ℕ, ◌≤◌, Bool, List, length, count_by, max};
 ghost use Rattle.strip_film.specs.declared.shared.Line.{Line};
 ghost use Rattle.strip_film.specs.Film.{all_scenes};
 ghost use Rattle.strip_film.specs.Rules.{Rules};
 ghost use Rattle.strip_lines.specs.Lines.{AreJustified, known};
 ghost use Rattle.strip_trim.specs.Trimmed.{AreTrimmed, Reached};
+ghost use Rattle.strip_trim.specs.declared.best.BestLine.{BestLine};
+ghost use Rattle.strip_trim.specs.Best.{IsBestLine, best_bound};
 
 /// A trimmed list of a justified one is justified, and makes the same known of the whole set, and of
 /// each set that is reached.
@@ -26,4 +28,16 @@ pub fn a_trimmed_list_is_no_longer()
         → length trimmed ≤ length lines }
     ensures each { (rules : Rules) (lines trimmed : List Line) (test : Line → Bool) → AreTrimmed rules lines trimmed
         → count_by test trimmed ≤ count_by test lines }
+{}
+
+/// What lines make known of a set is the greater of its static bound and the greatest bound of the
+/// lines with this set.
+pub fn what_is_known_is_by_the_best()
+    ensures { (rules : Rules) (lines : List Line) (set : ℕ)
+        → known rules lines set ≡ max (rules.bound set) (best_bound lines set) }
+{}
+
+/// The best line of a set has the greatest bound of the lines with this set.
+pub fn the_best_line_has_the_greatest_bound()
+    ensures { (lines : List Line) (best : BestLine) → IsBestLine lines best → best.bound ≡ best_bound lines best.set }
 {}

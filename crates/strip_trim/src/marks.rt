@@ -5,11 +5,11 @@ ghost use Rattle.strip_bound.specs.Bounds.{bound};
 ghost use Rattle.strip_bound.specs.StoredBound.{Keeps};
 ghost use Rattle.strip_lines.specs.Lines.{AreJustified, rules_of};
 ghost use Rattle.strip_memo.specs.Memo.{IsMemo};
-ghost use Rattle.strip_best.specs.Best.{best_bound};
+ghost use Rattle.strip_trim.specs.Best.{best_bound};
 ghost use Rattle.strip_trim.specs.Marks.{AreMarked, Follows, IsBestOf, MarksMore, is_marked};
 
+use crate::{Best, BestLine};
 use std::alloc::Global;
-use strip_best::{Best, BestLine};
 use strip_bound::StoredBound;
 use strip_film::step;
 use strip_io::Memory;

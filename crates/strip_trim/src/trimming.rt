@@ -6,9 +6,9 @@ ghost use Rattle.strip_memo.specs.Memo.{IsMemo};
 ghost use Rattle.strip_trim.specs.Marks.{marked_lines};
 ghost use Rattle.strip_trim.specs.Trimmed.{AreTrimmed};
 
+use crate::Best;
 use crate::marks::marks_of;
 use std::alloc::Global;
-use strip_best::Best;
 use strip_bound::StoredBound;
 use strip_film::Line;
 use strip_io::Memory;

@@ -1,7 +1,7 @@
 // The best line of each set.
 use std::test::Fail;
-use strip_best::Best;
 use strip_film::Line;
+use strip_trim::Best;
 
 #[test]
 fn keeps_the_first_of_the_greatest_of_each_set(rt: HostRuntime) -> Result<(), Fail> {

@@ -1,8 +1,7 @@
 // Canonical texts, worked by hand and by another program from the rules of the format.
 use std::alloc::Global;
 use std::test::Fail;
-use strip_canonical::write_instance;
-use strip_instance::read_instance;
+use strip_instance::{read_instance, write_instance};
 use strip_model::{Actor, Instance, Pair, Scene};
 
 // Texts, and the canonical texts of what they say.

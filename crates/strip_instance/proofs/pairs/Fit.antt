@@ -9,7 +9,7 @@ use Rattle.strip_pay.specs.Pairs.{FitPairs, IsChain, IsKnownPair, Leads}
 use Rattle.strip_pay.proofs.Fits.{fit-push}
 use Rattle.strip_pay.proofs.Leads.{no_chain}
 use Rattle.strip_pay.proofs.Lists.{any_from, any_is}
-use Rattle.strip_cycle.specs.Ways.{IsShortestWay, IsWay}
+use Rattle.strip_instance.specs.Ways.{IsShortestWay, IsWay}
 use Rattle.strip_model.specs.declared.scene.Scene.{Scene}
 use Rattle.strip_model.specs.Data.{SceneData}
 use Rattle.strip_model.specs.Instance.{scene_data}

@@ -10,7 +10,7 @@ use Rattle.strip_pay.specs.Pairs.{HasCycle, IsChain, IsKnownPair, Precedes}
 use Rattle.strip_pay.proofs.Before.{before-itself, before_trans}
 use Rattle.strip_pay.proofs.Chains.{cycle_from_long}
 use Rattle.strip_pay.proofs.Lists.{any_from, any_is}
-use Rattle.strip_cycle.specs.Ways.{IsShortestWay, IsWay}
+use Rattle.strip_instance.specs.Ways.{IsShortestWay, IsWay}
 use Rattle.strip_instance.specs.Befores.{first_below, least_way, precedes, same_pair, shortest_way}
 
 -- ---- the first answer

@@ -1,8 +1,8 @@
 use Rattle.std.proofs.Common.{◌≡◌, ◌↔◌, ◌≤◌, true, leb, refl, subst, sym, arith}
 use Rattle.strip_bound.specs.Bounds.{bound}
 use Rattle.strip_lines.specs.Lines.{known, rules_of}
-use Rattle.strip_best.specs.Best.{best_bound}
-use Rattle.strip_best.proofs.Known.{known_best}
+use Rattle.strip_trim.specs.Best.{best_bound}
+use Rattle.strip_trim.proofs.BestKnown.{known_best}
 use Rattle.strip_check.proofs.Known.{by_line, by_static}
 use Rattle.strip_check.proofs.justify.is_known.Goals as goal
 

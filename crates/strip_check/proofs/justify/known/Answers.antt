@@ -1,6 +1,6 @@
 use Rattle.std.proofs.Common.{arith}
 use Rattle.strip_lines.specs.Lines.{rules_of}
-use Rattle.strip_best.proofs.Known.{known_best}
+use Rattle.strip_trim.proofs.BestKnown.{known_best}
 use Rattle.strip_check.proofs.justify.known.Goals as goal
 
 pub returns : goal.returns

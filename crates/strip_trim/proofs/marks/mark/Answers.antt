@@ -1,6 +1,6 @@
 use Rattle.std.proofs.Common.{ap, List}
-use Rattle.strip_best.specs.declared.best.BestLine.{BestLine}
-use Rattle.strip_best.specs.Best.{best_at}
+use Rattle.strip_trim.specs.declared.best.BestLine.{BestLine}
+use Rattle.strip_trim.specs.Best.{best_at}
 use Rattle.strip_trim.proofs.Marking.{mark_absent, mark_found}
 use Rattle.strip_trim.proofs.marks.mark.Goals as goal
 

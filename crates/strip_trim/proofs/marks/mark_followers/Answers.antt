@@ -11,7 +11,7 @@ use Rattle.strip_bound.specs.Bounds.{bound}
 use Rattle.strip_lines.specs.Lines.{rules_of}
 use Rattle.strip_rule.specs.Rule.{open_firsts}
 use Rattle.strip_rule.proofs.Firsts.{first_there, firsts_set}
-use Rattle.strip_best.specs.Best.{best_bound}
+use Rattle.strip_trim.specs.Best.{best_bound}
 use Rattle.strip_trim.specs.Marks.{IsBestOf, MarksMore}
 use Rattle.strip_trim.proofs.Firsts.{short_from, short_to}
 use Rattle.strip_trim.proofs.Followers.{follows_all, follows_if, follows_none}

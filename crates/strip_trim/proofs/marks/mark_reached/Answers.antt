@@ -3,8 +3,8 @@ use Rattle.strip_pay.specs.Film.{FilmData}
 use Rattle.strip_film.specs.Film.{all_scenes}
 use Rattle.strip_rule.proofs.Firsts.{first_there}
 use Rattle.strip_lines.specs.Lines.{rules_of}
-use Rattle.strip_best.specs.declared.best.BestLine.{BestLine}
-use Rattle.strip_best.proofs.Known.{bound_best}
+use Rattle.strip_trim.specs.declared.best.BestLine.{BestLine}
+use Rattle.strip_trim.proofs.BestKnown.{bound_best}
 use Rattle.strip_trim.specs.Marks.{IsBestOf, MarksMore}
 use Rattle.strip_trim.proofs.Firsts.{without_less}
 use Rattle.strip_trim.proofs.Reached.{IsUnderWay, best_now, ended, passed, passed_by, started}

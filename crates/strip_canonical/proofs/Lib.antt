@@ -1,6 +1,0 @@
-mod Marks
-mod Places
-mod Arranged
-mod Paid
-mod back
-mod Examples

@@ -1,5 +1,0 @@
-pub mod Ways
-pub mod Nearer
-pub mod Closer
-pub mod Least
-pub mod Examples

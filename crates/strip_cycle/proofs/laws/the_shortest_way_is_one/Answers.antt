@@ -1,5 +1,0 @@
-use Rattle.strip_cycle.proofs.Ways.{shortest_once}
-use Rattle.strip_cycle.proofs.laws.the_shortest_way_is_one.Goals as goal
-
-pub returns : goal.returns
-returns c = shortest_once

@@ -1,5 +1,0 @@
-use Rattle.strip_cycle.proofs.Closer.{AreNear}
-use Rattle.strip_cycle.proofs.way.steps_to.Given as goal
-
-abbrev pub invariant-loop-pass : goal.invariant-loop-pass
-invariant-loop-pass l = AreNear l.pairs l.to l._pass l.steps

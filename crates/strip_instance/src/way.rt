@@ -1,0 +1,114 @@
+// The shortest way along pairs.
+ghost use Rattle.std.specs.Prelude.{◌≡◌, ◌≢◌, ℕ, ◌<◌, ◌≤◌, All, IsTrue, IfOk, MatchOption, ◌⊎◌, ◌↔◌, ◌+◌, false, slice_index};
+ghost use Rattle.strip_instance.specs.Steps.{AreSteps, CameCloser, IsLeastNearer, Nears};
+ghost use Rattle.strip_instance.specs.Ways.{IsShortestWay};
+ghost use Rattle.strip_pay.specs.Pairs.{IsKnownPair, Leads};
+
+use std::alloc::Global;
+use strip_io::Memory;
+use strip_pay::{MAX_SCENES, Pair};
+
+/// As many steps as no shortest way has.
+const FAR: u16 = MAX_SCENES as u16;
+
+/// The shortest list of scenes that begins with `from`, ends with `to`, and has each scene before the
+/// next by one of the pairs; of those with as many scenes the first one by the scenes' numbers. The
+/// pairs are of two different scenes below 200 each, and lead from `from` to `to`, which is another
+/// scene. It takes time with the number of pairs times that of scenes, and fails only where memory runs
+/// out.
+pub(crate) fn shortest_way(
+    alloc: Global,
+    pairs: &[Pair],
+    from: u16,
+    to: u16,
+) -> Result<Vec<u16>, Memory>
+    requires known { All (IsKnownPair 200) pairs.now }
+    requires apart { from ≢ to }
+    requires leads { Leads pairs.now from to }
+    ensures { IfOk result (λ way. IsShortestWay pairs.now from to way.items) }
+{
+    let steps = steps_to(pairs, to);
+    let mut way = Vec::new(alloc);
+    let mut scene = from;
+    way.push(scene)?;
+    while let Some(next) = next_scene(pairs, &steps, scene) {
+        way.push(next)?;
+        scene = next;
+    }
+    Ok(way)
+}
+
+/// How many steps along pairs each scene is from the last one, at least; `FAR` where there is no way.
+fn steps_to(pairs: &[Pair], to: u16) -> [u16; MAX_SCENES]
+    requires known { All (IsKnownPair 200) pairs.now }
+    requires to { to < 200 }
+    ensures { AreSteps pairs.now to result }
+{
+    let mut steps = [FAR; MAX_SCENES];
+    steps[to as usize] = 0;
+    for _pass in 0..MAX_SCENES {
+        if !come_closer(pairs, &mut steps) {
+            return steps;
+        }
+    }
+    steps
+}
+
+/// Lowers the steps of each pair's first scene to one more than those of its other, and answers whether
+/// some were lowered.
+fn come_closer(pairs: &[Pair], steps: &mut [u16; MAX_SCENES]) -> bool
+    requires known { All (IsKnownPair 200) pairs.now }
+    requires small { All (λ count. count ≤ 200) steps.old }
+    ensures closer { CameCloser pairs.now steps.old steps.new }
+    ensures settled { result ≡ false → steps.new ≡ steps.old }
+{
+    let mut closer = false;
+    for pair in pairs {
+        let count = steps[pair.then as usize] + 1;
+        if count < steps[pair.first as usize] {
+            steps[pair.first as usize] = count;
+            closer = true;
+        }
+    }
+    closer
+}
+
+/// The least scene that a pair puts behind this one and that is a step nearer; none where there is none.
+fn next_scene(pairs: &[Pair], steps: &[u16; MAX_SCENES], scene: u16) -> Option<u16>
+    requires known { All (IsKnownPair 200) pairs.now }
+    requires scene { scene < 200 }
+    requires small { All (λ count. count ≤ 200) steps.now }
+    ensures { MatchOption result ((other : ℕ) → ¬ Nears pairs.now steps.now scene other)
+        (IsLeastNearer pairs.now steps.now scene) }
+{
+    let mut next = None;
+    for pair in pairs {
+        if nears(pair, steps, scene) {
+            next = Some(lesser(pair.then, next));
+        }
+    }
+    next
+}
+
+/// Whether the pair leads from the scene to one that is a step nearer.
+fn nears(pair: &Pair, steps: &[u16; MAX_SCENES], scene: u16) -> bool
+    requires pair { IsKnownPair 200 pair.now }
+    requires scene { scene < 200 }
+    requires small { All (λ count. count ≤ 200) steps.now }
+    ensures { IsTrue result ↔ ((pair.now.first ≡ scene)
+        × (slice_index steps.now pair.now.then + 1 ≡ slice_index steps.now scene)) }
+{
+    pair.first == scene && steps[pair.then as usize] + 1 == steps[scene as usize]
+}
+
+/// The lesser of a scene and the one so far.
+fn lesser(scene: u16, other: Option<u16>) -> u16
+    ensures least { result ≤ scene }
+    ensures among { MatchOption other (result ≡ scene) (λ least. (result ≤ least)
+        × ((result ≡ scene) ⊎ (result ≡ least))) }
+{
+    match other {
+        Some(least) => scene.min(least),
+        None => scene,
+    }
+}
