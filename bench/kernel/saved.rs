@@ -9,16 +9,17 @@
 //! `pass`: the new number of a set is the most of the old one and, for each place p of it,
 //! new(set \ p) + h * days(set \ p) - the sum over classes of extra(set) * (days(set) - days(set \ p)).
 //!
-//! | row           | days   | begins as                                    | extra on days         |
-//! |---------------|--------|----------------------------------------------|-----------------------|
-//! | over          | D      | never for the empty set, else 0              |                       |
-//! | 1 stays       | D + D1 | over                                         | x1 on D               |
-//! | both, 1 first | all    | max(1 stays, 2 stays + h1 * D2 - x2 * D1)    | x12 on D and x2 on D1 |
-//! | result        | all    | both, 1 first - h1 * D2, or the other order  |                       |
+//! | row           | days         | begins as                                                 | extra on days              |
+//! |---------------|--------------|-----------------------------------------------------------|----------------------------|
+//! | over          | free         | never for the empty set, else 0                           |                            |
+//! | A stays       | free and A's | over                                                      | A's on free                |
+//! | both, A first | all          | max(A stays, B stays + hold of A * B's - B's extra * A's) | both's on free, B's on A's |
+//! | result        | all          | both, A first - hold of A * B's, or the other order       |                            |
 //!
-//! D is the days of no newcomer, D1, D2 and D12 those of newcomer 1 alone, 2 alone and both. With m for what absent
-//! mates get, x1 = min(h1, m1), x2 = min(h2, m2), x12 = min(h1 + x2, m12). The workspace has days of groups, 10 of 128
-//! numbers or 1 of 1,024 in the same room; 1,024 numbers for counting, 0 between uses; 13 tables of up to 1,024.
+//! A and B are the newcomers. Free are the days of scenes without them, A's those with A and not B. A's extra is the
+//! lesser of his hold rate and what his absent mates get; that of both, of A's hold rate with B's extra and what absent
+//! mates of both get. The workspace has days of groups, 10 of 128 numbers or 1 of 1,024 in the same room; 1,024 numbers
+//! for counting, 0 between uses; 13 tables of up to 1,024.
 
 use crate::film::{Bits, Film};
 use crate::lanes::{get, lanes, put, u32x4};
