@@ -1,8 +1,8 @@
 -- The least by what happens next to newcomers, stage by stage.
-use Rattle.std.proofs.Common.{◌≡◌, ◌≢◌, ℕ, ◌+◌, ◌^◌, ◌<◌, ◌≤◌, ◌⊎◌, Bool, true, false, not, ◌&&◌, ◌||◌, cond, eqb, min, List, [], ◌∷◌, Contains, filter, refl, sym, ap, ◌∙◌, subst, inl, inr, arith}
-use Rattle.std.proofs.lemmas.Bool.{cases_eq, eq-eqb, false≢true, false_from_ne_true, ne_eqb, cases_Bool}
-use Rattle.strip_mask.specs.Set.{IsSet, has, minus, size, with, without}
-use Rattle.strip_mask.proofs.ByMembers.{IsSet-empty, IsSet-with, below_width, empty_from, has-empty, has-minus, has-with, has-with_other, has-with_same, has-without, has_from_with, same_has, empty_has}
+use Rattle.std.proofs.Common.{◌≡◌, ◌≢◌, ℕ, ◌+◌, ◌^◌, ◌<◌, ◌≤◌, ◌⊎◌, Bool, true, false, not, ◌&&◌, cond, eqb, min, List, [], ◌∷◌, Contains, filter, refl, sym, ap, ◌∙◌, subst, inl, inr, arith}
+use Rattle.std.proofs.lemmas.Bool.{cases_eq, eq-eqb, false≢true, false_from_ne_true, ne_eqb}
+use Rattle.strip_mask.specs.Set.{IsSet, has, minus, size, with}
+use Rattle.strip_mask.proofs.ByMembers.{below_width, empty_from, has-empty, has-minus, has-with_same, same_has, empty_has}
 use Rattle.strip_group.specs.Group.{GroupData}
 use Rattle.strip_group.specs.Places.{actor_at, pick}
 use Rattle.strip_arrivals.specs.Arrivals.{Event, IsOver, StateData, after, allowed, comes, events, goes, is_allowed, leaves}
@@ -11,38 +11,11 @@ use Rattle.strip_arrivals.specs.Gross.{IsBest, IsGross, gross_charge}
 use Rattle.strip_mask.proofs.Lists.{contains_here, contains_later, contains_cases, contains_none}
 use Rattle.strip_arrivals.proofs.Lists.{contains_from_filter}
 use Rattle.strip_group.proofs.Places.{actor_there, has_pick, pick-empty}
-use Rattle.strip_arrivals.proofs.Along.{can_come, can_go}
+use Rattle.strip_arrivals.proofs.Along.{can_go}
 use Rattle.strip_arrivals.proofs.Runs.{all_fine, by_kind, may}
-use Rattle.strip_arrivals.proofs.Gross.{comes_free, first_tried, none_more, none_tried, one_skipped, one_tried}
+use Rattle.strip_arrivals.proofs.Gross.{first_tried, none_more, none_tried, one_tried}
 
 -- ---- sets and lists of one or two
-
--- one taken out of the set of it alone
-none_but : (one : ℕ) → without (with 0 one) one ≡ 0
-none_but one = same_has (without (with 0 one) one) 0 (λ i. has-without (with 0 one) one i ∙ ap (λ b. not (eqb one i) && b) (has-with 0 one i)
-    ∙ ap (λ b. not (eqb one i) && (eqb one i || b)) (has-empty i) ∙ off (eqb one i) ∙ sym (has-empty i))
-  where
-    off : (b : Bool) → (not b && (b || false)) ≡ false
-    off true = refl
-    off false = refl
-
--- the later of two taken out
-first_stays : (one other : ℕ) → one ≢ other → without (with (with 0 one) other) other ≡ with 0 one
-first_stays one other apart = same_has (without (with (with 0 one) other) other) (with 0 one) (λ i.
-    has-without (with (with 0 one) other) other i ∙ ap (λ b. not (eqb other i) && b) (has-with (with 0 one) other i) ∙ elim (cases_eq other i) [
-      | inl same ↦ ap (λ b. not b && (b || has (with 0 one) i)) (eq-eqb other i same) ∙ sym (has-with_other 0 one i (λ is. apart (is ∙ sym same)) ∙ has-empty i)
-      | inr differs ↦ ap (λ b. not b && (b || has (with 0 one) i)) (ne_eqb other i differs)
-    ])
-
--- and the first of two
-second_stays : (one other : ℕ) → one ≢ other → without (with (with 0 one) other) one ≡ with 0 other
-second_stays one other apart = same_has (without (with (with 0 one) other) one) (with 0 other) (λ i.
-    has-without (with (with 0 one) other) one i ∙ ap (λ b. not (eqb one i) && b) (has-with (with 0 one) other i ∙ ap (λ b. eqb other i || b) (has-with 0 one i))
-    ∙ elim (cases_eq one i) [
-      | inl same ↦ ap (λ b. not b && (eqb other i || (b || has 0 i))) (eq-eqb one i same)
-          ∙ sym (has-with_other 0 other i (λ is. apart (same ∙ sym is)) ∙ has-empty i)
-      | inr differs ↦ ap (λ b. not b && (eqb other i || (b || has 0 i))) (ne_eqb one i differs) ∙ sym (has-with 0 other i)
-    ])
 
 -- who goes isn't in the list any more
 gone_alone : (actor : ℕ) → filter (λ other. not (eqb other actor)) (actor ∷ []) ≡ []
@@ -100,10 +73,6 @@ module _ (film : GroupData) (set group : ℕ) (small : IsSet group) where
       (λ actor expected _. by_coming actor expected)
       (λ actor _ newcomer. absurd (none_leaves actor newcomer))
       (λ actor is_here _. by_going actor is_here)
-
-  -- one may always come
-  may_come : (state : StateData) (actor : ℕ) → IsSet state.coming → has state.coming actor ≡ true → Contains (allowed film set group state) (comes actor)
-  may_come state actor fits expected = may film set group small state (comes actor) (can_come group state actor fits expected) refl
 
   -- and go, where nobody is still to come
   may_go : (state : StateData) (actor : ℕ) → state.coming ≡ 0 → Contains state.here actor → Contains (allowed film set group state) (goes actor)
@@ -173,28 +142,6 @@ module _ (film : GroupData) (set group newcomers never : ℕ) (known : IsCompany
         | inr none ↦ absurd (contains_none actor none)
       ]))
 
-  -- the last newcomer is still to come: he comes
-  pub begun_coming : (one gone : ℕ) (later first : ℕ → ℕ) → AreTotals 0 (one ∷ []) gone later → one < 64
-      → ((places : ℕ) → places < 2 ^ size group → first places ≡ later places)
-      → IsBegun film set group never (with 0 one) [] gone first
-  begun_coming one gone later first totals small is places lt =
-      let state : StateData = staying group (with 0 one) [] gone places in
-      let left : ℕ = minus group (pick group places) in
-      let then : IsGross film set group (after state (comes one)) (later places)
-      = subst (λ (coming : ℕ). IsGross film set group (record { left = left; coming = coming; here = one ∷ []; gone = gone }) (later places)) (sym (none_but one)) (totals places lt) in
-      let paid : gross_charge film set group state (comes one) + later places ≡ first places = omega (arith, comes_free film set group state one, is places lt) in
-      let began : IsBest film set group never state (λ event. comes one ≡ event) (gross_charge film set group state (comes one) + later places)
-      = first_tried film set group never (λ event. comes one ≡ event) state (later places) (comes one) (λ over. to_come 0 one over.1) (λ other was. was)
-      (may_come film set group known.small state one (IsSet-with 0 one IsSet-empty small) (has-with_same 0 one)) then in
-      none_more film set group never (λ event. comes one ≡ event) OfNewcomers state (first places)
-      (subst (λ (n : ℕ). IsBest film set group never state (λ event. comes one ≡ event) n) paid began)
-      (next_ones film set group known.small state (λ event. comes one ≡ event)
-      (λ actor expected. elim (has_from_with 0 one actor expected) [
-        | inl same ↦ ap comes same
-        | inr none ↦ absurd (empty_has actor none)
-      ])
-      (λ actor is_here. absurd (contains_none actor is_here)))
-
   -- two are here: either goes
   pub begun_both_here : (one other : ℕ) (by_one by_other later_one later_other first : ℕ → ℕ) → one ≢ other
       → AreTotals 0 (other ∷ []) (with 0 one) later_one → AreTotals 0 (one ∷ []) (with 0 other) later_other
@@ -224,83 +171,3 @@ module _ (film : GroupData) (set group newcomers never : ℕ) (known : IsCompany
           | inr none ↦ absurd (contains_none actor none)
         ]
       ]))
-
-  -- one is here and the other to come: he comes, or the one goes, if he may
-  pub begun_between : (one other : ℕ) (fine : ℕ → Bool) (charge later_both later_gone first : ℕ → ℕ) → one ≢ other → other < 64
-      → AreTotals 0 (one ∷ other ∷ []) 0 later_both → AreTotals (with 0 other) [] (with 0 one) later_gone
-      → ((places : ℕ) → places < 2 ^ size group → fine places ≡ true → Contains (allowed film set group (staying group (with 0 other) (one ∷ []) 0 places)) (goes one))
-      → ((places : ℕ) → places < 2 ^ size group → Contains (allowed film set group (staying group (with 0 other) (one ∷ []) 0 places)) (goes one) → fine places ≡ true)
-      → ((places : ℕ) → places < 2 ^ size group → fine places ≡ true
-      → charge places ≡ gross_charge film set group (staying group (with 0 other) (one ∷ []) 0 places) (goes one))
-      → ((places : ℕ) → places < 2 ^ size group → first places ≡ cond {A = ℕ} (fine places) (min (later_both places) (later_gone places + charge places)) (later_both places))
-      → IsBegun film set group never (with 0 other) (one ∷ []) 0 first
-  begun_between one other fine charge later_both later_gone first apart small totals_both totals_gone may only charged is places lt =
-      let state : StateData = staying group (with 0 other) (one ∷ []) 0 places in
-      let left : ℕ = minus group (pick group places) in
-      let other_comes : IsGross film set group (after state (comes other)) (later_both places)
-      = subst (λ (coming : ℕ). IsGross film set group (record { left = left; coming = coming; here = one ∷ other ∷ []; gone = 0 }) (later_both places)) (sym (none_but other))
-      (totals_both places lt) in
-      let one_goes : IsGross film set group (after state (goes one)) (later_gone places)
-      = subst (λ (here : List ℕ). IsGross film set group (record { left = left; coming = with 0 other; here = here; gone = with 0 one }) (later_gone places)) (sym (gone_alone one))
-      (totals_gone places lt) in
-      let allow_coming : Contains (allowed film set group state) (comes other)
-      = may_come film set group known.small state other (IsSet-with 0 other IsSet-empty small) (has-with_same 0 other) in
-      let going_on : IsOver group state → ⊥ = λ over. some_here one [] over.2 in
-      let free : gross_charge film set group state (comes other) ≡ 0 = comes_free film set group state other in
-      let next : (event : Event) → Contains (allowed film set group state) event → OfNewcomers event → (comes other ≡ event) ⊎ (goes one ≡ event)
-      = next_ones film set group known.small state (λ event. (comes other ≡ event) ⊎ (goes one ≡ event))
-      (λ actor expected. elim (has_from_with 0 other actor expected) [
-        | inl same ↦ inl (ap comes same)
-        | inr none ↦ absurd (empty_has actor none)
-      ])
-      (λ actor is_here. elim (contains_cases one [] actor is_here) [
-        | inl same ↦ inr (ap goes same)
-        | inr none ↦ absurd (contains_none actor none)
-      ]) in
-      elim (cases_Bool (fine places)) [
-        | inl allows ↦ (
-            let lower : first places ≡ min (later_both places) (later_gone places + charge places)
-            = is places lt ∙ ap (λ b. cond {A = ℕ} b (min (later_both places) (later_gone places + charge places)) (later_both places)) allows in
-            either film set group never state (comes other) (goes one) (later_both places) (later_gone places) (first places) going_on allow_coming other_comes
-            (may places lt allows) one_goes (omega (arith, free, lower, charged places lt allows)) next)
-        | inr refuses ↦ (
-            let same : gross_charge film set group state (comes other) + later_both places ≡ first places
-            = omega (arith, free, is places lt ∙ ap (λ b. cond {A = ℕ} b (min (later_both places) (later_gone places + charge places)) (later_both places)) refuses) in
-            none_more film set group never (λ event. (comes other ≡ event) ⊎ (goes one ≡ event)) OfNewcomers state (first places)
-            (one_skipped film set group never (λ event. comes other ≡ event) (λ event. (comes other ≡ event) ⊎ (goes one ≡ event)) state (first places) (goes one)
-            (subst (λ (n : ℕ). IsBest film set group never state (λ event. comes other ≡ event) n) same
-            (first_tried film set group never (λ event. comes other ≡ event) state (later_both places) (comes other) going_on (λ event was. was) allow_coming other_comes))
-            (λ event was. was)
-            (λ allow. false≢true (sym refuses ∙ only places lt allow)))
-            next)
-      ]
-
-  -- both are still to come: either comes
-  pub begun_both_coming : (one other : ℕ) (later_one later_other first : ℕ → ℕ) → one ≢ other → one < 64 → other < 64
-      → AreTotals (with 0 other) (one ∷ []) 0 later_one → AreTotals (with 0 one) (other ∷ []) 0 later_other
-      → ((places : ℕ) → places < 2 ^ size group → first places ≡ min (later_one places) (later_other places))
-      → IsBegun film set group never (with (with 0 one) other) [] 0 first
-  begun_both_coming one other later_one later_other first apart small_one small_other totals_one totals_other is places lt =
-      let state : StateData = staying group (with (with 0 one) other) [] 0 places in
-      let left : ℕ = minus group (pick group places) in
-      let one_comes : IsGross film set group (after state (comes one)) (later_one places)
-      = subst (λ (coming : ℕ). IsGross film set group (record { left = left; coming = coming; here = one ∷ []; gone = 0 }) (later_one places)) (sym (second_stays one other apart))
-      (totals_one places lt) in
-      let other_comes : IsGross film set group (after state (comes other)) (later_other places)
-      = subst (λ (coming : ℕ). IsGross film set group (record { left = left; coming = coming; here = other ∷ []; gone = 0 }) (later_other places)) (sym (first_stays one other apart))
-      (totals_other places lt) in
-      let fits : IsSet (with (with 0 one) other) = IsSet-with (with 0 one) other (IsSet-with 0 one IsSet-empty small_one) small_other in
-      let paid : min (gross_charge film set group state (comes one) + later_one places) (gross_charge film set group state (comes other) + later_other places) ≡ first places
-      = omega (arith, comes_free film set group state one, comes_free film set group state other, is places lt) in
-      either film set group never state (comes one) (comes other) (later_one places) (later_other places) (first places) (λ over. to_come (with 0 one) other over.1)
-      (may_come film set group known.small state one fits (has-with_other (with 0 one) other one (λ same. apart (sym same)) ∙ has-with_same 0 one)) one_comes
-      (may_come film set group known.small state other fits (has-with_same (with 0 one) other)) other_comes paid
-      (next_ones film set group known.small state (λ event. (comes one ≡ event) ⊎ (comes other ≡ event))
-      (λ actor expected. elim (has_from_with (with 0 one) other actor expected) [
-        | inl same ↦ inr (ap comes same)
-        | inr first_one ↦ elim (has_from_with 0 one actor first_one) [
-          | inl same ↦ inl (ap comes same)
-          | inr none ↦ absurd (empty_has actor none)
-        ]
-      ])
-      (λ actor is_here. absurd (contains_none actor is_here)))

@@ -8,11 +8,11 @@ use Rattle.strip_mask.specs.Set.{IsSet, has, meet, members, sum_over, union, num
 use Rattle.strip_mask.specs.Sums.{sum_below}
 use Rattle.strip_mask.proofs.ByMembers.{has-meet, has-union, has_from_meet, has_from_union, below_64}
 use Rattle.strip_mask.proofs.Below.{is_set_below}
-use Rattle.strip_mask.proofs.Members.{Contains-members, below_from_members, has_from_members, contains_number, members_is}
+use Rattle.strip_mask.proofs.Members.{below_from_members, has_from_members, contains_number, members_is}
 use Rattle.strip_mask.proofs.Sums.{sum_below-ext, sum_below-none, sum_below-scale, sum_below-suc, sum_below-swap, sum_below-zero, sum_below_mono}
 use Rattle.strip_mask.proofs.Totals.{sum_over_is}
 use Rattle.strip_group.specs.Group.{GroupData}
-use Rattle.strip_arrivals.specs.Arrivals.{StateData, is_open, is_without, open_scenes}
+use Rattle.strip_arrivals.specs.Arrivals.{is_without}
 use Rattle.strip_arrivals.specs.Company.{just, scenes_where}
 use Rattle.strip_arrivals.specs.Gross.{weighted}
 use Rattle.strip_mask.proofs.Lists.{contains_cases, contains_none}
@@ -60,11 +60,6 @@ from_scenes test set scene there =
     let parts = contains_from_filter test (members set) scene (listed_has (filter test (members set)) scene there) in
     (has_from_members set scene parts.0, parts.1)
 
--- and the other way
-pub has_scenes : (test : ℕ → Bool) (set scene : ℕ) → IsSet set → has set scene ≡ true → test scene ≡ true → has (scenes_where test set) scene ≡ true
-has_scenes test set scene small there passes =
-    has_listed (filter test (members set)) scene (contains_filter test (members set) scene (Contains-members set scene small there) passes)
-
 -- what passes one test passes another one
 pub scenes_mono : (first second : ℕ → Bool) (set scene : ℕ) → (first scene ≡ true → second scene ≡ true) → has (scenes_where first set) scene ≡ true
     → has (scenes_where second set) scene ≡ true
@@ -106,22 +101,6 @@ open_from film left gone scene none_left none_gone = is_none film (union left go
   | inl has_left ↦ none_works film left scene i none_left works has_left
   | inr is_gone ↦ none_works film gone scene i none_gone works is_gone
 ])
-
-module _ (film : GroupData) (set : ℕ) (state : StateData) (actor : ℕ) where
-  -- all that is closed may be closed
-  pub fine_if : ((scene : ℕ) → has set scene ≡ true → is_open film state scene ≡ true → has (slice_index film.casts scene) actor ≡ true
-      → is_without film state.coming scene ≡ true) → list_all (is_without film state.coming) (open_scenes film set state actor) ≡ true
-  fine_if each = passes_all (is_without film state.coming) (open_scenes film set state actor) (λ scene there.
-      let parts = contains_from_filter (λ s. is_open film state s && has (slice_index film.casts s) actor) (members set) scene there in
-      let both = and_parts (is_open film state scene) (has (slice_index film.casts scene) actor) parts.1 in
-      each scene (has_from_members set scene parts.0) both.0 both.1)
-
-  -- and the other way
-  pub if_fine : IsSet set → list_all (is_without film state.coming) (open_scenes film set state actor) ≡ true → (scene : ℕ) → has set scene ≡ true
-      → is_open film state scene ≡ true → has (slice_index film.casts scene) actor ≡ true → is_without film state.coming scene ≡ true
-  if_fine small fine scene there unpaid works = all_passes (is_without film state.coming) (open_scenes film set state actor) scene fine
-      (contains_filter (λ s. is_open film state s && has (slice_index film.casts s) actor) (members set) scene (Contains-members set scene small there)
-      (and_from (is_open film state scene) (has (slice_index film.casts scene) actor) unpaid works))
 
 -- ---- days by class
 

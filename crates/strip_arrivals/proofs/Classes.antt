@@ -1,30 +1,26 @@
 -- What is charged when someone leaves or goes, class by class of scenes: those in which of the newcomers just the same work.
-use Rattle.std.proofs.Common.{◌≡◌, ◌≢◌, ℕ, zero, suc, ◌+◌, ◌*◌, ◌-◌, ◌^◌, ◌<◌, ◌≤◌, ◌==◌, ◌⊎◌, Bool, true, false, not, ◌&&◌, ◌||◌, cond, eqb, List, [], ◌∷◌, Contains, length, slice_index, refl, sym, ap, ◌∙◌, subst, inl, inr, arith}
+use Rattle.std.proofs.Common.{◌≡◌, ◌≢◌, ℕ, zero, suc, ◌+◌, ◌*◌, ◌-◌, ◌^◌, ◌<◌, ◌≤◌, ◌==◌, ◌⊎◌, Bool, true, false, not, ◌&&◌, cond, eqb, List, [], ◌∷◌, Contains, slice_index, refl, sym, ap, ◌∙◌, subst, inl, inr, arith}
 use Rattle.std.proofs.Math.Pow.{pow_mono}
-use Rattle.std.proofs.lemmas.Bool.{and_parts, cases_lt, eq-eqb, eqb-true, false≢true, false_from_ne_true, or_right, and_from, cases_Bool}
-use Rattle.std.proofs.lemmas.List.{get_or_past}
+use Rattle.std.proofs.lemmas.Bool.{eq-eqb, eqb-true, false≢true, false_from_ne_true, and_from, cases_Bool}
 use Rattle.strip_mask.specs.Set.{IsSet, has, meet, minus, size, sum_over, with, without}
 use Rattle.strip_mask.specs.Sums.{sum_below}
-use Rattle.strip_mask.proofs.ByMembers.{below_width, empty_from, has-empty, has-meet, has-minus, has-with, has-with_same, has_from_meet, has_from_minus, has_from_with, same_has, IsSet-minus, empty_has}
+use Rattle.strip_mask.proofs.ByMembers.{below_width, empty_from, has-empty, has-meet, has-minus, has-with_same, has_from_meet, has_from_minus, same_has, IsSet-minus, empty_has}
 use Rattle.strip_mask.proofs.Members.{Contains-members}
 use Rattle.strip_mask.proofs.Sums.{sum_below-ext, sum_below-none}
-use Rattle.strip_mask.proofs.Totals.{sum_over-empty, sum_over_mono, value_le_sum_over}
+use Rattle.strip_mask.proofs.Totals.{sum_over_mono}
 use Rattle.strip_sets.specs.Pass.{cost}
 use Rattle.strip_group.specs.Group.{GroupData}
 use Rattle.strip_group.specs.Places.{actor_at, pick}
-use Rattle.strip_arrivals.specs.Arrivals.{StateData, actors_of, allowed, events, goes, is_allowed, is_open, is_without, leaves}
-use Rattle.strip_arrivals.specs.Company.{AreCounted, AreLeaving, ArePrices, IsCompany, IsStage, awaiting, just, open_with, staying}
+use Rattle.strip_arrivals.specs.Arrivals.{StateData, actors_of, allowed, goes, is_allowed, is_open, is_without, leaves}
+use Rattle.strip_arrivals.specs.Company.{AreCounted, AreLeaving, ArePrices, IsCompany, IsStage, just, open_with, staying}
 use Rattle.strip_arrivals.specs.Gross.{gross_charge}
-use Rattle.strip_mask.proofs.Lists.{contains_here}
-use Rattle.strip_arrivals.proofs.Lists.{contains_from_filter}
-use Rattle.strip_mask.proofs.Agree.{same_test}
 use Rattle.strip_sets.proofs.Sets.{without_most}
 use Rattle.strip_group.proofs.Places.{has_pick}
-use Rattle.strip_arrivals.proofs.Casts.{is_none, none_works}
-use Rattle.strip_arrivals.proofs.Along.{can_go, can_leave}
+use Rattle.strip_arrivals.proofs.Casts.{is_none}
+use Rattle.strip_arrivals.proofs.Along.{can_leave}
 use Rattle.strip_arrivals.proofs.Runs.{all_fine, may}
 use Rattle.strip_arrivals.proofs.Prices.{still_picked}
-use Rattle.strip_arrivals.proofs.Chosen.{days_most, fine_if, from_scenes, has_scenes, has_where, if_fine, open_from, open_parts, scenes_small, sum_four, sum_one, sum_two}
+use Rattle.strip_arrivals.proofs.Chosen.{days_most, from_scenes, has_where, scenes_small, sum_four, sum_one, sum_two}
 use Rattle.strip_arrivals.proofs.Among.{IsAmong, agrees, alike_in, alike_two, among_both, among_none, among_with, either_once, either_one, first_listed, first_of_two, for_two, lacks, one_of_two, second_listed}
 use Rattle.strip_arrivals.proofs.Closing.{among_closed, charge_by, class_has, closed, closing, in_closed, left_at, of_here, open_class, open_fewer, parted}
 
@@ -151,13 +147,6 @@ module _ (film : GroupData) (set group newcomers : ℕ) (known : IsCompany film 
   abbrev pub AreDays : ℕ → (ℕ → ℕ) → Type 0
   AreDays these days = AreCounted film group count film.days (just film newcomers these set) days
 
-  -- a scene in which someone works has days
-  has_days : (scene actor : ℕ) → has (slice_index film.casts scene) actor ≡ true → 0 < slice_index film.days scene
-  has_days scene actor works = elim (cases_lt scene (length film.casts)) [
-    | inl lt ↦ known.some_days scene 0 (omega (arith, lt, known.limits.day_count))
-    | inr past ↦ absurd (empty_has actor (sym (ap (λ (cast : ℕ). has cast actor) (get_or_past film.casts scene 0 past)) ∙ works))
-  ]
-
   -- the classes of a stage have no more days than the set
   pub days_within : (here : List ℕ) (classes : ℕ) (kinds : ℕ → ℕ) (days : ℕ → ℕ → ℕ) → AreKinds here classes kinds
       → ((kind : ℕ) → kind < classes → AreDays (kinds kind) (days kind))
@@ -243,56 +232,6 @@ module _ (film : GroupData) (set group newcomers : ℕ) (known : IsCompany film 
         charged = λ _. leaving_cost places place lt there (λ scene _ _ _. is_none film coming scene (λ i works expected.
             empty_has i (subst (λ (s : ℕ). has s i ≡ true) nobody_comes expected)));
       }
-
-      -- else one may leave who works in none of the scenes that await someone
-      pub leaving_guarded : (blocked : ℕ → ℕ) → AreCounted film group count film.days (awaiting film coming gone set) blocked → AreLeaving film set group coming here gone (cost classes prices days) blocked
-      leaving_guarded blocked counted places place lt there =
-          let actor : ℕ = actor_at group place in
-          let state : StateData = staying group coming here gone places in
-          let test : ℕ → Bool = λ scene. not (is_without film coming scene) && is_without film gone scene in
-          let scenes : ℕ = awaiting film coming gone set in
-          let small : IsSet scenes = scenes_small test set in
-          let place_within : place < size group = within places place lt there in
-          let shut : ℕ = minus (open_with film group places scenes) (open_with film group (without places place) scenes) in
-          let shut_small : IsSet shut = IsSet-minus (open_with film group places scenes) (open_with film group (without places place) scenes)
-          (scenes_small (is_without film (left_at film group places)) scenes) in
-          let wider : 2 ^ size group ≤ 2 ^ count = pow_mono fits in
-          let below : places < 2 ^ count = omega (arith, lt, wider) in
-          let less : without places place < 2 ^ count = omega (arith, without_most places place, below) in
-          let split : sum_over film.days shut + blocked (without places place) ≡ blocked places
-          = omega (arith, counted places below, counted (without places place) less, parted film group places place scenes place_within small film.days) in
-          let free : blocked (without places place) ≡ blocked places → (scene : ℕ) → has set scene ≡ true → is_open film state scene ≡ true
-          → has (slice_index film.casts scene) actor ≡ true → is_without film coming scene ≡ true
-          = λ same scene inside unpaid works. elim (cases_Bool (is_without film coming scene)) [
-            | inl fine ↦ fine
-            | inr expected ↦ (
-                let parts = open_parts film (left_at film group places) gone scene unpaid in
-                let awaited : has scenes scene ≡ true
-                = has_scenes test set scene known.small_set inside (and_from (not (is_without film coming scene)) (is_without film gone scene) (ap not expected) parts.1) in
-                let is_shut : has shut scene ≡ true
-                = closing film group places place scenes place_within small scene ∙ and_from (has scenes scene)
-                (is_without film (left_at film group places) scene && has (slice_index film.casts scene) actor) awaited
-                (and_from (is_without film (left_at film group places) scene) (has (slice_index film.casts scene) actor) parts.0 works) in
-                let some = has_days scene actor works in
-                let at_least = value_le_sum_over film.days shut scene shut_small is_shut in
-                absurd (omega (arith, some, at_least, split, same)))
-          ] in
-          let none_shut : Contains (allowed film set group state) (leaves actor) → shut ≡ 0
-          = λ is_allowed_one. empty_from shut (λ scene. false_from_ne_true (has shut scene) (λ is_shut.
-          let fine = (contains_from_filter (is_allowed film set state) (events group state) (leaves actor) is_allowed_one).1 in
-          let parts = and_parts (has scenes scene) (is_without film (left_at film group places) scene && has (slice_index film.casts scene) actor)
-          (sym (closing film group places place scenes place_within small scene) ∙ is_shut) in
-          let both = and_parts (is_without film (left_at film group places) scene) (has (slice_index film.casts scene) actor) parts.1 in
-          let awaited = from_scenes test set scene parts.0 in
-          let stuck = and_parts (not (is_without film coming scene)) (is_without film gone scene) awaited.1 in
-          let freed = if_fine film set state actor known.small_set fine scene awaited.0 (open_from film (left_at film group places) gone scene both.0 stuck.1) both.1 in
-          false≢true (sym (ap not freed) ∙ stuck.0))) in
-          record {
-            may = λ same. may_leave places place lt there (fine_if film set state actor (free same));
-            only = λ is_allowed_one. (let nothing : sum_over film.days shut ≡ 0 = ap (sum_over film.days) (none_shut is_allowed_one) ∙ sum_over-empty film.days in
-                omega (arith, split, nothing));
-            charged = λ same. leaving_cost places place lt there (free same);
-          }
 
   -- one goes, class by class of the scenes in which he works
   goes_by : (coming : ℕ) (here : List ℕ) (gone : ℕ) (stage : IsStage newcomers coming here gone) (actor classes : ℕ) (kinds : ℕ → ℕ) (prices days : ℕ → ℕ → ℕ)
@@ -382,87 +321,3 @@ module _ (film : GroupData) (set group newcomers : ℕ) (known : IsCompany film 
       = has-meet (slice_index film.casts scene) newcomers actor
       ∙ and_from (has (slice_index film.casts scene) actor) (has newcomers actor) parts.2 (of_here newcomers 0 here 0 stage actor is_here) in
       sum_two (λ kind. cond {A = ℕ} (eqb (kinds kind) these) 1 0) ∙ either_once one other actor these apart which among works)
-
-  module _ (one other : ℕ) (stage : IsStage newcomers (with 0 other) (one ∷ []) 0)
-      (both : ℕ → ℕ) (counted : AreCounted film group count film.days (just film newcomers (with (with 0 one) other) set) both) (places : ℕ) (lt : places < 2 ^ size group) where
-    -- the open scenes with both
-    abbrev shared : ℕ
-    shared = open_with film group places (just film newcomers (with (with 0 one) other) set)
-
-    -- the places are some of all
-    below_all : places < 2 ^ count
-    below_all = (let wider : 2 ^ size group ≤ 2 ^ count = pow_mono fits in omega (arith, lt, wider))
-
-    -- the newcomers in a scene with both are these
-    are_both : (scene : ℕ) → has (slice_index film.casts scene) one ≡ true → has (slice_index film.casts scene) other ≡ true
-        → meet (slice_index film.casts scene) newcomers ≡ with (with 0 one) other
-    are_both scene works works_too =
-        same_has (meet (slice_index film.casts scene) newcomers) (with (with 0 one) other) (λ i. same_test (has (meet (slice_index film.casts scene) newcomers) i)
-        (has (with (with 0 one) other) i)
-        (λ there. has-with (with 0 one) other i ∙ by_stage (eqb other i) (has (with 0 one) i) (has (with 0 other) i) (has 0 i) (has-with 0 other i) (has-empty i)
-        (sym (stage.whole i) ∙ (has_from_meet (slice_index film.casts scene) newcomers i there).1))
-        (λ there. elim (one_of_two one other i there) [
-          | inl is ↦ subst (λ (who : ℕ). has (meet (slice_index film.casts scene) newcomers) who ≡ true) is
-              (has-meet (slice_index film.casts scene) newcomers one ∙ and_from (has (slice_index film.casts scene) one) (has newcomers one) works
-              (of_here newcomers (with 0 other) (one ∷ []) 0 stage one (has-with_same 0 one)))
-          | inr is ↦ subst (λ (who : ℕ). has (meet (slice_index film.casts scene) newcomers) who ≡ true) is
-              (has-meet (slice_index film.casts scene) newcomers other ∙ and_from (has (slice_index film.casts scene) other) (has newcomers other) works_too
-              (stage.whole other ∙ ap (λ b. b || (has (with 0 one) other || has 0 other)) (has-with_same 0 other)))
-        ]))
-      where
-        by_stage : (e h c g : Bool) → c ≡ (e || g) → g ≡ false → (c || (h || g)) ≡ true → (e || h) ≡ true
-        by_stage true h c g is none all = refl
-        by_stage false true c g is none all = refl
-        by_stage false false true true is none all = absurd (false≢true (sym none))
-        by_stage false false true false is none all = sym is ∙ all
-        by_stage false false false true is none all = absurd (false≢true (sym none))
-        by_stage false false false false is none all = all
-
-    -- where they share none, nobody who is to come works in a scene that one closes
-    none_expected : both places ≡ 0 → (scene : ℕ) → has set scene ≡ true → is_open film (staying group (with 0 other) (one ∷ []) 0 places) scene ≡ true
-        → has (slice_index film.casts scene) one ≡ true → is_without film (with 0 other) scene ≡ true
-    none_expected none scene inside unpaid works = is_none film (with 0 other) scene (λ i works_too expected.
-        let is : other ≡ i = elim (has_from_with 0 other i expected) [ inl same ↦ same | inr no_one ↦ absurd (empty_has i no_one) ] in
-        let test : ℕ → Bool = λ s. eqb (meet (slice_index film.casts s) newcomers) (with (with 0 one) other) in
-        let free : ℕ → Bool = is_without film (minus group (pick group places)) in
-        let same = are_both scene works (ap (has (slice_index film.casts scene)) is ∙ works_too) in
-        let there : has shared scene ≡ true
-        = has_scenes free (just film newcomers (with (with 0 one) other) set) scene (scenes_small test set)
-        (has_scenes test set scene known.small_set inside (eq-eqb (meet (slice_index film.casts scene) newcomers) (with (with 0 one) other) same))
-        (open_parts film (minus group (pick group places)) 0 scene unpaid).0 in
-        let small : IsSet shared = scenes_small free (just film newcomers (with (with 0 one) other) set) in
-        let some = has_days scene one works in
-        let at_least = value_le_sum_over film.days shared scene small there in
-        absurd (omega (arith, some, at_least, counted places below_all, none)))
-
-    -- one goes before the other comes, where they share no open scene
-    pub may_go : both places ≡ 0 → Contains (allowed film set group (staying group (with 0 other) (one ∷ []) 0 places)) (goes one)
-    may_go none =
-        let state : StateData = staying group (with 0 other) (one ∷ []) 0 places in
-        may film set group known.small state (goes one) (can_go group state one (contains_here one [])) (fine_if film set state one (none_expected none))
-
-    -- and only then
-    pub only_then : Contains (allowed film set group (staying group (with 0 other) (one ∷ []) 0 places)) (goes one) → both places ≡ 0
-    only_then is_allowed_one =
-        let state : StateData = staying group (with 0 other) (one ∷ []) 0 places in
-        let test : ℕ → Bool = λ s. eqb (meet (slice_index film.casts s) newcomers) (with (with 0 one) other) in
-        let free : ℕ → Bool = is_without film (minus group (pick group places)) in
-        let fine = (contains_from_filter (is_allowed film set state) (events group state) (goes one) is_allowed_one).1 in
-        let empty : shared ≡ 0
-        = empty_from shared (λ scene. false_from_ne_true (has shared scene) (λ there.
-        let outer = from_scenes free (just film newcomers (with (with 0 one) other) set) scene there in
-        let inner = from_scenes test set scene outer.0 in
-        let same = eqb-true (meet (slice_index film.casts scene) newcomers) (with (with 0 one) other) inner.1 in
-        let works : has (slice_index film.casts scene) one ≡ true
-        = (has_from_meet (slice_index film.casts scene) newcomers one (ap (λ (s : ℕ). has s one) same ∙ has-with (with 0 one) other one
-        ∙ or_right (eqb other one) (has (with 0 one) one) (has-with_same 0 one))).0 in
-        let works_too : has (slice_index film.casts scene) other ≡ true
-        = (has_from_meet (slice_index film.casts scene) newcomers other (ap (λ (s : ℕ). has s other) same ∙ has-with_same (with 0 one) other)).0 in
-        let unpaid = open_from film (minus group (pick group places)) 0 scene outer.1 (is_none film 0 scene (λ i at_work expected. empty_has i expected)) in
-        none_works film (with 0 other) scene other (if_fine film set state one known.small_set fine scene inner.0 unpaid works) works_too (has-with_same 0 other))) in
-        counted places below_all ∙ ap (sum_over film.days) empty ∙ sum_over-empty film.days
-
-    -- what it costs
-    pub first_goes : (price days : ℕ → ℕ) → both places ≡ 0 → ArePrices film set group count (with 0 other) (one ∷ []) 0 (with 0 one) price → AreDays (with 0 one) days
-        → price places * days places ≡ gross_charge film set group (staying group (with 0 other) (one ∷ []) 0 places) (goes one)
-    first_goes price days none priced are_days = one_goes (with 0 other) one 0 price days stage priced are_days places lt (none_expected none)

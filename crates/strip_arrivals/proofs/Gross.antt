@@ -176,19 +176,6 @@ module _ (film : GroupData) (set group : ℕ) where
     attained = best.attained;
   }
 
-  -- one more that isn't allowed
-  pub one_skipped : (never : ℕ) (tried more : Event → Type 0) (state : StateData) (least : ℕ) (event : Event) → IsBest film set group never state tried least
-      → ((other : Event) → more other → tried other ⊎ (event ≡ other)) → (Contains (allowed film set group state) event → ⊥)
-      → IsBest film set group never state more least
-  one_skipped never tried more state least event best within refused = record {
-    over = best.over;
-    no_more = λ other may was. elim (within other was) [
-      | inl before ↦ best.no_more other may before
-      | inr is ↦ absurd (refused (subst (Contains (allowed film set group state)) (sym is) may))
-    ];
-    attained = best.attained;
-  }
-
   -- one more that is
   pub one_tried : (never : ℕ) (tried more : Event → Type 0) (state : StateData) (least later : ℕ) (event : Event) → IsBest film set group never state tried least
       → ((other : Event) → more other → tried other ⊎ (event ≡ other)) → Contains (allowed film set group state) event

@@ -31,3 +31,5 @@ mod Stages
 mod Staged
 mod Fewer
 mod Pending
+mod First
+mod AtOnce

@@ -78,7 +78,7 @@ module _ (film : GroupData) (set group : ℕ) where
       by_test false = sum_below-none 64 (λ actor. cond {A = ℕ} (false && (has (slice_index film.casts scene) actor && has group actor)) (slice_index film.days scene * slice_index film.holds actor) 0) (λ actor _. refl)
 
   -- all scenes are open at first
-  open_first : (newcomers scene : ℕ) → is_open film (at_first newcomers) scene ≡ true
+  pub open_first : (newcomers scene : ℕ) → is_open film (at_first newcomers) scene ≡ true
   open_first newcomers scene = is_none film (union 0 0) scene (λ i works there. empty_has i (both (has 0 i) (sym (has-union 0 0 i) ∙ there)))
     where
       both : (b : Bool) → (b || b) ≡ true → b ≡ true

@@ -108,10 +108,10 @@ module _ (film : GroupData) (set : ℕ) where
       (contains_filter (λ s. is_open film state s && has (slice_index film.casts s) actor) (members set) scene of_set
       (and_from (is_open film state scene) (has (slice_index film.casts scene) actor) opened works))
 
-  awaited_coming : (state : StateData) (actor : ℕ) → AreAwaited film set state → AreAwaited film set (after state (comes actor))
+  pub awaited_coming : (state : StateData) (actor : ℕ) → AreAwaited film set state → AreAwaited film set (after state (comes actor))
   awaited_coming state actor awaited = λ scene i of_set works there. awaited scene i of_set works (has_from_without state.coming actor i there).1
 
-  awaited_off : (state next : StateData) (actor : ℕ) → next.coming ≡ state.coming
+  pub awaited_off : (state next : StateData) (actor : ℕ) → next.coming ≡ state.coming
       → ((scene : ℕ) → is_open film next scene ≡ (is_open film state scene && not (has (slice_index film.casts scene) actor)))
       → list_all (is_without film state.coming) (open_scenes film set state actor) ≡ true → AreAwaited film set state → AreAwaited film set next
   awaited_off state next actor same still all awaited = λ scene i of_set works there.

@@ -11,7 +11,7 @@ use Rattle.strip_group.specs.Group.{GroupData}
 use Rattle.strip_group.specs.Places.{pick}
 use Rattle.strip_sets.specs.Pass.{HasRoom}
 use Rattle.strip_arrivals.specs.Arrivals.{actors_of, mates}
-use Rattle.strip_arrivals.specs.Company.{AreCounted, AreMates, IsParty, just, most_paid}
+use Rattle.strip_arrivals.specs.Company.{AreMates, IsParty, just, most_paid}
 use Rattle.strip_arrivals.specs.declared.party.Party.{Party}
 use Rattle.strip_arrivals.proofs.Chosen.{has_where}
 use Rattle.strip_arrivals.proofs.Classes.{AreDays, AreKinds, counted_most, counted_rise, days_within}
@@ -39,10 +39,6 @@ module _ {S : Type 0} (value : S → ℕ → ℕ) (count most : ℕ) (film : Gro
   -- they fit
   pub days_fit : (scenes : ℕ) → sum_over film.days scenes ≤ most
   days_fit scenes = omega (arith, few_days scenes, known.wide)
-
-  -- no set of places leaves more days open than there are
-  pub days_low : (scenes : ℕ) (sums : ℕ → ℕ) → AreCounted film group count film.days scenes sums → (places : ℕ) → places < 2 ^ count → sums places ≤ 19800
-  days_low scenes sums counted places lt = omega (arith, counted_most film group count film.days scenes sums counted places lt, few_days scenes)
 
   pub group_low : (actors : ℕ) → ((i : ℕ) → has actors i ≡ true → has group i ≡ true) → sum_over film.holds actors ≤ sum_over film.holds group
   group_low actors within = sum_over_mono film.holds actors group within

@@ -7,12 +7,12 @@ use Rattle.strip_group.specs.Group.{GroupData}
 use Rattle.strip_sets.specs.Numbers.{by_class}
 use Rattle.strip_sets.specs.Pass.{HasRoom, Passes, cost}
 use Rattle.strip_sets.specs.declared.terms.Classes.{Classes}
-use Rattle.strip_arrivals.specs.Company.{AreBoth, AreCounted, ArePair, ArePrices, IsBegun, IsNewcomer, IsParty, IsRow, IsStage, awaiting}
+use Rattle.strip_arrivals.specs.Company.{AreBoth, ArePair, ArePrices, IsBegun, IsNewcomer, IsParty, IsRow, IsStage}
 use Rattle.strip_arrivals.specs.declared.party.Both.{Both}
 use Rattle.strip_arrivals.specs.declared.party.Newcomer.{Newcomer}
 use Rattle.strip_arrivals.specs.declared.party.Party.{Party}
 use Rattle.strip_arrivals.proofs.Chosen.{sum_four}
-use Rattle.strip_arrivals.proofs.Classes.{AreDays, AreKinds, kinds_none, kinds_one, kinds_two, leaving_free, leaving_guarded}
+use Rattle.strip_arrivals.proofs.Classes.{AreDays, AreKinds, kinds_none, kinds_one, kinds_two, leaving_free}
 use Rattle.strip_arrivals.proofs.Masks.{has_one, two}
 use Rattle.strip_arrivals.proofs.Passing.{row_least}
 use Rattle.strip_arrivals.proofs.Prices.{price_alone, price_both, price_first, price_neither, price_second, price_with, price_without}
@@ -54,15 +54,6 @@ module _ {S : Type 0} (value : S → ℕ → ℕ) (count most : ℕ) (film : Gro
     free_row none passes = record {
       least = row_least film set group newcomers party.never known.company known.enough coming here gone stage count (cost classes prices days) (λ _. 0) first least known.crew.fits passes begun
           (leaving_free film set group newcomers known.company count known.crew.fits coming here gone stage classes kinds are_kinds prices days are_prices are_days none);
-      low = λ places lt. (let kept = passes.kept places lt in let most_first = low places lt in omega (arith, kept, most_first));
-    }
-
-    -- someone is
-    pub guarded_row : (blocked : ℕ → ℕ) → AreCounted film group count film.days (awaiting film coming gone set) blocked → Passes count (cost classes prices days) blocked first least
-        → IsRow film set group count coming here gone bound least
-    guarded_row blocked counted passes = record {
-      least = row_least film set group newcomers party.never known.company known.enough coming here gone stage count (cost classes prices days) blocked first least known.crew.fits passes begun
-          (leaving_guarded film set group newcomers known.company count known.crew.fits coming here gone stage classes kinds are_kinds prices days are_prices are_days blocked counted);
       low = λ places lt. (let kept = passes.kept places lt in let most_first = low places lt in omega (arith, kept, most_first));
     }
 

@@ -1,7 +1,7 @@
 -- Who of the newcomers is to come, is here and is gone, stage by stage.
 use Rattle.std.proofs.Common.{◌≡◌, ◌≢◌, ℕ, ◌||◌, eqb, Bool, true, false, List, [], ◌∷◌, length, slice_index, refl, sym, ap, ◌∙◌, inl, inr, arith}
-use Rattle.strip_mask.specs.Set.{IsSet, has, with}
-use Rattle.strip_mask.proofs.ByMembers.{IsSet-empty, IsSet-with, below_64, has-empty, has-with, has-with_other, has_from_with, empty_has}
+use Rattle.strip_mask.specs.Set.{has, with}
+use Rattle.strip_mask.proofs.ByMembers.{IsSet-empty, has-empty, has-with, has-with_other, has_from_with, empty_has}
 use Rattle.strip_arrivals.specs.Company.{ArePair, IsStage}
 use Rattle.strip_arrivals.proofs.Masks.{pair_is, pair_turned}
 
@@ -49,16 +49,6 @@ stage_over newcomers = record {
   small = IsSet-empty;
 }
 
--- all are still to come
-pub stage_first : (newcomers : ℕ) → IsSet newcomers → IsStage newcomers newcomers [] 0
-stage_first newcomers small = record {
-  whole = λ actor. none_behind (has newcomers actor) actor ∙ ap (λ b. has newcomers actor || b) (none_before (has 0 actor) actor);
-  not_both = λ actor there. (has-empty actor, has-empty actor);
-  not_gone = λ actor there. has-empty actor;
-  once = none_twice;
-  small = small;
-}
-
 -- ---- one newcomer
 
 -- he is here
@@ -87,16 +77,6 @@ stage_alone newcomers one other pair = record {
   small = IsSet-empty;
 }
 
--- the one is still to come, and the other is gone
-pub stage_coming : (newcomers one other : ℕ) → IsSet newcomers → ArePair newcomers one other → IsStage newcomers (with 0 one) [] (with 0 other)
-stage_coming newcomers one other small pair = record {
-  whole = λ actor. one_or_other newcomers one other pair actor ∙ ap (λ b. has (with 0 one) actor || b) (none_before (has (with 0 other) actor) actor);
-  not_both = λ actor there. (has-empty actor, not_other one other actor pair.apart there);
-  not_gone = λ actor there. absurd (empty_has actor there);
-  once = none_twice;
-  small = IsSet-with 0 one IsSet-empty (below_64 newcomers one small pair.one_comes);
-}
-
 -- both are here, the one came first
 pub stage_both : (newcomers one other : ℕ) → ArePair newcomers one other → IsStage newcomers 0 (one ∷ other ∷ []) 0
 stage_both newcomers one other pair = record {
@@ -106,15 +86,4 @@ stage_both newcomers one other pair = record {
   not_gone = λ actor there. has-empty actor;
   once = λ first second same equal. pair.apart (ap (λ (actors : List ℕ). slice_index actors 0) same ∙ equal ∙ sym (ap (λ (actors : List ℕ). slice_index actors 1) same));
   small = IsSet-empty;
-}
-
--- the one is here, and the other still to come
-pub stage_between : (newcomers one other : ℕ) → IsSet newcomers → ArePair newcomers one other → IsStage newcomers (with 0 other) (one ∷ []) 0
-stage_between newcomers one other small pair = record {
-  whole = λ actor. one_or_other newcomers other one (pair_turned newcomers one other pair) actor
-      ∙ ap (λ b. has (with 0 other) actor || b) (none_behind (has (with 0 one) actor) actor);
-  not_both = λ actor there. (not_other other one actor (λ same. pair.apart (sym same)) there, has-empty actor);
-  not_gone = λ actor there. has-empty actor;
-  once = one_once one;
-  small = IsSet-with 0 other IsSet-empty (below_64 newcomers other small pair.other_comes);
 }

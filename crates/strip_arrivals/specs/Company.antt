@@ -1,6 +1,6 @@
 -- A group and its newcomers on a set of scenes, with numbers for each set of the places of those of the group who
 -- are still here.
-use Rattle.std.specs.Prelude.{◌≡◌, ◌≢◌, ℕ, ◌+◌, ◌-◌, ◌*◌, ◌^◌, ◌<◌, ◌≤◌, ◌==◌, ◌⊎◌, ◌&&◌, ◌||◌, Bool, not, true, false, List, [], ◌∷◌, All, Contains, filter, length, min, slice_index}
+use Rattle.std.specs.Prelude.{◌≡◌, ◌≢◌, ℕ, ◌+◌, ◌-◌, ◌*◌, ◌^◌, ◌<◌, ◌≤◌, ◌==◌, ◌⊎◌, ◌||◌, Bool, true, false, List, [], ◌∷◌, All, Contains, filter, length, min, slice_index}
 use Rattle.strip_mask.specs.Set.{IsSet, LiesBelow, has, meet, members, minus, size, sum_over, with, without}
 use Rattle.strip_group.specs.Group.{GroupData}
 use Rattle.strip_group.specs.Places.{IsLimited, actor_at, pick}
@@ -76,11 +76,6 @@ open_with film group places scenes = scenes_where (is_without film (minus group 
 -- those in which of the newcomers just these work
 abbrev pub just : GroupData → ℕ → ℕ → ℕ → ℕ
 just film newcomers these set = scenes_where (λ scene. meet (slice_index film.casts scene) newcomers == these) set
-
--- those in which someone works who is to come, and nobody who is gone
-abbrev pub awaiting : GroupData → ℕ → ℕ → ℕ → ℕ
-awaiting film coming gone set = scenes_where (λ scene. not (is_without film coming scene)
-    && is_without film gone scene) set
 
 -- ---- numbers by the places of those who are still here
 

@@ -1,6 +1,6 @@
 // A group and its newcomers, with what their stages go by.
 ghost use Rattle.std.specs.Prelude.{◌≡◌, ◌<◌, ◌≤◌, ◌*◌, ◌+◌, ◌^◌, ◌-◌, true};
-ghost use Rattle.strip_mask.specs.Set.{has, size, sum_over};
+ghost use Rattle.strip_mask.specs.Set.{full, has, size, sum_over};
 ghost use Rattle.strip_arrivals.specs.Company.{AreBoth, ArePair, IsCompany, IsNewcomer, IsParty, most_paid};
 
 use crate::crew::Crew;
@@ -16,6 +16,16 @@ pub(crate) struct Party<S> {
     pub(crate) newcomers: Mask,
     pub(crate) never: u64,
     pub(crate) days: S,
+}
+
+impl<S: BySet> Party<S> {
+    /// Returns the set of all places of the group.
+    pub(crate) fn all(&self) -> usize
+        requires { size self.now.crew.group.0 ≤ 10 }
+        ensures { result ≡ full (size self.now.crew.group.0) }
+    {
+        Mask::below(self.crew.group.size()).0 as usize
+    }
 }
 
 /// One of the newcomers: what he gets for a day of waiting; for each set of places the days of the open

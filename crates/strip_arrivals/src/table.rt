@@ -106,8 +106,7 @@ impl ArrivalsTable {
         ensures small { result ≤ sum self.now.days * sum self.now.holds }
     {
         let party = self.party::<S>(set, group, newcomers, never);
-        let all = Mask::below(group.size()).0 as usize;
-        self.first_row(&party).at(all) - self.own_pay(set, group)
+        self.gross(&party) - self.own_pay(set, group)
     }
 
     /// More than the group and the newcomers are paid for waiting on all days of the set.

@@ -1,22 +1,14 @@
-use Rattle.std.proofs.Common.{◌≡◌, ◌≢◌, ℕ, ◌*◌, ◌≤◌, true, [], sym, ap, ◌∙◌, subst, inl, inr, arith}
+use Rattle.std.proofs.Common.{◌≡◌, ◌≢◌, ℕ, ◌<◌, ◌^◌, ◌≤◌, true, sym, ap, ◌∙◌, subst, inl, inr, arith}
 use Rattle.std.proofs.lemmas.Bool.{cases_eq, false≢true}
-use Rattle.strip_mask.specs.Set.{IsSet, has, size, with, without}
+use Rattle.strip_mask.specs.Set.{IsSet, full, has, size, with, without}
 use Rattle.strip_mask.proofs.ByMembers.{IsSet-without, below_64, has-without_other, has-without_same, with-without}
 use Rattle.strip_mask.proofs.Sizes.{first_is, first_none, size-without}
 use Rattle.strip_group.specs.Group.{GroupData}
-use Rattle.strip_arrivals.specs.Company.{IsRow, staying}
+use Rattle.strip_sets.proofs.Sets.{full_small}
+use Rattle.strip_arrivals.specs.Arrivals.{at_first}
 use Rattle.strip_arrivals.specs.Gross.{IsGross}
-use Rattle.strip_arrivals.proofs.table.ArrivalsTable.first_row.Goals as goal
-
--- where there are no newcomers, none is to come and none is gone
-row_of_none : (film : GroupData) (set group count newcomers never : ℕ) (row : ℕ → ℕ) → newcomers ≡ 0
-    → IsRow film set group count 0 [] newcomers never row → IsRow film set group count newcomers [] 0 (3 * never) row
-row_of_none film set group count newcomers never row none over = record {
-  least = λ places lt.
-      subst (λ (gone : ℕ). IsGross film set group (staying group newcomers [] gone places) (row places)) none
-      (subst (λ (coming : ℕ). IsGross film set group (staying group coming [] newcomers places) (row places)) (sym none) (over.least places lt));
-  low = λ places lt. omega (arith, over.low places lt);
-}
+use Rattle.strip_arrivals.proofs.AtOnce.{none_comes}
+use Rattle.strip_arrivals.proofs.table.ArrivalsTable.gross.Goals as goal
 
 -- a set of one has no two members
 only_one : (set i j : ℕ) → IsSet set → size set ≤ 1 → has set i ≡ true → has set j ≡ true → i ≡ j
@@ -33,8 +25,8 @@ without-requires g c =
     let small : IsSet newcomers = c.requires.party.company.small_newcomers in
     below_64 newcomers c.in-Some.one small (first_is newcomers c.in-Some.one small (sym c.first.ensures ∙ c.in-Some.is)).0
 
-pub row_of_one-requires-clause-only : goal.row_of_one-requires-clause-only
-row_of_one-requires-clause-only g c =
+pub gross_with_one-requires-clause-only : goal.gross_with_one-requires-clause-only
+gross_with_one-requires-clause-only g c =
     let newcomers : ℕ = c.args.party.now.newcomers.0 in
     let one : ℕ = c.in-Some.one in
     let small : IsSet newcomers = c.requires.party.company.small_newcomers in
@@ -43,8 +35,8 @@ row_of_one-requires-clause-only g c =
     = first_none (without newcomers one) (IsSet-without newcomers one small) (sym (c.first-in-Some.ensures ∙ ap Rattle.strip_mask.specs.Set.first c.without.ensures) ∙ c.in-None-first.is) in
     sym (with-without newcomers one there) ∙ ap (λ (set : ℕ). with set one) none
 
-pub row_of_two-requires-clause-pair : goal.row_of_two-requires-clause-pair
-row_of_two-requires-clause-pair g c =
+pub gross_with_two-requires-clause-pair : goal.gross_with_two-requires-clause-pair
+gross_with_two-requires-clause-pair g c =
     let newcomers : ℕ = c.args.party.now.newcomers.0 in
     let one : ℕ = c.in-Some.one in
     let other : ℕ = c.in-Some-first.other in
@@ -65,6 +57,18 @@ row_of_two-requires-clause-pair g c =
       ];
     }
 
+pub at-requires-clause-known : goal.at-requires-clause-known
+at-requires-clause-known g c =
+    subst (λ (all : ℕ). all < 2 ^ g.S.BySet.places) (sym c.all.ensures) (full_small (size c.args.party.now.crew.group.0) g.S.BySet.places c.requires.party.crew.fits)
+
 pub returns-in-None : goal.returns-in-None
-returns-in-None g c = row_of_none c.args.self.now c.args.party.now.crew.set.0 c.args.party.now.crew.group.0 g.S.BySet.places c.args.party.now.newcomers.0 c.args.party.now.never (g.S.BySet.value c.over.result)
-    (first_none c.args.party.now.newcomers.0 c.requires.party.company.small_newcomers (sym c.first.ensures ∙ c.in-None.is)) c.over.ensures
+returns-in-None g c =
+    let film : GroupData = c.args.self.now in
+    let set : ℕ = c.args.party.now.crew.set.0 in
+    let group : ℕ = c.args.party.now.crew.group.0 in
+    let newcomers : ℕ = c.args.party.now.newcomers.0 in
+    let row : ℕ → ℕ = g.S.BySet.value c.over.result in
+    let all : ℕ = full (size group) in
+    subst (λ (gross : ℕ). IsGross film set group (at_first newcomers) gross) (sym (c.at.ensures ∙ ap row c.all.ensures))
+    (none_comes film set group newcomers c.requires.party.company (row all) (first_none newcomers c.requires.party.company.small_newcomers (sym c.first.ensures ∙ c.in-None.is))
+    (c.over.ensures.least all (full_small (size group) (size group) (omega arith))))
