@@ -1,4 +1,4 @@
-// The book itself.
+// The book of lines.
 ghost use Rattle.std.specs.Prelude.{◌≡◌, ◌≤◌};
 ghost use Rattle.strip_film.specs.Film.{IsFilm};
 ghost use Rattle.strip_book.specs.Words.{word_count};
@@ -10,8 +10,8 @@ use atomic_table::Table;
 use std::alloc::Global;
 use strip_film::Path;
 
-/// The lines of a search, as words that any number of workers step on at once, each with a pass of its
-/// own. It has room for all lines that there may be, 16 bytes each.
+/// The lines of a search, as atomic words on which any number of workers step at once, each with its own pass. It has
+/// room for all lines of the line budget, 16 bytes each.
 #[derive(Drop)]
 pub struct Book {
     pub(crate) table: Table<Path, View, Search, Rule, Global>,

@@ -1,4 +1,4 @@
-// How the lines of a book are read at the end.
+// Reading the lines of a book at the end.
 ghost use Rattle.std.specs.Prelude.{◌≡◌, ℕ, ◌<◌, ◌≤◌, IfOk, length, slice_index};
 ghost use Rattle.std.specs.Mem.Slots.{IsFull, slots_items, slots_len};
 ghost use Rattle.strip_lines.specs.Lines.{line_at};
@@ -15,8 +15,8 @@ use strip_film::{Line, Path};
 use strip_io::Memory;
 
 impl Book {
-    /// All lines, by their numbers, once all other passes were joined into this one, so that it has the
-    /// full weight. It fails only where memory runs out.
+    /// Returns all lines, by line number. All other passes must have been joined into this one, so that it has the full
+    /// weight. It fails only if memory runs out.
     pub fn into_lines(self, alloc: Global, pass: BookPass) -> Result<Vec<Line>, Memory>
         requires pass { IsPassOf self pass }
         requires full { (known pass).weight ≡ full_weight }
@@ -32,7 +32,7 @@ impl Book {
     }
 }
 
-/// The first lines of a book that no pass steps on any more.
+/// Reads the first `count` lines of a book on which no pass steps any more.
 fn read_lines(alloc: Global, closed: &Closed<Path, Global>, count: u32) -> Result<Vec<Line>, Memory>
     requires full { IsFull closed.now.words }
     requires words { word_count count ≤ slots_len closed.now.words }

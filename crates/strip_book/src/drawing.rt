@@ -1,4 +1,4 @@
-// How a pass begins parts and makes lines.
+// Beginning parts and making lines.
 ghost use Rattle.std.specs.Prelude.{◌≡◌, ◌<◌, false};
 ghost use Rattle.strip_film.specs.Shown.{path_data};
 ghost use Rattle.strip_book.specs.Pass.{Begins, Enlists, IsNext, IsPassOf, IsSeatOf, MayBegin, MayEnlist, Writes, known};
@@ -13,7 +13,7 @@ use atomic_table::Seat;
 use strip_film::{Listed, Path};
 
 impl BookPass {
-    /// Begins a part, which the search has and the pass hasn't begun: an entry without a path.
+    /// Begins a part of the search that the pass has not begun, as an entry without a path.
     pub fn begin(&mut self, book: &Book, part: u32)
         requires pass { IsPassOf book.now self.old }
         requires may { MayBegin (known self.old) part }
@@ -27,9 +27,9 @@ impl BookPass {
             .compare_exchange::<Begin>(&mut self.seat, desk, part, part);
     }
 
-    /// Makes a line of what remains after a path, with its static bound in units of money, or tells that
-    /// there are as many lines as there may be. The path is the next one of a part that the pass began,
-    /// and a candidate of the start. A pass that was told so draws no further number.
+    /// Makes a line of the set that remains after a path, with its static bound in units of money. The path must be the
+    /// next one of a part that the pass began, and a candidate below the start's cost. If the line budget is used up,
+    /// it returns `Spent`. After that the pass draws no further number.
     pub fn enlist(&mut self, book: &Book, part: u32, path: &Path, bound: u64) -> Listed
         requires pass { IsPassOf book.now self.old }
         requires may { MayEnlist (known self.old) part (path_data path.now) bound }
@@ -51,7 +51,8 @@ impl BookPass {
     }
 }
 
-/// Announces a path at a desk, and draws the number of its line, or one beyond the last.
+/// Announces a path at a desk, and draws the number of its line. A number that is not below the line budget means that
+/// no line is left.
 fn draw(book: &Book, seat: &mut Seat<Path, View>, desk: u32, part: u32, path: &Path) -> u64
     requires seat { IsSeatOf book.now seat.old }
     requires desk { desk < 64 }
@@ -68,7 +69,7 @@ fn draw(book: &Book, seat: &mut Seat<Path, View>, desk: u32, part: u32, path: &P
     words.fetch_add::<Draw>(seat, COUNT, 1)
 }
 
-/// Writes the words of a line that was drawn, the bound first.
+/// Writes the words of a line whose number was drawn, the bound first.
 fn write(book: &Book, seat: &mut Seat<Path, View>, line: u32, path: &Path, bound: u64)
     requires seat { IsSeatOf book.now seat.old }
     requires within { line < book.now.cap }

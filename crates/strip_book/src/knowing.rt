@@ -1,4 +1,4 @@
-// How passes come to know what others know.
+// How passes share their knowledge.
 ghost use Rattle.std.specs.Prelude.{◌≡◌, ◌<◌, ◌≤◌};
 ghost use Rattle.strip_lines.specs.Lines.{GrowTo};
 ghost use Rattle.strip_book.specs.Pass.{Hears, IsCopyOf, IsPassOf, Joins, Settles, known, known_lines, table_of};
@@ -10,8 +10,8 @@ use crate::rule::{Compare, Copied, Cut, Heard, Merge, See};
 use crate::words::QUIET;
 
 impl BookPass {
-    /// A new pass of weight 1, which announces at this desk, one of 64, knows what this one knows, and
-    /// began no part. The weight of this pass, which is 2 or more, falls by 1.
+    /// Splits off a pass of weight 1, which has this pass's knowledge, but no parts. It announces at the given desk,
+    /// one of 64. The weight of this pass must be at least 2, and falls by 1.
     pub fn split(&mut self, book: &Book, desk: u32) -> BookPass
         requires pass { IsPassOf book.now self.old }
         requires weight { 2 ≤ (known self.old).weight }
@@ -29,8 +29,7 @@ impl BookPass {
         }
     }
 
-    /// Takes in another pass of the same book: its weight, its entries behind this one's, and the lines
-    /// that it knows.
+    /// Joins another pass of the same book into this one: its weight, its lines, and its entries, behind this one's.
     pub fn join(&mut self, book: &Book, other: BookPass)
         requires pass { IsPassOf book.now self.old }
         requires other { IsPassOf book.now other }
@@ -44,8 +43,8 @@ impl BookPass {
         self.is_spent |= is_spent;
     }
 
-    /// Tells the pass of all lines. Where it has the full weight, 2^32, since all others were joined into
-    /// it, these are all of its own entries.
+    /// Lets the pass learn all lines. If it has the full weight, 2^32, since all others were joined into it, these are
+    /// all lines of its own entries.
     pub fn settle(&mut self, book: &Book)
         requires { IsPassOf book.now self.old }
         ensures pass { IsPassOf book.now self.new }
@@ -54,7 +53,7 @@ impl BookPass {
         book.table.shared.load::<See>(&mut self.seat, QUIET);
     }
 
-    /// A copy, which knows what this pass knows.
+    /// Returns a copy with this pass's knowledge of lines.
     pub fn copy(&mut self, book: &Book) -> BookCopy
         requires { IsPassOf book.now self.old }
         ensures pass { IsPassOf book.now self.new }
@@ -66,7 +65,7 @@ impl BookPass {
         BookCopy { seat }
     }
 
-    /// Tells the pass of what a copy knows.
+    /// Gives the pass the knowledge of a copy.
     pub fn hear(&mut self, book: &Book, copy: BookCopy)
         requires pass { IsPassOf book.now self.old }
         requires copy { IsCopyOf (table_of book.now) copy }
@@ -81,7 +80,7 @@ impl BookPass {
 }
 
 impl BookCopy {
-    /// A copy, which knows what this one knows.
+    /// Returns a copy with this copy's knowledge of lines.
     pub fn copy(&mut self, book: &Book) -> BookCopy
         requires { IsCopyOf (table_of book.now) self.old }
         ensures kept { IsCopyOf (table_of book.now) self.new }
@@ -93,7 +92,7 @@ impl BookCopy {
         BookCopy { seat }
     }
 
-    /// Tells the copy of what another knows.
+    /// Gives the copy the knowledge of another copy.
     pub fn hear(&mut self, book: &Book, other: BookCopy)
         requires copy { IsCopyOf (table_of book.now) self.old }
         requires other { IsCopyOf (table_of book.now) other }

@@ -1,6 +1,9 @@
-//! The book of the lines that the workers of a search prove: each line is two words, which any number of
-//! workers write, raise and know of at once. Each call of a pass takes a few steps on them, and waits for
-//! nobody.
+//! A shared lock-free list of the lines that workers prove (book), which only grows. A line is two atomic words, which
+//! any number of workers write and raise at once. A pass is a token of a worker's knowledge of lines. Each call takes a
+//! few atomic steps, and never waits.
+//!
+//! A law (`laws`) is a function that does nothing when it runs: its contract is a theorem that a caller obtains by
+//! calling it.
 #![tactic(auto)]
 
 mod book;

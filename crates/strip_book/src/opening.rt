@@ -1,4 +1,4 @@
-// How a book and its first pass are made.
+// Making a book and its first pass.
 ghost use Rattle.std.specs.Prelude.{◌≤◌, IfOk, map};
 ghost use Rattle.strip_film.specs.Shown.{path_data};
 ghost use Rattle.strip_book.specs.Pass.{IsFirst};
@@ -14,9 +14,9 @@ use strip_io::Memory;
 use strip_kind::Kind;
 
 impl Book {
-    /// A book of the film with static bounds of this kind, for paths of these tasks that are below what
-    /// the start paid, in units of money, and for at most so many lines, up to 16,777,216; and its first
-    /// pass, which has the full weight, 2^32, and the first desk. It fails only where memory runs out.
+    /// Makes the book of a search of the film with static bounds of this kind, and its first pass. Its paths belong to
+    /// these tasks, and are below the start path's pay `start`, in units of money. It holds at most `cap` lines, up to
+    /// 16,777,216. The pass has the full weight, 2^32, and the first desk. It fails only if memory runs out.
     pub fn new(
         alloc: Global,
         film: &Film,
@@ -35,7 +35,7 @@ impl Book {
         }) made.0 made.1) }
     {
         film.keeps_limits();
-        // The rule names a film and tasks of its own, so that the book borrows none.
+        // The rule refers to its own copies of the film and the tasks, so that the book borrows none.
         let search = Search {
             film: film.copy()?,
             kind,

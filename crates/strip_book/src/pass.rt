@@ -1,11 +1,12 @@
-// What a worker steps with.
+// Passes and their copies.
 ghost use Rattle.std.specs.Prelude.{◌≡◌, ◌<◌};
 
 use crate::view::View;
 use atomic_table::Seat;
 use strip_film::Path;
 
-/// A worker's pass: its desk, and whether it found that there are as many lines as there may be.
+/// A worker's pass: its desk, and whether it found that the line budget is used up. The seat is the ghost token of its
+/// knowledge.
 #[derive(Drop)]
 pub struct BookPass {
     pub(crate) seat: Seat<Path, View>,
@@ -15,7 +16,7 @@ pub struct BookPass {
     pub ghost desks: { desk < 64 },
 }
 
-/// What a pass knew when it was copied, for another to hear of. It has no bytes.
+/// A copy of a pass's knowledge of lines, for another pass. It has no bytes at run time.
 #[derive(Drop)]
 pub struct BookCopy {
     pub(crate) seat: Seat<Path, View>,

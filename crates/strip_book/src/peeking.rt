@@ -1,4 +1,4 @@
-// What anyone may see of a book.
+// Reads of a book that need no pass.
 ghost use Rattle.std.specs.Prelude.{◌≡◌, ◌≤◌};
 ghost use Rattle.strip_book.specs.Pass.{search_of};
 
@@ -6,7 +6,7 @@ use crate::book::Book;
 use crate::words::COUNT;
 
 impl Book {
-    /// How many lines were drawn until now. It needs no pass, and tells none.
+    /// Returns the number of lines drawn so far. It needs no pass, and gives a pass no knowledge.
     pub fn peek(&self) -> u32
         ensures { result ≤ (search_of self.now).cap }
     {
@@ -14,7 +14,7 @@ impl Book {
         drawn.min(u64::from(self.cap)) as u32
     }
 
-    /// How many lines there may be.
+    /// Returns the line budget.
     pub fn cap(&self) -> u32
         ensures { result ≡ (search_of self.now).cap }
     {

@@ -1,4 +1,4 @@
-// How a pass raises lines.
+// Raising lines.
 ghost use Rattle.strip_book.specs.Pass.{IsPassOf, MayRaise, Raises, known};
 
 use crate::book::Book;
@@ -7,8 +7,8 @@ use crate::rule::Raise;
 use crate::words::bound_word;
 
 impl BookPass {
-    /// Raises the bound of a line to this one at least, in units of money. The pass knows the line, whoever
-    /// made it, and the lines that it knows justify the bound.
+    /// Raises the bound of a line to at least `bound`, in units of money. The pass must know the line, which any worker
+    /// may have made. The lines that it knows must justify the bound.
     pub fn raise(&mut self, book: &Book, line: u32, bound: u64)
         requires pass { IsPassOf book.now self.old }
         requires may { MayRaise (known self.old) line bound }

@@ -1,4 +1,4 @@
-// The rule of a book, and the steps on its words.
+// The invariant of a book, and the kinds of steps on its words.
 ghost use Rattle.std.specs.Prelude.{◌≡◌};
 
 use crate::search::Search;
@@ -6,7 +6,7 @@ use crate::view::View;
 use atomic_table::{Join, Play, Split, TableRule};
 use strip_film::Path;
 
-/// What holds of the words and of all that passes know, whatever steps were taken.
+/// The invariant of the words and of the knowledge of all passes, which every step keeps.
 pub struct Rule;
 
 impl TableRule<Path, View, Search> for Rule {
@@ -17,7 +17,7 @@ impl TableRule<Path, View, Search> for Rule {
     ghost first = { first_view };
 }
 
-/// A step that announces a path of a part, whose number is the operand.
+/// The step that announces a path of a part. The operand is the part's number.
 pub struct Announce;
 
 impl Play<Path, View> for Announce {
@@ -26,7 +26,7 @@ impl Play<Path, View> for Announce {
     ghost then = { λ step before found after. HasAnnounced step.said step.first before.0 after.0 × (after.1 ≡ before.1) };
 }
 
-/// A step that begins a part, whose number is the operand.
+/// The step that begins a part. The operand is the part's number.
 pub struct Begin;
 
 impl Play<Path, View> for Begin {
@@ -35,7 +35,7 @@ impl Play<Path, View> for Begin {
     ghost then = { λ step before found after. (after.0 ≡ with_part before.0 step.first) × (after.1 ≡ before.1) };
 }
 
-/// A step that draws the number of the next line.
+/// The step that draws the number of the next line.
 pub struct Draw;
 
 impl Play<Path, View> for Draw {
@@ -44,7 +44,7 @@ impl Play<Path, View> for Draw {
     ghost then = { λ step before found after. HasDrawn before.0 found after.0 × (after.1 ≡ before.1) };
 }
 
-/// A step that writes the bound of the line that was drawn.
+/// The step that writes the bound of the line drawn.
 pub struct WriteBound;
 
 impl Play<Path, View> for WriteBound {
@@ -53,7 +53,7 @@ impl Play<Path, View> for WriteBound {
     ghost then = { λ step before found after. (after.0 ≡ half_written before.0) × (after.1 ≡ before.1) };
 }
 
-/// A step that writes the set of the line that was drawn.
+/// The step that writes the set of the line drawn.
 pub struct WriteSet;
 
 impl Play<Path, View> for WriteSet {
@@ -62,7 +62,7 @@ impl Play<Path, View> for WriteSet {
     ghost then = { λ step before found after. (after.0 ≡ written before.0) × (after.1 ≡ before.1) };
 }
 
-/// A step that raises the bound of a line.
+/// The step that raises the bound of a line.
 pub struct Raise;
 
 impl Play<Path, View> for Raise {
@@ -71,7 +71,7 @@ impl Play<Path, View> for Raise {
     ghost then = { λ step before found after. HasRaised step.word step.first before.0 after.0 × (after.1 ≡ before.1) };
 }
 
-/// A load, at which a pass learns all lines.
+/// The read by which a pass learns all lines.
 pub struct See;
 
 impl Play<Path, View> for See {
@@ -80,7 +80,7 @@ impl Play<Path, View> for See {
     ghost then = { λ step before found after. HasSeen before.0 after.0 × (after.1 ≡ before.1) };
 }
 
-/// A load, at which a copy learns all lines.
+/// The read by which a copy learns all lines.
 pub struct Compare;
 
 impl Play<Path, View> for Compare {
@@ -89,7 +89,7 @@ impl Play<Path, View> for Compare {
     ghost then = { λ step before found after. HasCompared before.0 after.0 × (after.1 ≡ before.1) };
 }
 
-/// A pass gives a weight of 1 to a new one.
+/// The split of a pass: a new one gets a weight of 1.
 pub struct Cut;
 
 impl Split<View> for Cut {
@@ -100,7 +100,7 @@ impl Split<View> for Cut {
     ghost right = { split_off };
 }
 
-/// A pass takes in another.
+/// The join of a pass into another.
 pub struct Merge;
 
 impl Join<View> for Merge {
@@ -112,7 +112,7 @@ impl Join<View> for Merge {
     ghost spent = { spent_view };
 }
 
-/// A copy is made of a pass or of a copy.
+/// The split of a copy from a pass or a copy.
 pub struct Copied;
 
 impl Split<View> for Copied {
@@ -123,7 +123,7 @@ impl Split<View> for Copied {
     ghost right = { copied };
 }
 
-/// A pass or a copy takes in a copy.
+/// The join of a copy into a pass or a copy.
 pub struct Heard;
 
 impl Join<View> for Heard {

@@ -1,10 +1,10 @@
-// What a book is told of its search.
+// The parameters of a search, as its book has them.
 use std::marker::Model;
 use strip_film::{Film, Path};
 use strip_kind::Kind;
 
-/// What a search goes by: the film, the kind of the static bounds, how many lines there may be, what the
-/// path that it starts with paid, in units of money, and its tasks.
+/// The parameters of a search: the film, the kind of static bounds, the line budget, the start path's pay in units of
+/// money, and the tasks.
 #[derive(Drop)]
 pub struct Search {
     pub film: Film,

@@ -1,13 +1,13 @@
-// What a pass knows.
+// The knowledge of a pass.
 use crate::entry::Entry;
 use crate::search::Search;
 use std::collections::LinkedList;
 use std::marker::Model;
 use strip_film::{Line, Path};
 
-/// What a pass knows, which exists in proofs alone: no value of it is made. Its weight is its share of
-/// the first pass; `lines` are those that it knows, by their numbers, and `heard` those that another knew
-/// that it heard of; `part` and `path` are what it announced, and `at` is the line that it writes.
+/// The knowledge of a pass. It exists in proofs only: no value of it is made. `weight` is its share of the first pass.
+/// `lines` are the lines that it knows, by line number, and `heard` those that it got from another. `part` and `path`
+/// are what it announced, and `at` is the number of the line that it writes.
 pub struct View {
     pub weight: u64,
     pub spent: bool,

@@ -1,4 +1,4 @@
-// The static bounds of a set.
+// Static bounds of four kinds.
 ghost use Rattle.std.specs.Prelude.{◌≡◌, ◌≢◌, ℕ, ◌<◌, ◌≤◌, ◌⊎◌, true, ◌∷◌, drop, length, take};
 ghost use Rattle.strip_mask.specs.Set.{has, members, size, without};
 ghost use Rattle.strip_kind.specs.declared.kind.Kind.TheVariants.{Arrivals, Groups, Pairs, Plain};
@@ -13,8 +13,8 @@ use strip_film::{Film, on};
 use strip_kind::Kind;
 use strip_mask::{Mask, sum_over};
 
-/// The static bound of this kind of a set of the film's scenes: what shooting it costs at least, in
-/// whole units of money. It takes no memory.
+/// Returns the static bound of this kind: a lower bound, in whole units of money, of the cost of finishing a set of the
+/// film's scenes. It allocates no memory.
 pub fn static_bound(film: &Film, tables: &BoundTables, kind: Kind, q: Mask) -> u64
     requires tables { AreTables film.now tables.now }
     requires lies { LiesIn film.now q.0 }
@@ -29,9 +29,9 @@ pub fn static_bound(film: &Film, tables: &BoundTables, kind: Kind, q: Mask) -> u
     }
 }
 
-/// A number that is at most the static bound of this kind, in whole units of money, and at least `need`
-/// or the bound. The bound of arrivals is a sum that is asked for part by part, until `need` is
-/// reached; the other kinds answer their bound. It takes no memory.
+/// Returns a number that is at most the static bound of this kind, and at least `need` or the bound, in whole units of
+/// money. The bound `Arrivals` is a sum that is computed only until it reaches `need`; the other kinds return their
+/// bound. It allocates no memory.
 pub fn static_reach(film: &Film, tables: &BoundTables, kind: Kind, q: Mask, need: u64) -> u64
     requires tables { AreTables film.now tables.now }
     requires lies { LiesIn film.now q.0 }
@@ -44,8 +44,8 @@ pub fn static_reach(film: &Film, tables: &BoundTables, kind: Kind, q: Mask, need
     }
 }
 
-/// The plain bound, in whole units of money: each scene's days for its own cast. One turn for each
-/// scene of the set.
+/// Returns the plain bound, in whole units of money: each scene's days at the rates of its cast. Time is linear in the
+/// size of the set.
 pub fn plain(film: &Film, tables: &BoundTables, q: Mask) -> u64
     requires tables { AreTables film.now tables.now }
     requires lies { LiesIn film.now q.0 }
@@ -55,8 +55,8 @@ pub fn plain(film: &Film, tables: &BoundTables, q: Mask) -> u64
     sum_over(&tables.weights, q)
 }
 
-/// The same, and what the actors on location, taken two by two, are paid for waiting at least. Some
-/// turns over the scenes for each two of them.
+/// Returns the plain bound plus a lower bound of the pay for waiting, by pairs of actors on location. Each pair takes a
+/// few lookups of days.
 pub fn pairs(film: &Film, tables: &BoundTables, q: Mask) -> u64
     requires tables { AreTables film.now tables.now }
     requires lies { LiesIn film.now q.0 }
@@ -66,8 +66,8 @@ pub fn pairs(film: &Film, tables: &BoundTables, q: Mask) -> u64
     plain(film, tables, q) + extras_of_pairs(film, tables, q)
 }
 
-/// The same, and what the actors on location, taken six by six, are paid for waiting at least. The
-/// extra of a group for each six of them.
+/// Returns the plain bound plus a lower bound of the pay for waiting, by groups of six actors on location. It computes
+/// the extra of each group.
 pub fn groups(film: &Film, tables: &BoundTables, q: Mask) -> u64
     requires tables { AreTables film.now tables.now }
     requires lies { LiesIn film.now q.0 }
@@ -77,7 +77,7 @@ pub fn groups(film: &Film, tables: &BoundTables, q: Mask) -> u64
     plain(film, tables, q) + extras_of_groups(film, tables, q)
 }
 
-/// The plain bound, and what parties cost beyond it where more is needed.
+/// Returns the plain bound. If `need` exceeds it, adds the parties' pay for waiting.
 fn arrivals_reach(film: &Film, tables: &BoundTables, q: Mask, need: u64) -> u64
     requires tables { AreTables film.now tables.now }
     requires lies { LiesIn film.now q.0 }
@@ -92,7 +92,7 @@ fn arrivals_reach(film: &Film, tables: &BoundTables, q: Mask, need: u64) -> u64
     plain + extra_of_parties(film, tables, q, need - plain)
 }
 
-/// The extras of the actors on location, two by two by rising number; a last single one adds nothing.
+/// Returns the sum of the extras of the actors on location, paired by rising number. A single last actor adds nothing.
 fn extras_of_pairs(film: &Film, tables: &BoundTables, q: Mask) -> u64
     requires tables { AreTables film.now tables.now }
     requires lies { LiesIn film.now q.0 }
@@ -111,8 +111,8 @@ fn extras_of_pairs(film: &Film, tables: &BoundTables, q: Mask) -> u64
     sum
 }
 
-/// What two actors who are on location are paid for waiting at least: each would wait on the days of
-/// the other alone.
+/// Returns a lower bound of the pay for waiting of two actors on location. One of them leaves last, and waits on the
+/// days of the other alone.
 fn pair_extra(film: &Film, tables: &BoundTables, q: Mask, a: u32, b: u32) -> u64
     requires tables { AreTables film.now tables.now }
     requires lies { LiesIn film.now q.0 }
@@ -127,7 +127,7 @@ fn pair_extra(film: &Film, tables: &BoundTables, q: Mask, a: u32, b: u32) -> u64
     a_waits.min(b_waits)
 }
 
-/// The days of the set's scenes in which the first actor works and the second doesn't.
+/// Returns the days of the set's scenes in which the first actor works and the second doesn't.
 pub(crate) fn days_apart(film: &Film, tables: &BoundTables, q: Mask, a: u32, b: u32) -> u64
     requires tables { AreTables film.now tables.now }
     requires lies { LiesIn film.now q.0 }
@@ -142,7 +142,7 @@ pub(crate) fn days_apart(film: &Film, tables: &BoundTables, q: Mask, a: u32, b: 
     tables.groups.day_sums().sum(of_a.minus(of_b))
 }
 
-/// The extras of the actors on location, six by six by rising number.
+/// Returns the sum of the extras of the actors on location, in groups of six by rising number.
 fn extras_of_groups(film: &Film, tables: &BoundTables, q: Mask) -> u64
     requires tables { AreTables film.now tables.now }
     requires lies { LiesIn film.now q.0 }
@@ -159,7 +159,7 @@ fn extras_of_groups(film: &Film, tables: &BoundTables, q: Mask) -> u64
     sum
 }
 
-/// The six least numbers of the set, or all of fewer, and those that remain.
+/// Returns the six least numbers of the set, or all if there are fewer, and the rest of the set.
 fn first_six(set: Mask) -> (Mask, Mask)
     ensures group { result.0.0 ≡ set_of (take 6 (members set.0)) }
     ensures rest { members result.1.0 ≡ drop 6 (members set.0) }
@@ -179,7 +179,7 @@ fn first_six(set: Mask) -> (Mask, Mask)
     (group, left)
 }
 
-/// The least number of a set that isn't empty.
+/// Returns the least number of a nonempty set.
 fn least(set: Mask) -> u32
     requires { set.0 ≢ 0 }
     ensures begins { members set.0 ≡ result ∷ members (without set.0 result) }

@@ -1,4 +1,4 @@
-//! Laws of the definitions. Each function does nothing: its contract is the law.
+//! Laws of the static bounds: functions that do nothing when they run, with theorems as contracts.
 ghost use Rattle.std.specs.Prelude.{◌≡◌, ℕ, ◌↔◌, ◌⊎◌, ◌+◌, ◌<◌, ◌≤◌, true, false, Contains, List};
 ghost use Rattle.std.specs.List.{AllPairs};
 ghost use Rattle.std.specs.List.Sorted.{IsStrictlyIncreasing};
@@ -15,8 +15,8 @@ ghost use Rattle.strip_bound.specs.Bounds.{bound, group_data, groups_extra, newc
 ghost use Rattle.strip_bound.specs.Falling.{by_falling};
 ghost use Rattle.strip_bound.specs.Waiting.{AreGroups, HasEach, wait_pay};
 
-/// The extra of a group, of any size and however chosen, is the least that it is paid for waiting
-/// along any list of the set: no list has less, and some list no more.
+/// The extra of a group, of any size and however chosen, is its least pay for waiting over the lists of the set. No
+/// list has less, and some list has no more.
 pub fn the_extra_is_the_least_waiting()
     ensures least { (film : FilmData) (set group : ℕ) (scenes : List ℕ) → IsFilm film → LiesIn film set → IsSet group
         → ((actor : ℕ) → has group actor ≡ true → has (cast_of film set) actor ≡ true) → HasEach set scenes
@@ -27,16 +27,16 @@ pub fn the_extra_is_the_least_waiting()
         ≤ group_extra (group_data film) set group) }
 {}
 
-/// Groups of actors on location that share no actor, of any sizes and however chosen: the plain bound
-/// and their extras are at most the tail of every list of the set, whether it keeps the pairs or not.
+/// The plain bound plus the extras of disjoint groups on location, of any sizes and however chosen, bounds every list
+/// of the set from below. The list need not keep the pairs.
 pub fn groups_bound_every_tail()
     ensures { (film : FilmData) (set : ℕ) (groups scenes : List ℕ) → IsFilm film → LiesIn film set
         → AreGroups film set groups
         → HasEach set scenes → plain_bound film set + groups_extra film set groups ≤ steps_cost film set scenes }
 {}
 
-/// A list by falling value: of two of it the former has the greater value, or the values are equal and
-/// it is the lower number, where the numbers came rising; and it has those that came and no other.
+/// Suppose that actors come in rising order. Then of two actors of their list by falling value, the former has the
+/// greater value, or an equal value and the lower number. The list has the actors that came, and no others.
 pub fn lists_fall_by_value()
     ensures fall { (value : ℕ → ℕ) (actors : List ℕ) → IsStrictlyIncreasing actors
         → AllPairs (λ a b. (value b < value a) ⊎ ((value b ≡ value a) × (a < b))) (by_falling value actors) }
@@ -44,8 +44,7 @@ pub fn lists_fall_by_value()
         ↔ Contains actors actor }
 {}
 
-/// The bound of arrivals is at most the tail of every list of the set, whether it keeps the pairs or
-/// not.
+/// The bound of arrivals is at most the tail cost of every list of the set. The list need not keep the pairs.
 pub fn parties_bound_every_tail()
     ensures { (film : FilmData) (set : ℕ) (scenes : List ℕ) → IsFilm film → LiesIn film set → HasEach set scenes
         → bound Arrivals film set ≤ steps_cost film set scenes }
@@ -60,7 +59,8 @@ pub fn parties_share_no_newcomer()
         → has (newcomers_at film set many count place) actor ≡ true → has (on_location film set) actor ≡ false }
 {}
 
-/// A wider bound is no lower, and each is at most the cost of finishing.
+/// Pairs and arrivals are at least as strong as the plain bound, and groups as pairs. Each bound is at most the cost of
+/// finishing.
 pub fn the_bounds_are_true()
     ensures plain { (film : FilmData) (set : ℕ) → bound Plain film set ≤ bound Pairs film set }
     ensures arrivals { (film : FilmData) (set : ℕ) → bound Plain film set ≤ bound Arrivals film set }

@@ -1,4 +1,8 @@
-//! Static bounds.
+//! Static bounds: lower bounds of the cost of finishing a set of remaining scenes, from the film alone. There are four
+//! kinds (`Kind`). A search asks for them through a closure (`StoredBound`, the stored bound), which may cache them.
+//!
+//! A law (`laws`) is a function that does nothing when it runs: its contract is a theorem that a caller obtains by
+//! calling it.
 #![tactic(auto)]
 
 mod bounds;

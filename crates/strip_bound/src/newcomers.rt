@@ -1,4 +1,4 @@
-// Which newcomers the parties of a set have.
+// Choice of the newcomers of each party. A newcomer is an actor who is still to come.
 ghost use Rattle.std.specs.Prelude.{◌≡◌, ℕ, ◌+◌, ◌*◌, ◌^◌, ◌<◌, ◌≤◌, ◌⊎◌, true, All, length, slice_index};
 ghost use Rattle.strip_mask.specs.Set.{LiesBelow, has};
 ghost use Rattle.strip_film.specs.Film.{LiesIn};
@@ -15,10 +15,10 @@ use arrayvec::ArrayVec;
 use strip_film::{Film, cast_of};
 use strip_mask::Mask;
 
-/// How many newcomers a party has at most.
+/// Maximum number of newcomers of a party.
 const NEWCOMERS: usize = 2;
 
-/// The newcomers of each party, as sets: the first of them alone, and all, up to two.
+/// The newcomers of each party, as sets: the first newcomer alone, and all of them, at most two.
 #[derive(Clone, Copy)]
 pub(crate) struct Choices {
     pub(crate) first: [u64; PARTIES],
@@ -26,7 +26,7 @@ pub(crate) struct Choices {
 }
 
 impl Choices {
-    /// No newcomers.
+    /// Makes choices without newcomers.
     pub(crate) fn none() -> Choices {
         Choices {
             first: [0; PARTIES],
@@ -34,7 +34,7 @@ impl Choices {
         }
     }
 
-    /// The choices of the parties: one after the other takes of the newcomers that are left the two who have the
+    /// Chooses the newcomers of the parties greedily. Each party in turn takes, of the newcomers left, the two with the
     /// greatest scores for its group.
     pub(crate) fn of(
         film: &Film,
@@ -67,7 +67,7 @@ impl Choices {
         choices
     }
 
-    /// The newcomers of the party at this place, so many at most.
+    /// Returns the newcomers of the party at this place, at most `count` of them.
     pub(crate) fn at(&self, place: usize, count: usize) -> Mask
         requires place { place < 10 }
         ensures none { count ≡ 0 → result.0 ≡ 0 }
@@ -82,7 +82,7 @@ impl Choices {
     }
 }
 
-/// The newcomers of the set. One turn for each actor of the film.
+/// Returns the newcomers of the set. Time is linear in the film's number of actors.
 pub(crate) fn newcomers(film: &Film, tables: &BoundTables, q: Mask, on: Mask) -> Mask
     requires tables { AreTables film.now tables.now }
     requires lies { LiesIn film.now q.0 }
@@ -99,7 +99,7 @@ pub(crate) fn newcomers(film: &Film, tables: &BoundTables, q: Mask, on: Mask) ->
     newcomers
 }
 
-/// Whether the actor isn't on location and has two or more scenes in the set.
+/// Returns whether the actor isn't on location and has at least two scenes in the set.
 fn is_newcomer(film: &Film, tables: &BoundTables, q: Mask, on: Mask, actor: u32) -> bool
     requires tables { AreTables film.now tables.now }
     requires lies { LiesIn film.now q.0 }
@@ -112,8 +112,8 @@ fn is_newcomer(film: &Film, tables: &BoundTables, q: Mask, on: Mask, actor: u32)
     !on.has(actor) && scenes.size() >= 2
 }
 
-/// The two of these newcomers who have the greatest scores for the group, equals by number; of fewer all. One
-/// turn for each actor of the film, and a score for each newcomer.
+/// Returns the two newcomers with the greatest scores for the group, by number at equal scores, or all if there are
+/// fewer. It computes a score for each newcomer.
 fn chosen(film: &Film, tables: &BoundTables, q: Mask, group: Mask, newcomers: Mask) -> Falling
     requires tables { AreTables film.now tables.now }
     requires lies { LiesIn film.now q.0 }
@@ -134,7 +134,7 @@ fn chosen(film: &Film, tables: &BoundTables, q: Mask, group: Mask, newcomers: Ma
     best
 }
 
-/// The score of each of these newcomers for the group, at his number.
+/// Returns the newcomers' scores for the group, indexed by actor number.
 fn scores(film: &Film, tables: &BoundTables, q: Mask, group: Mask, newcomers: Mask) -> [u64; 64]
     requires tables { AreTables film.now tables.now }
     requires lies { LiesIn film.now q.0 }
@@ -152,8 +152,8 @@ fn scores(film: &Film, tables: &BoundTables, q: Mask, group: Mask, newcomers: Ma
     scores
 }
 
-/// What the newcomer and his company in the group may cost while one waits for the other. Some turns for each
-/// scene of the newcomer and each actor whom he meets.
+/// Returns an estimate of the pay for waiting of the newcomer and his company in the group, if one waits for the other.
+/// Time is linear in the newcomer's number of scenes and in the size of his company.
 fn score(film: &Film, tables: &BoundTables, q: Mask, group: Mask, newcomer: u32) -> u64
     requires tables { AreTables film.now tables.now }
     requires lies { LiesIn film.now q.0 }
@@ -166,7 +166,7 @@ fn score(film: &Film, tables: &BoundTables, q: Mask, group: Mask, newcomer: u32)
     company_waits.min(pay_of_newcomer(film, tables, q, company, newcomer))
 }
 
-/// Those of the group who work in a scene of the set with the newcomer.
+/// Returns the newcomer's company: the actors of the group who work with him in a scene of the set.
 fn company(film: &Film, tables: &BoundTables, q: Mask, group: Mask, newcomer: u32) -> Mask
     requires tables { AreTables film.now tables.now }
     requires lies { LiesIn film.now q.0 }
@@ -180,7 +180,7 @@ fn company(film: &Film, tables: &BoundTables, q: Mask, group: Mask, newcomer: u3
     group.meet(cast_of(film, scenes))
 }
 
-/// What the actors would be paid for waiting on all of the newcomer's days without them.
+/// Returns the actors' pay if they wait on all of the newcomer's days without them.
 fn pay_of_company(film: &Film, tables: &BoundTables, q: Mask, actors: Mask, newcomer: u32) -> u64
     requires tables { AreTables film.now tables.now }
     requires lies { LiesIn film.now q.0 }
@@ -197,7 +197,7 @@ fn pay_of_company(film: &Film, tables: &BoundTables, q: Mask, actors: Mask, newc
     pay
 }
 
-/// What the newcomer would be paid for waiting on all days of the actors without him.
+/// Returns the newcomer's pay if he waits on all days of the actors without him.
 fn pay_of_newcomer(film: &Film, tables: &BoundTables, q: Mask, actors: Mask, newcomer: u32) -> u64
     requires tables { AreTables film.now tables.now }
     requires lies { LiesIn film.now q.0 }
@@ -211,7 +211,7 @@ fn pay_of_newcomer(film: &Film, tables: &BoundTables, q: Mask, actors: Mask, new
     film.holds()[newcomer as usize] * tables.groups.day_sums().sum(without)
 }
 
-/// The scenes in which one of the actors works. One turn for each actor.
+/// Returns the scenes in which at least one of the actors works. Time is linear in the number of actors.
 fn scenes_with_any(film: &Film, tables: &BoundTables, actors: Mask) -> Mask
     requires tables { AreTables film.now tables.now }
     requires actors { LiesBelow (length film.now.rates) actors.0 }

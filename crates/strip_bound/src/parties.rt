@@ -1,4 +1,4 @@
-// What parties cost beyond the plain bound.
+// The bound of arrivals: the pay for waiting of parties. A party is a group of actors on location with some newcomers.
 ghost use Rattle.std.specs.Prelude.{◌≡◌, ℕ, ◌+◌, ◌-◌, ◌*◌, ◌^◌, ◌<◌, ◌≤◌, ◌⊎◌, not, All, drop, filter, length, max, slice_index, slice_set, sum_by, take};
 ghost use Rattle.strip_mask.specs.Set.{LiesBelow, members};
 ghost use Rattle.strip_film.specs.Film.{LiesIn};
@@ -16,18 +16,23 @@ use strip_arrivals::laws::fewer_newcomers_wait_no_more;
 use strip_film::{Film, on};
 use strip_mask::Mask;
 
-/// How many actors a group of the smaller size has; the last one has what remains.
+/// Number of actors of a small group; the last group has the rest.
 const FEW: usize = 7;
 
-/// How many one of the larger size has.
+/// Number of actors of a large group.
 const MANY: usize = 10;
 
-/// How many parties there are at most.
+/// Maximum number of parties.
 pub(crate) const PARTIES: usize = 10;
 
-/// The parties of a set: how many actors each of their groups has, but for the last one, how many
-/// parties there are, with fewer than how many newcomers each was asked for its value, the greatest value
-/// known of each, the sum of these, and how far it has to reach.
+/// The parties of a set, and the progress of their computation:
+///
+/// - `many`: number of actors of each group but the last;
+/// - `number`: number of parties;
+/// - `asked`: one more than the number of newcomers with which the parties were last computed, or 0;
+/// - `values`: the greatest value known of each party;
+/// - `extra`: the sum of these values;
+/// - `need`: the value of `extra` at which the computation stops.
 #[derive(Drop)]
 pub(crate) struct Parties {
     pub(crate) many: usize,
@@ -38,10 +43,9 @@ pub(crate) struct Parties {
     pub(crate) need: u64,
 }
 
-/// What parties of seven or of ten cost beyond the plain bound, whichever is more, or a part of it that
-/// is at least `need`. It asks for the values of groups of seven alone first, then for those with
-/// newcomers, and for those of groups of ten with all of theirs at once, since more newcomers don't lower
-/// a value.
+/// Returns the extra of parties of seven or of ten, whichever is greater, or a part of it that is at least `need`. It
+/// first computes the values of groups of seven alone, then with newcomers. Last come groups of ten, with all newcomers
+/// at once, since more newcomers don't lower a value.
 pub(crate) fn extra_of_parties(film: &Film, tables: &BoundTables, q: Mask, need: u64) -> u64
     requires tables { AreTables film.now tables.now }
     requires lies { LiesIn film.now q.0 }
@@ -69,7 +73,7 @@ pub(crate) fn extra_of_parties(film: &Film, tables: &BoundTables, q: Mask, need:
 }
 
 impl Parties {
-    /// The parties, of none of which anything is known.
+    /// Makes the parties, with no value known.
     fn new(film: &Film, q: Mask, located: &[u32], many: usize, need: u64) -> Parties
         requires located { located.now ≡ located_by_hold film.now q.0 }
         requires many { (many ≡ 7) ⊎ (many ≡ 10) }
@@ -88,8 +92,8 @@ impl Parties {
         }
     }
 
-    /// Asks each party for its value with all of its newcomers; with the first of them alone before, where
-    /// the groups come near to what is needed.
+    /// Computes each party's value with all of its newcomers. If the groups alone come near to `need`, it tries the
+    /// first newcomer alone before.
     fn ask_all(
         &mut self,
         film: &Film,
@@ -120,13 +124,13 @@ impl Parties {
         self.ask(film, tables, q, located, choices, 2);
     }
 
-    /// Whether no more than a sixth of what is needed is lacking. The time alone depends on it.
+    /// Returns whether at most a sixth of `need` is lacking. It affects the time only, not the result.
     fn is_near(&self) -> bool {
         self.extra >= self.need - self.need / 6
     }
 
-    /// Asks each party for its value with so many of its newcomers at most, until as much as is needed is
-    /// known. One value for each party that has more of them than it was asked with.
+    /// Computes each party's value with at most `count` of its newcomers, until `need` is reached. A party without
+    /// further newcomers is skipped.
     fn ask(
         &mut self,
         film: &Film,
@@ -169,7 +173,7 @@ impl Parties {
         }
     }
 
-    /// Keeps the value of the party at this place, where it is above what was known of it.
+    /// Raises the known value of the party at this place, if `value` is greater.
     fn raise(&mut self, place: usize, value: u64)
         requires place { place < length self.old.values }
         requires fits { self.old.extra + (value - slice_index self.old.values place) < 2 ^ 64 }
@@ -184,7 +188,7 @@ impl Parties {
     }
 }
 
-/// These actors, by falling hold rate. One turn for each actor of the film.
+/// Returns the actors of the set by falling hold rate. Time is linear in the film's number of actors.
 fn located(film: &Film, tables: &BoundTables, on: Mask) -> Falling
     requires tables { AreTables film.now tables.now }
     requires lies { LiesBelow (length film.now.rates) on.0 }
@@ -200,8 +204,8 @@ fn located(film: &Film, tables: &BoundTables, on: Mask) -> Falling
     located
 }
 
-/// The actors at so many places of a list from this one on, or at all of fewer, as a set. One turn for
-/// each.
+/// Returns the set of the actors at `count` places of a list from `from` on, or of fewer at its end. Time is linear in
+/// `count`.
 pub(crate) fn set_from(actors: &[u32], from: usize, count: usize) -> Mask
     requires listed { All (λ actor. actor < 64) actors.now }
     requires fits { from + count < 2 ^ 63 }

@@ -1,4 +1,4 @@
-// A stored bound.
+// Static bounds as a search asks for them.
 ghost use Rattle.std.specs.Prelude.{◌≡◌, ◌+◌, ◌≤◌, ◌⊎◌, true};
 ghost use Rattle.strip_mask.specs.Set.{has, without};
 ghost use Rattle.strip_film.specs.Film.{LiesIn};
@@ -11,7 +11,8 @@ use strip_film::{Film, step};
 use strip_kind::Kind;
 use strip_mask::Mask;
 
-/// A stored bound: a closure that is asked for the bound of a set, and how far it has to reach.
+/// A stored bound: the static bound of a film as a closure, which takes a set and the value `need` up to which the
+/// bound matters.
 #[derive(Drop)]
 pub struct StoredBound<'f, F: Fn(u64, u64) -> u64> {
     film: &'f Film,
@@ -20,8 +21,8 @@ pub struct StoredBound<'f, F: Fn(u64, u64) -> u64> {
 }
 
 impl<'f, F: Fn(u64, u64) -> u64> StoredBound<'f, F> {
-    /// The bound of this kind of the film's sets, as the closure answers it: asked for a set and how
-    /// far it has to reach, it answers at most the bound, and as much as was asked for or the bound.
+    /// Makes a stored bound of this kind from a closure. For a set and a number `need` the closure must return at most
+    /// the static bound, and at least `need` or the bound.
     pub fn new(film: &'f Film, kind: Kind, f: F) -> StoredBound<'f, F>
         requires { Keeps (F.pre f) (F.post f) kind film.now }
         ensures keeps { Keeps (F.pre result.f) (F.post result.f) result.kind result.film.now }
@@ -31,8 +32,8 @@ impl<'f, F: Fn(u64, u64) -> u64> StoredBound<'f, F> {
         StoredBound { film, kind, f }
     }
 
-    /// A number that is at most the bound of the set, in whole units of money, and at least `need` or
-    /// the bound. It costs one call of the closure.
+    /// Returns a number that is at most the bound of the set, and at least `need` or the bound, in whole units of
+    /// money. It costs one call of the closure.
     pub fn reach(&self, q: Mask, need: u64) -> u64
         requires keeps { Keeps (F.pre self.now.f) (F.post self.now.f) self.now.kind self.now.film.now }
         requires lies { LiesIn self.now.film.now q.0 }
@@ -42,7 +43,7 @@ impl<'f, F: Fn(u64, u64) -> u64> StoredBound<'f, F> {
         (self.f)(q.0, need)
     }
 
-    /// The bound of the set, in whole units of money.
+    /// Returns the bound of the set, in whole units of money. It costs one call of the closure.
     pub fn at(&self, q: Mask) -> u64
         requires keeps { Keeps (F.pre self.now.f) (F.post self.now.f) self.now.kind self.now.film.now }
         requires lies { LiesIn self.now.film.now q.0 }
@@ -52,8 +53,8 @@ impl<'f, F: Fn(u64, u64) -> u64> StoredBound<'f, F> {
         self.reach(q, u64::MAX)
     }
 
-    /// What a path promises whose paid with the bound of what remains is `reach`, in units of money: the
-    /// lesser goes first. With the cheap kinds all promise the same.
+    /// Returns the promise of a path, by which paths are ranked; the least goes first. `reach` is the path's pay plus
+    /// the bound of the scenes that remain, in units of money. With the kinds `Plain` and `Pairs` all promises are 0.
     pub fn promised(&self, reach: u64) -> u64
         ensures { result ≡ promised self.now.kind reach }
     {
@@ -63,8 +64,8 @@ impl<'f, F: Fn(u64, u64) -> u64> StoredBound<'f, F> {
         }
     }
 
-    /// The rank of scene `s` among those of `q` that may be shot first: what a step to it with the bound
-    /// of what then remains promises. At most the time of a step and one call of the closure.
+    /// Returns the rank of scene `s` among those of `q` that may be shot first: the promise of its step plus the bound
+    /// of the rest. It takes at most the time of `step` and one call of the closure.
     pub fn rank(&self, q: Mask, s: u32) -> u64
         requires keeps { Keeps (F.pre self.now.f) (F.post self.now.f) self.now.kind self.now.film.now }
         requires lies { LiesIn self.now.film.now q.0 }
@@ -81,14 +82,14 @@ impl<'f, F: Fn(u64, u64) -> u64> StoredBound<'f, F> {
         }
     }
 
-    /// The kind of the bound.
+    /// Returns the kind of the bound.
     pub fn kind(&self) -> Kind
         ensures { result ≡ self.now.kind }
     {
         self.kind
     }
 
-    /// The film whose sets it bounds.
+    /// Returns the film whose sets it bounds.
     pub fn film(&self) -> &'f Film
         ensures { result.now ≡ self.now.film.now }
     {

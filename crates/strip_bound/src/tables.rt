@@ -1,4 +1,4 @@
-// What the static bounds of a film go by.
+// Precomputed tables of a film, for its static bounds.
 ghost use Rattle.std.specs.Prelude.{◌≡◌, ℕ, ◌<◌, ◌≤◌, IfOk, length, slice_index};
 ghost use Rattle.strip_mask.specs.Set.{has, numbers_below};
 ghost use Rattle.strip_bound.specs.Falling.{by_falling};
@@ -12,22 +12,22 @@ use strip_group::GroupTable;
 use strip_io::Memory;
 use strip_mask::{Mask, sum_over};
 
-/// What the bounds of a film's sets go by, made once: a number for each scene and for each actor, and
-/// the tables of the extras of groups and of the values of parties.
+/// Tables for the static bounds of a film, made once: numbers for each scene and actor, and tables for groups and for
+/// parties.
 #[derive(Debug, Drop)]
 pub struct BoundTables {
     /// Each scene's days at the rates of its cast, in whole units of money.
     pub(crate) weights: Vec<u64>,
-    /// For each actor the set of the scenes with him.
+    /// For each actor the set of his scenes.
     pub(crate) plays: Vec<u64>,
     pub(crate) groups: GroupTable,
     pub(crate) arrivals: ArrivalsTable,
-    /// The actors by falling hold rate, equals by number.
+    /// The actors by falling hold rate, and by number at equal rates.
     pub(crate) by_hold: Falling,
 }
 
 impl BoundTables {
-    /// The tables of the film. It fails only where memory runs out. One turn for each scene and actor.
+    /// Makes the tables of the film. It fails only if memory runs out.
     pub fn of(alloc: Global, film: &Film) -> Result<BoundTables, Memory>
         ensures { IfOk result (λ tables. AreTables film.now tables) }
     {
@@ -42,7 +42,7 @@ impl BoundTables {
     }
 }
 
-/// For each scene its days at the rates of its cast.
+/// Returns for each scene its days at the rates of its cast.
 fn weights_of(alloc: Global, film: &Film) -> Result<Vec<u64>, AllocError>
     ensures { IfOk result (λ weights. AreWeights film.now weights.items) }
 {
@@ -55,7 +55,7 @@ fn weights_of(alloc: Global, film: &Film) -> Result<Vec<u64>, AllocError>
     Ok(weights)
 }
 
-/// For each actor the set of the scenes with him.
+/// Returns for each actor the set of his scenes.
 fn plays_of(alloc: Global, film: &Film) -> Result<Vec<u64>, AllocError>
     ensures { IfOk result (λ plays. ArePlays film.now plays.items) }
 {
@@ -68,7 +68,7 @@ fn plays_of(alloc: Global, film: &Film) -> Result<Vec<u64>, AllocError>
     Ok(plays)
 }
 
-/// The actors by falling hold rate, equals by number.
+/// Returns the actors by falling hold rate, and by number at equal rates.
 fn by_hold(film: &Film) -> Falling
     ensures { result.items ≡ by_falling (slice_index film.now.holds) (numbers_below (length film.now.holds)) }
 {
@@ -76,7 +76,7 @@ fn by_hold(film: &Film) -> Falling
     by_falling(film.holds())
 }
 
-/// The scenes whose cast has the actor.
+/// Returns the scenes whose cast has the actor.
 fn scenes_with(casts: &[u64], actor: u32) -> Mask
     requires few { length casts.now ≤ 64 }
     requires known { actor < 64 }

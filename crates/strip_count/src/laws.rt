@@ -1,4 +1,4 @@
-//! Laws of the definitions. Each function does nothing: its contract is the law.
+//! Laws of counting paths: functions that do nothing when they run, with theorems as contracts.
 ghost use Rattle.std.specs.Prelude.{◌≡◌, ◌≢◌, ◌↔◌, ℕ, suc, ◌+◌, ◌*◌, ◌<◌, ◌≤◌, ◌==◌, ◌⊎◌, nat_eq, Bool, true, false, Option, Some, List, [], ◌∷◌, ◌++◌, All, count_by, length};
 ghost use Rattle.std.specs.Cmp.Lexicographic.{pointwise};
 ghost use Rattle.strip_mask.specs.Sums.{sum_below};
@@ -14,8 +14,8 @@ ghost use Rattle.strip_count.specs.Apart.{AreApart, IsLeft};
 ghost use Rattle.strip_count.specs.Paths.{ComesAfter, IsUnfinished, factorial, candidate_count, is_candidate, number_of, number_up_to, path_count, leaving_count};
 ghost use Rattle.strip_count.specs.Parts.{AreCounted, AreTasks, Enlists, inside, lies_in};
 
-/// Each path with something remaining is counted once, and nothing else is: where no such path passes
-/// a test, none is counted.
+/// Each unfinished path (one with scenes that remain) is counted exactly once. If no unfinished path passes a test, the
+/// count is 0.
 pub fn paths_are_counted_once()
     ensures once { (film : FilmData) (path : PathData) → IsFilm film → IsUnfinished film path
         → number_of film (λ other. pointwise nat_eq path.scenes other.scenes) ≡ 1 }
@@ -23,8 +23,8 @@ pub fn paths_are_counted_once()
         → ((path : PathData) → IsUnfinished film path → test path ≡ false) → number_of film test ≡ 0 }
 {}
 
-/// The paths with something remaining of a film of n scenes number at most `path_count n`, and just as
-/// many where no pair has to be kept; that is at most twice the number of its orders.
+/// A film of n scenes has at most `path_count n` unfinished paths, and exactly as many if it has no pairs. That is at
+/// most twice the factorial of n.
 pub fn paths_are_few()
     ensures most { (film : FilmData) (test : PathData → Bool) → IsFilm film
         → number_of film test ≤ path_count (length film.casts) }
@@ -33,17 +33,15 @@ pub fn paths_are_few()
     ensures orders { (scenes : ℕ) → path_count scenes ≤ 2 * factorial scenes }
 {}
 
-/// A path of the film is a candidate where it is open and its paid with the static bound of what
-/// remains is below the cost.
+/// A path is a candidate if it is open and its pay plus the static bound of the rest is below the cost.
 pub fn candidates_are_open()
     ensures { (rules : Rules) (cost : ℕ) (path : PathData) → IsPath rules.film path
         → (is_candidate rules cost path ≡ true) ↔ (IsOpen rules path × (path.paid + rules.bound path.rest < cost)) }
 {}
 
-/// Of the paths of a film, each of two others than itself comes before the other by what it promises: no
-/// path comes before itself, one before a second comes before what the second is before, and of two one is
-/// first. A path comes before what goes on from it; two that part keep their order however they go on,
-/// which is that of the scenes where they part; where all promise the same they come by number.
+/// The order in which a search meets paths, by rank, is a strict total order. A path comes before its extensions. Two
+/// paths that part are ordered by the scenes at which they part. If all promises are equal, the order is lexicographic
+/// by scene numbers.
 pub fn paths_come_one_after_the_other()
     ensures never { (rules : Rules) (set : ℕ) (a : List ℕ) → ¬ IsEarlier rules set a a }
     ensures transitive { (rules : Rules) (set : ℕ) (a b c : List ℕ) → IsEarlier rules set a b → IsEarlier rules set b c
@@ -57,8 +55,8 @@ pub fn paths_come_one_after_the_other()
         → IsEarlier rules set a b ↔ IsBefore a b }
 {}
 
-/// Where a path that passes a test comes after the last one, one more is counted up to it; and up to
-/// any path at most all that pass.
+/// If a path that passes a test comes after the last one, the count up to it is greater by at least one. The count up
+/// to any path is at most the count of all paths that pass.
 pub fn a_later_path_counts_one_more()
     ensures more { (rules : Rules) (last : Option PathData) (next : PathData) (test : PathData → Bool)
         → IsFilm rules.film
@@ -71,8 +69,8 @@ pub fn a_later_path_counts_one_more()
         → number_up_to rules last test ≤ number_of rules.film test }
 {}
 
-/// No path lies in two parts: what is counted in the parts adds up to at most all that pass, and to
-/// less where one of them has a later path that passes.
+/// No path lies in two parts. So the counts of the parts add up to at most the count of all paths that pass. The sum is
+/// less if some part has a later path that passes.
 pub fn parts_add_up()
     ensures most { (rules : Rules) (depth : ℕ) (tasks : List PathData) (last : ℕ → Option PathData) (test : PathData
         → Bool)
@@ -88,8 +86,8 @@ pub fn parts_add_up()
         ≤ number_of rules.film test }
 {}
 
-/// Lines stay counted where a later candidate of a part is enlisted: a line of what remains after it is
-/// added, and it is the part's last path.
+/// Lines stay counted when a part enlists a later candidate: a line of its remaining set is appended, and it becomes
+/// the part's last path.
 pub fn lines_stay_counted()
     ensures none { (rules : Rules) (cost depth : ℕ) (tasks : List PathData) (last : ℕ → Option PathData)
         → AreCounted rules cost depth tasks [] last (λ _. 0) }
@@ -103,8 +101,8 @@ pub fn lines_stay_counted()
         → AreCounted rules cost depth tasks (lines ++ line ∷ []) last_then number_then }
 {}
 
-/// Lines that are counted are at most as many as the candidates, in all and of each set; and fewer where
-/// a part has a later candidate.
+/// Counted lines are at most as many as the candidates, in total and for each set. They are fewer if some part has a
+/// later candidate.
 pub fn counted_lines_are_few()
     ensures most { (rules : Rules) (cost depth : ℕ) (tasks : List PathData) (lines : List Line) (last : ℕ
         → Option PathData) (number : ℕ → ℕ)
@@ -123,16 +121,16 @@ pub fn counted_lines_are_few()
         → length lines + 1 ≤ candidate_count rules cost }
 {}
 
-/// Below a lesser cost there are at most as many candidates, in all and of each set: what is said of the
-/// number of candidates below what an order pays holds below what a dearer one pays.
+/// Below a lesser cost there are at most as many candidates, in total and for each set. So a limit for the cost of one
+/// order holds for every cheaper order.
 pub fn a_lesser_cost_has_fewer_candidates()
     ensures few { (rules : Rules) (lesser cost : ℕ) → lesser ≤ cost → candidate_count rules lesser ≤ candidate_count rules cost }
     ensures ways { (rules : Rules) (lesser cost set : ℕ) → lesser ≤ cost
         → leaving_count rules lesser set ≤ leaving_count rules cost set }
 {}
 
-/// Lines of which no two have the same set, each of a set that a candidate leaves, are at most as many as the
-/// candidates, in all and of each set.
+/// Lines with different sets, each left by some candidate, are at most as many as the candidates, in total and for each
+/// set.
 pub fn lines_of_different_sets_are_few()
     ensures most { (rules : Rules) (cost : ℕ) (lines : List Line) → IsFilm rules.film → AreApart lines
         → All (λ line. IsLeft rules cost line.set) lines → length lines ≤ candidate_count rules cost }

@@ -1,4 +1,4 @@
-// Every order that keeps the pairs, one after the other.
+// Enumeration of all orders that keep the pairs.
 ghost use Rattle.std.specs.Prelude.{◌≡◌, length, nat_lt, MatchBool, MatchOption, IfOk};
 ghost use Rattle.strip_pay.specs.Order.{IsOrder};
 ghost use Rattle.strip_pay.specs.Pay.{pay_of, IsOptimum};
@@ -18,9 +18,8 @@ pub struct Cheapest {
     pub pay: u64,
 }
 
-/// The cheapest order of the film that keeps its pairs, the lexicographically first one where several
-/// cost the same. It takes time with the factorial of the number of scenes, and fails only where memory
-/// runs out.
+/// Returns a cheapest order that keeps the pairs: the lexicographically first if several cost the same. Time is
+/// factorial in the number of scenes. It fails only if memory runs out.
 pub fn cheapest_order(alloc: Global, film: &Film) -> Result<Cheapest, Memory>
     ensures order { IfOk result (λ best. IsOrder (length film.now.casts) best.order.items) }
     ensures first { IfOk result (λ best. IsFirstCheapest film.now best.order.items) }
@@ -30,7 +29,7 @@ pub fn cheapest_order(alloc: Global, film: &Film) -> Result<Cheapest, Memory>
     cheapest_from(alloc, film, &Path::start(film))
 }
 
-/// The first of the cheapest among the orders that keep the pairs and begin with the path's scenes.
+/// Returns the lexicographically first of the cheapest orders that keep the pairs and begin with the path's scenes.
 fn cheapest_from(alloc: Global, film: &Film, path: &Path) -> Result<Cheapest, Memory>
     requires { IsPath film.now (path_data path.now) }
     ensures first { IfOk result (λ best. IsFirstCheapestFrom film.now (path_data path.now).scenes best.order.items) }
@@ -44,12 +43,12 @@ fn cheapest_from(alloc: Global, film: &Film, path: &Path) -> Result<Cheapest, Me
     }
     match best {
         Some(best) => Ok(best),
-        // Nothing remains: the path itself is the one order that begins so.
+        // No scene remains: the path itself is the only order that begins with it.
         None => complete(alloc, path),
     }
 }
 
-/// The path's scenes and what was paid.
+/// Returns the path's scenes and its pay.
 fn complete(alloc: Global, path: &Path) -> Result<Cheapest, Memory>
     ensures order { IfOk result (λ best. best.order.items ≡ (path_data path.now).scenes) }
     ensures pay { IfOk result (λ best. best.pay ≡ (path_data path.now).paid) }
@@ -60,7 +59,7 @@ fn complete(alloc: Global, path: &Path) -> Result<Cheapest, Memory>
     })
 }
 
-/// The cheaper of the two, the first where they cost the same.
+/// Returns the cheaper of the two, or the earlier one if they cost the same.
 fn cheaper(best: Option<Cheapest>, found: Cheapest) -> Cheapest
     ensures { MatchOption best (result ≡ found) (λ b. MatchBool (nat_lt found.pay b.pay) (result ≡ found) (result
         ≡ b)) }

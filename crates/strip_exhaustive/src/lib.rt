@@ -1,5 +1,5 @@
-//! The cheapest order by trying every order that keeps the pairs: the plain program that faster
-//! searches are compared with.
+//! Brute-force optimum: tries every order that keeps the pairs (precedence constraints). Tests compare the searches
+//! with it.
 #![tactic(auto)]
 
 mod cheapest;

@@ -1,9 +1,9 @@
-// Where a search is in a task.
+// The position of a search in a task.
 ghost use Rattle.std.specs.Prelude.{◌≡◌, None, Some};
 
 use crate::path::Path;
 
-/// A task number, and the last path that was enlisted in the task.
+/// A cursor: a task number, and the last path that was enlisted (recorded as a line) in the task.
 #[derive(Clone, Copy, Debug)]
 pub struct Cursor {
     task: u32,
@@ -14,21 +14,21 @@ impl Cursor {
     ghost use Rattle.std.specs.Option.{option_map};
     ghost use Rattle.strip_film.specs.Shown.{cursor_data, path_data};
 
-    /// A cursor without a last path.
+    /// Makes a cursor of the task, without a last path.
     pub fn of(task: u32) -> Cursor
         ensures { cursor_data result ≡ record { task = task; last = None } }
     {
         Cursor { task, last: None }
     }
 
-    /// The number of the task: the part of a search that the cursor stands in.
+    /// Returns the number of the task: the part of the search that the cursor belongs to.
     pub fn task(&self) -> u32
         ensures { result ≡ (cursor_data self.now).task }
     {
         self.task
     }
 
-    /// The last path that was enlisted, if there is one.
+    /// Returns the path that was enlisted last, if there is one.
     pub fn last(&self) -> Option<Path>
         ensures { option_map path_data result ≡ (cursor_data self.now).last }
     {

@@ -1,4 +1,4 @@
-// A film within the limits.
+// Films within the limits.
 ghost use Rattle.std.specs.Prelude.{◌≡◌, ◌↔◌, ℕ, ◌<◌, ◌≤◌, true, List, length, sum, All, IsTrue, IsSome, IfSome, IfOk};
 ghost use Rattle.strip_mask.specs.Set.{LiesBelow, has};
 ghost use Rattle.strip_pay.specs.Film.{FilmData};
@@ -11,9 +11,8 @@ use strip_io::Memory;
 use strip_mask::Mask;
 use strip_pay::{Pair, fit};
 
-/// The scenes and actors of a film, by number: who works in a scene, its days, what an actor gets
-/// for a day of work and for a day of waiting, and which scenes come before which. A cast is a mask
-/// of actor numbers.
+/// A film: scenes and actors by number. It has casts, days, each actor's pay for a day of work and for a day of
+/// waiting, and the pairs (precedence constraints). A cast is a mask of actor numbers.
 #[derive(Debug, Drop)]
 pub struct Film {
     casts: Vec<u64>,
@@ -21,8 +20,8 @@ pub struct Film {
     rates: Vec<u64>,
     holds: Vec<u64>,
     pairs: Vec<Pair>,
-    // Made once, so that no call goes over the casts or the pairs for them: all scenes, and for each
-    // scene those that come directly before it.
+    // Computed once, so that no call goes over the casts or pairs for them: the set of all scenes, and for each scene
+    // the scenes that a pair puts before it.
     all: Mask,
     before: [u64; MAX_COUNT],
 }
@@ -43,11 +42,14 @@ impl Model for Film {
 }
 
 impl Film {
-    /// The film of these casts, days, rates, hold rates and pairs, where they keep the limits: 1 to 64
-    /// scenes with as many numbers of days, none of them 0 and together at most 19,800; at most 64
-    /// actors, with rates for a day of together at most 64,000,000,000, and as many hold rates of
-    /// together at most that; no cast with a bit that is no actor; and pairs of two different scenes
-    /// each, none twice, that no way along them leads from a scene back to it. It takes no memory.
+    /// Makes the film of these casts, days, rates, hold rates and pairs, or none if they break a limit. The limits are:
+    ///
+    /// - 1 to 64 scenes, with a number of days for each, none of them 0, together at most 19,800;
+    /// - at most 64 actors, with a rate and a hold rate for each; each of the two adds up to at most 64,000,000,000;
+    /// - casts without a bit that is no actor's number;
+    /// - pairs of two different scenes each, none twice, and without a cycle.
+    ///
+    /// It allocates no memory.
     pub fn of(
         casts: Vec<u64>,
         days: Vec<u64>,
@@ -75,64 +77,63 @@ impl Film {
         })
     }
 
-    /// Every film keeps the limits. It does nothing: a caller that needs one of them makes this call
-    /// first.
+    /// A law: every film keeps the limits. The call does nothing when it runs; a caller obtains the limits by it.
     pub fn keeps_limits(&self)
         ensures { IsFilm self.now }
     {
         let _ = &self.casts;
     }
 
-    /// How many scenes the film has.
+    /// Returns the number of scenes.
     pub fn scenes(&self) -> usize
         ensures { result ≡ length self.now.casts }
     {
         self.casts.len()
     }
 
-    /// The set of all scenes.
+    /// Returns the set of all scenes.
     pub fn all(&self) -> Mask
         ensures { result.0 ≡ all_scenes self.now }
     {
         self.all
     }
 
-    /// Who works in each scene, as masks of actor numbers.
+    /// Returns each scene's cast, as a mask of actor numbers.
     pub fn casts(&self) -> &[u64]
         ensures { result.now ≡ self.now.casts }
     {
         &self.casts
     }
 
-    /// How many days each scene takes.
+    /// Returns each scene's number of days.
     pub fn days(&self) -> &[u64]
         ensures { result.now ≡ self.now.days }
     {
         &self.days
     }
 
-    /// What each actor gets for a day of work, in whole units of money, by actor number.
+    /// Returns each actor's pay for a day of work, in whole units of money, by actor number.
     pub fn rates(&self) -> &[u64]
         ensures { result.now ≡ self.now.rates }
     {
         &self.rates
     }
 
-    /// What each actor gets for a day of waiting, in whole units of money, by actor number.
+    /// Returns each actor's pay for a day of waiting, in whole units of money, by actor number.
     pub fn holds(&self) -> &[u64]
         ensures { result.now ≡ self.now.holds }
     {
         &self.holds
     }
 
-    /// Which scenes have to be shot before which.
+    /// Returns the pairs (precedence constraints) of scenes.
     pub fn pairs(&self) -> &[Pair]
         ensures { result.now ≡ self.now.pairs }
     {
         &self.pairs
     }
 
-    /// The scenes that a pair puts directly before this one, which is below 64.
+    /// Returns the scenes that a pair puts directly before this scene, which is below 64.
     pub fn before(&self, scene: u32) -> Mask
         requires { scene < MAX_COUNT }
         ensures { (first : ℕ) → (has result.0 first ≡ true) ↔ Precedes self.now.pairs first scene }
@@ -140,7 +141,7 @@ impl Film {
         Mask(self.before[scene as usize])
     }
 
-    /// An equal film, with lists of its own. It fails only where memory runs out.
+    /// Returns an equal film with lists of its own. It fails only if memory runs out.
     pub fn copy(&self) -> Result<Film, Memory>
         ensures { IfOk result (λ film. film ≡ self.now) }
     {
@@ -178,7 +179,7 @@ fn are_within_limits(
         && fit(pairs, casts.len())
 }
 
-/// Whether the sum of the values is at most the limit. It doesn't overflow.
+/// Returns whether the sum of the values is at most the limit, without overflow.
 fn add_up_to_at_most(values: &[u64], limit: u64) -> bool
     ensures { IsTrue result ↔ (sum values.now ≤ limit) }
 {
@@ -192,7 +193,7 @@ fn add_up_to_at_most(values: &[u64], limit: u64) -> bool
     true
 }
 
-/// Whether each number of each set is below `count`.
+/// Returns whether each number of each set is below `count`.
 fn all_lie_below(sets: &[u64], count: usize) -> bool
     requires { count ≤ MAX_COUNT }
     ensures { IsTrue result ↔ All (LiesBelow count) sets.now }
@@ -200,7 +201,7 @@ fn all_lie_below(sets: &[u64], count: usize) -> bool
     sets.iter().all(|set| Mask(*set).lies_below(count as u32))
 }
 
-/// For each scene the set of the scenes that a pair puts directly before it.
+/// Returns for each scene the scenes that a pair puts directly before it.
 fn directly_before(pairs: &[Pair]) -> [u64; MAX_COUNT]
     requires { All (IsKnownPair MAX_COUNT) pairs.now }
     ensures { TellsBefore pairs.now result }

@@ -1,5 +1,9 @@
-//! Films as lists, the state of a shoot, the cost of finishing it, the rules of a search, and the
-//! types that its parts share.
+//! Films, step costs and partial schedules: the state of the search space. A path is a partial schedule, and the
+//! running state is one that is updated in place. The crate also defines the rules of a search (bound, branching and
+//! order of children), and the types that its parts share.
+//!
+//! A law (`laws`, `Film::keeps_limits`) is a function that does nothing when it runs: its contract is a theorem that a
+//! caller obtains by calling it.
 #![tactic(auto)]
 
 mod cursor;

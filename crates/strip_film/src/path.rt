@@ -1,4 +1,4 @@
-// The scenes shot so far.
+// Partial schedules (paths).
 ghost use Rattle.std.specs.Prelude.{◌≡◌, ◌+◌, ◌<◌, ◌≤◌, ◌^◌, true, [], ◌∷◌, ◌++◌, length, All};
 ghost use Rattle.strip_mask.specs.Set.{has, with, without};
 ghost use Rattle.strip_film.specs.declared.limits.TheConstants.{MAX_COUNT};
@@ -11,8 +11,8 @@ use crate::limits::MAX_COUNT;
 use crate::shoot::step;
 use strip_mask::Mask;
 
-/// The scenes shot so far in their order, the scenes that remain, and what was paid. It is a fixed
-/// array, so that extending it is a copy.
+/// A path (partial schedule): the scenes shot so far in order, the scenes that remain, and the pay so far. It is a
+/// fixed array, so that extending it is a copy.
 #[derive(Clone, Copy, Debug)]
 pub struct Path {
     list: [u8; MAX_COUNT],
@@ -25,7 +25,7 @@ pub struct Path {
 impl Path {
     ghost use Rattle.strip_film.specs.Shown.{path_data};
 
-    /// Nothing shot, all remains.
+    /// Makes the empty path: no scene is shot, and all remain.
     pub fn start(film: &Film) -> Path
         ensures start { path_data result ≡ record { scenes = []; rest = all_scenes film.now; paid = 0 } }
         ensures path { IsPath film.now (path_data result) }
@@ -38,29 +38,29 @@ impl Path {
         }
     }
 
-    /// The scenes in the order in which they were shot.
+    /// Returns the scenes shot, in order.
     pub fn scenes(&self) -> &[u8]
         ensures { result.now ≡ (path_data self.now).scenes }
     {
         &self.list[..self.len]
     }
 
-    /// The scenes that remain.
+    /// Returns the scenes that remain.
     pub fn rest(&self) -> Mask
         ensures { result.0 ≡ (path_data self.now).rest }
     {
         self.rest
     }
 
-    /// The sum of the steps, in units of money.
+    /// Returns the pay so far: the sum of the steps, in units of money.
     pub fn paid(&self) -> u64
         ensures { result ≡ (path_data self.now).paid }
     {
         self.paid
     }
 
-    /// The path with scene `s`, a ready one of those that remain, shot next and its step paid. A copy,
-    /// and the time of `step`.
+    /// Returns the path extended by scene `s`, a ready scene of those that remain. It costs a copy and the time of
+    /// `step`.
     pub fn extend(&self, film: &Film, s: u32) -> Path
         requires path { IsPath film.now (path_data self.now) }
         requires ready { has (ready film.now (path_data self.now).rest) s ≡ true }
@@ -75,7 +75,7 @@ impl Path {
         self.extend_with(film, s, step(film, self.rest, s))
     }
 
-    /// The same, where what the step costs is known, in units of money. A copy alone.
+    /// Returns the path extended by scene `s`, whose step cost is given, in units of money. It costs a copy alone.
     pub fn extend_with(&self, film: &Film, s: u32, step: u64) -> Path
         requires path { IsPath film.now (path_data self.now) }
         requires ready { has (ready film.now (path_data self.now).rest) s ≡ true }
@@ -93,7 +93,7 @@ impl Path {
         next
     }
 
-    /// Scene `s` shot next, in place, for a step that costs `step`.
+    /// Appends scene `s` in place, at cost `step`.
     pub(crate) fn push(&mut self, s: u32, step: u64)
         requires scene { s < MAX_COUNT }
         requires room { length (path_data self.old).scenes < MAX_COUNT }
@@ -110,7 +110,7 @@ impl Path {
         self.len += 1;
     }
 
-    /// Takes back the last scene, in place, and answers it; `paid` is what was paid before it.
+    /// Removes the last scene in place and returns it. The caller gives the pay before that scene as `paid`.
     pub(crate) fn pop(&mut self, paid: u64) -> u32
         requires some { 0 < length (path_data self.old).scenes }
         requires known { All (λ scene. scene < MAX_COUNT) (path_data self.old).scenes }

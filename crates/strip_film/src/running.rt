@@ -1,4 +1,4 @@
-// A path that is moved in place.
+// Partial schedules that are updated in place (running states).
 ghost use Rattle.std.specs.Prelude.{◌≡◌, ℕ, ◌+◌, ◌<◌, ◌≤◌, ◌==◌, ◌&&◌, cond, true, List, [], ◌∷◌, ◌++◌, length, slice_index};
 ghost use Rattle.strip_mask.specs.Set.{LiesBelow, has, without};
 ghost use Rattle.strip_film.specs.declared.limits.TheConstants.{MAX_COUNT};
@@ -14,9 +14,8 @@ use crate::path::Path;
 use crate::shoot::step_with;
 use strip_mask::Mask;
 
-/// The state of a search that shoots scenes and takes them back in place: the path, for each actor how
-/// many of his scenes are shot and how many are left, who is on location, and what was paid before each
-/// scene of the path. It takes no memory.
+/// The state of a search that shoots scenes and takes them back in place. It has the path, each actor's numbers of
+/// scenes shot and left, the actors on location, and the pay before each scene of the path. It allocates no memory.
 #[derive(Clone, Copy, Debug)]
 pub struct Running {
     path: Path,
@@ -29,8 +28,8 @@ pub struct Running {
 impl Running {
     ghost use Rattle.strip_film.specs.Shown.{running_data};
 
-    /// The state after the scenes of a path. For each actor one turn for each scene of the film, and then
-    /// `take` for each scene of the path.
+    /// Makes the state after the scenes of a path. For each actor it goes over the film's scenes; then it calls `take`
+    /// for each scene of the path.
     pub fn of(film: &Film, path: &Path) -> Running
         requires { IsPath film.now (path_data path.now) }
         ensures running { IsRunning film.now (running_data result) }
@@ -44,7 +43,7 @@ impl Running {
         running
     }
 
-    /// Nothing shot, all remains.
+    /// Makes the state in which no scene is shot.
     fn start(film: &Film) -> Running
         ensures running { IsRunning film.now (running_data result) }
         ensures none { (running_data result).path.scenes ≡ [] }
@@ -58,28 +57,28 @@ impl Running {
         }
     }
 
-    /// The scenes shot so far.
+    /// Returns the path: the scenes shot so far.
     pub fn path(&self) -> &Path
         ensures { path_data result.now ≡ (running_data self.now).path }
     {
         &self.path
     }
 
-    /// The scenes that remain.
+    /// Returns the scenes that remain.
     pub fn rest(&self) -> Mask
         ensures { result.0 ≡ (running_data self.now).path.rest }
     {
         self.path.rest()
     }
 
-    /// The sum of the steps, in units of money.
+    /// Returns the pay so far: the sum of the steps, in units of money.
     pub fn paid(&self) -> u64
         ensures { result ≡ (running_data self.now).path.paid }
     {
         self.path.paid()
     }
 
-    /// How many scenes of the actor, a number below 64, are shot.
+    /// Returns the number of the actor's scenes that are shot. The actor's number is below 64.
     pub fn done(&self, actor: u32) -> u32
         requires { actor < MAX_COUNT }
         ensures { result ≡ slice_index (running_data self.now).done actor }
@@ -87,7 +86,7 @@ impl Running {
         self.done[actor as usize] as u32
     }
 
-    /// How many scenes of the actor, a number below 64, remain.
+    /// Returns the number of the actor's scenes that remain. The actor's number is below 64.
     pub fn left(&self, actor: u32) -> u32
         requires { actor < MAX_COUNT }
         ensures { result ≡ slice_index (running_data self.now).left actor }
@@ -95,15 +94,15 @@ impl Running {
         self.left[actor as usize] as u32
     }
 
-    /// Who is on location, as a set of actor numbers.
+    /// Returns the actors on location, as a set of actor numbers.
     pub fn on(&self) -> Mask
         ensures { result.0 ≡ (running_data self.now).on }
     {
         self.on
     }
 
-    /// What it costs, in units of money, to shoot scene `s` of those that remain next. One turn for each
-    /// actor who is paid.
+    /// Returns the cost, in units of money, of shooting scene `s` next, which must remain. Time is linear in the number
+    /// of actors who are paid.
     pub fn step(&self, film: &Film, s: u32) -> u64
         requires running { IsRunning film.now (running_data self.now) }
         requires remains { has (running_data self.now).path.rest s ≡ true }
@@ -113,7 +112,7 @@ impl Running {
         step_with(film, self.on, s)
     }
 
-    /// Shoots scene `s`, a ready one of those that remain, next. The time of `step`, and two turns for
+    /// Shoots scene `s` next, a ready scene of those that remain. It takes the time of `step`, and two iterations for
     /// each actor of its cast.
     pub fn take(&mut self, film: &Film, s: u32)
         requires running { IsRunning film.now (running_data self.old) }
@@ -130,8 +129,8 @@ impl Running {
         self.take_with(film, s, step);
     }
 
-    /// Shoots scene `s`, a ready one of those that remain, next, where it is known what that costs, in units of
-    /// money. Two turns for each actor of its cast.
+    /// Shoots scene `s` next, a ready scene, whose step cost is given, in units of money. It takes two iterations for
+    /// each actor of its cast.
     pub fn take_with(&mut self, film: &Film, s: u32, step: u64)
         requires running { IsRunning film.now (running_data self.old) }
         requires ready { has (ready film.now (running_data self.old).path.rest) s ≡ true }
@@ -151,7 +150,7 @@ impl Running {
         self.on = self.on.union(cast).minus(without_scenes(&self.left, cast));
     }
 
-    /// Takes the last scene of the path back. Two turns for each actor of its cast.
+    /// Takes back the last scene of the path. It takes two iterations for each actor of its cast.
     pub fn back(&mut self, film: &Film)
         requires running { IsRunning film.now (running_data self.old) }
         requires some { 0 < length (running_data self.old).path.scenes }
@@ -168,7 +167,7 @@ impl Running {
     }
 }
 
-/// For each actor of the film how many of its scenes he works in.
+/// Returns for each actor the number of the film's scenes that he works in.
 fn scenes_of_each(film: &Film) -> [u8; MAX_COUNT]
     ensures { (actor : ℕ) → actor < length film.now.rates
         → slice_index result actor ≡ scenes_with film.now (all_scenes film.now) actor }
@@ -181,7 +180,7 @@ fn scenes_of_each(film: &Film) -> [u8; MAX_COUNT]
     counts
 }
 
-/// How many scenes of the set the actor works in.
+/// Returns the number of the set's scenes that the actor works in.
 fn scenes_with(film: &Film, q: Mask, actor: u32) -> u8
     requires lies { LiesIn film.now q.0 }
     requires known { actor < MAX_COUNT }
@@ -195,7 +194,7 @@ fn scenes_with(film: &Film, q: Mask, actor: u32) -> u8
     count
 }
 
-/// Moves one scene of each actor of the cast from one count to the other.
+/// Moves one scene of each actor of the cast from the one count to the other.
 fn move_counts(from: &mut [u8; MAX_COUNT], to: &mut [u8; MAX_COUNT], cast: Mask)
     requires known { LiesBelow MAX_COUNT cast.0 }
     requires some { (actor : ℕ) → has cast.0 actor ≡ true → 0 < slice_index from.old actor }
@@ -209,7 +208,7 @@ fn move_counts(from: &mut [u8; MAX_COUNT], to: &mut [u8; MAX_COUNT], cast: Mask)
     }
 }
 
-/// Who of the cast has a count of 0.
+/// Returns the actors of the cast whose count is 0.
 fn without_scenes(counts: &[u8; MAX_COUNT], cast: Mask) -> Mask
     requires { LiesBelow MAX_COUNT cast.0 }
     ensures { (actor : ℕ) → has result.0 actor ≡ (has cast.0 actor && (slice_index counts.now actor == 0)) }

@@ -1,13 +1,13 @@
-// What the parts of a search hand to one another.
+// Types that the parts of a search share.
 
-/// A bound on the cost of finishing a set of scenes: the set as a mask, the bound in units of money.
+/// A line: a lower bound, in units of money, of the cost of finishing a set of scenes. The set is a mask.
 #[derive(Clone, Copy, Debug, PartialEq, Eq)]
 pub struct Line {
     pub set: u64,
     pub bound: u64,
 }
 
-/// What is known of a line: its number, its set, and a bound that it has at least.
+/// A worker's knowledge of a line: its number, its set, and a lower bound of its current bound.
 #[derive(Clone, Copy, Debug, PartialEq, Eq)]
 pub struct Known {
     pub line: u32,
@@ -15,23 +15,23 @@ pub struct Known {
     pub bound: u64,
 }
 
-/// What enlisting a path gave: the number of the new line, or that there are `lines` already, which
-/// is the most.
+/// The result of enlisting a path: the number of the new line, or `Spent` if the line budget of `lines` lines is used
+/// up.
 #[derive(Clone, Copy, Debug, PartialEq, Eq)]
 pub enum Listed {
     Line(u32),
     Spent { lines: u32 },
 }
 
-/// Whether a table has an entry of a set.
+/// The result of a table lookup (probe): an entry of the set, or none.
 #[derive(Clone, Copy, Debug, PartialEq, Eq)]
 pub enum Probe {
     Hit(Known),
     Miss,
 }
 
-/// What a table did with an entry: it is new, it raised the entry of its set, that entry stays
-/// since its bound is as great, or it is new in the place of the entry that left.
+/// The effect of a table insertion (note). `Fresh`: a new entry. `Raised`: the set's entry was raised. `Stays`: the
+/// set's entry stays, since its `bound` is as great. `Evicted`: a new entry in place of the given one.
 #[derive(Clone, Copy, Debug, PartialEq, Eq)]
 pub enum Noted {
     Fresh,

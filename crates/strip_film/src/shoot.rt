@@ -1,4 +1,4 @@
-// The state of a shoot, when a set of scenes remains.
+// Step costs and ready scenes, while a set of scenes remains.
 ghost use Rattle.std.specs.Prelude.{◌≡◌, ◌+◌, ◌*◌, ◌<◌, true, length, slice_index};
 ghost use Rattle.strip_mask.specs.Set.{LiesBelow, has, minus, sum_over};
 ghost use Rattle.strip_film.specs.Film.{LiesIn};
@@ -7,7 +7,8 @@ ghost use Rattle.strip_film.specs.Shoot.{cast_of, on_location, ready, step_cost}
 use crate::film::Film;
 use strip_mask::{Mask, sum_over};
 
-/// Who works in some scene of the set, as a set of actor numbers. One turn for each scene of it.
+/// Returns the actors who work in some scene of the set, as a set of actor numbers. Time is linear in the size of the
+/// set.
 pub fn cast_of(film: &Film, q: Mask) -> Mask
     requires { LiesIn film.now q.0 }
     ensures { result.0 ≡ cast_of film.now q.0 }
@@ -20,8 +21,8 @@ pub fn cast_of(film: &Film, q: Mask) -> Mask
     cast
 }
 
-/// Who is on location while the set remains, as a set of actor numbers: who works in a scene of it
-/// and in one outside it. One turn for each scene of the film.
+/// Returns the actors on location while the set remains: those who work in a scene of it and in one outside it. Time is
+/// linear in the film's number of scenes.
 pub fn on(film: &Film, q: Mask) -> Mask
     requires { LiesIn film.now q.0 }
     ensures { result.0 ≡ on_location film.now q.0 }
@@ -29,9 +30,9 @@ pub fn on(film: &Film, q: Mask) -> Mask
     cast_of(film, q).meet(cast_of(film, film.all().minus(q)))
 }
 
-/// What it costs, in units of money, to shoot scene `s` next while the set remains: its days at the
-/// rates of its cast and the hold rates of whoever else is on location. One turn for each scene of
-/// the film and each actor who is paid.
+/// Returns the cost, in units of money, of shooting scene `s` next while the set remains. The cost is the scene's days,
+/// at the rates of its cast and the hold rates of the others on location. Time is linear in the numbers of scenes and
+/// of actors who are paid.
 pub fn step(film: &Film, q: Mask, s: u32) -> u64
     requires lies { LiesIn film.now q.0 }
     requires remains { has q.0 s ≡ true }
@@ -41,8 +42,7 @@ pub fn step(film: &Film, q: Mask, s: u32) -> u64
     step_with(film, on(film, q), s)
 }
 
-/// What it costs, in units of money, to shoot scene `s` next while the actors of the set are on
-/// location, like `step`. One turn for each actor who is paid.
+/// Returns the same cost as `step`, given the actors on location. Time is linear in the number of actors who are paid.
 pub fn step_with(film: &Film, on: Mask, s: u32) -> u64
     requires known { s < length film.now.casts }
     requires actors { LiesBelow (length film.now.rates) on.0 }
@@ -56,8 +56,8 @@ pub fn step_with(film: &Film, on: Mask, s: u32) -> u64
     film.days()[s as usize] * (sum_over(rates, cast) + sum_over(holds, waiting))
 }
 
-/// The scenes of the set that may be shot next: no pair puts them behind another scene of it. One
-/// turn for each scene of the set; none where the film has no pairs.
+/// Returns the ready scenes of the set: those that no pair puts after another scene of it. Time is linear in the size
+/// of the set, but constant if the film has no pairs.
 pub fn ready(film: &Film, q: Mask) -> Mask
     requires { LiesIn film.now q.0 }
     ensures { result.0 ≡ ready film.now q.0 }

@@ -1,4 +1,4 @@
-// Going down the front of a search: its paths are enlisted, and the tasks that follow are asked for.
+// Enlisting the paths of the front, and marking the tasks to be walked.
 ghost use Rattle.std.specs.Prelude.{◌≡◌, IfOk, IfErr};
 ghost use Rattle.strip_io.specs.Counts.{Rose};
 ghost use Rattle.strip_film.specs.Shown.{cursor_data, path_data};
@@ -16,14 +16,17 @@ use strip_film::{Cursor, Listed, Path};
 use strip_hand::Hand;
 use strip_io::Memory;
 
-/// Enlists the front's paths in part 0, which the caller has claimed, and asks for the tasks that follow.
-/// The empty path is enlisted where the static bound of all scenes is below the least cost; and then each
-/// longer path whose paid with the bound of what remains is below the least cost, whether the path before
-/// it was or not, each before those that come after it. Answers whether the budget was spent: where there
-/// are as many lines as there may be a path isn't enlisted, and the later ones are tried nonetheless.
-/// The empty path has a line then too, where at least one may be made and the hand knows none but those
-/// of its own paths here.
-/// A few calls of the hand and one of the stored bound for each path, and a look for each task that follows.
+/// Enlists the front's paths in part 0, which the caller has claimed, and marks the tasks that follow from them.
+///
+/// The empty path is enlisted if the static bound of all scenes is below the least cost; if not, nothing is. Then each
+/// longer path is enlisted if its pay plus the bound of the rest is below the least cost. Its predecessor need not be
+/// enlisted. Paths are tried in the order of the search.
+///
+/// Returns whether the line budget was used up. A path that meets a used-up budget is not enlisted, but later paths are
+/// still tried. Even then the empty path has a line, if the budget isn't 0 and the hand knows only lines of its own
+/// front paths.
+///
+/// It takes a few calls of the hand and one of the stored bound for each path, and a lookup for each task that follows.
 pub fn go_down<H: Hand, F: Fn(u64, u64) -> u64>(
     kept: &StoredBound<F>,
     hand: &mut H,
@@ -48,8 +51,8 @@ pub fn go_down<H: Hand, F: Fn(u64, u64) -> u64>(
     Ok(spent)
 }
 
-/// What became of a path that was tried: it isn't below the least cost; it has this line; or there are
-/// as many lines as there may be.
+/// The result of trying a path: it isn't below the least cost (`Passed`), it has this line, or the line budget is used
+/// up.
 #[derive(Debug, Drop)]
 enum Tried {
     Passed,
@@ -61,7 +64,7 @@ impl Tried {
     ghost use Rattle.std.specs.Prelude.{◌≡◌};
     ghost use Rattle.strip_front.specs.Tried.{has_spent, line_from};
 
-    /// The line that was made, if one was.
+    /// Returns the line that was made, if any.
     fn line(&self) -> Option<u32>
         ensures { result ≡ line_from self.now }
     {
@@ -71,7 +74,7 @@ impl Tried {
         }
     }
 
-    /// Whether the budget was spent.
+    /// Returns whether the line budget was used up.
     fn is_spent(&self) -> bool
         ensures { result ≡ has_spent self.now }
     {
@@ -82,7 +85,7 @@ impl Tried {
     }
 }
 
-/// Enlists the path, where its paid with the bound of what remains is below the least cost.
+/// Enlists the path, if its pay plus the static bound of the rest is below the least cost.
 fn try_path<H: Hand, F: Fn(u64, u64) -> u64>(
     kept: &StoredBound<F>,
     hand: &mut H,
@@ -114,7 +117,7 @@ fn try_path<H: Hand, F: Fn(u64, u64) -> u64>(
     }
 }
 
-/// Enlists the empty path, and then the others, where each is below the least cost.
+/// Enlists the empty path, and then the others, each if it is below the least cost.
 fn enlist_paths<H: Hand, F: Fn(u64, u64) -> u64>(
     kept: &StoredBound<F>,
     hand: &mut H,
@@ -144,7 +147,7 @@ fn enlist_paths<H: Hand, F: Fn(u64, u64) -> u64>(
     }
 }
 
-/// Enlists the paths behind the empty one, where each is below the least cost.
+/// Enlists the paths after the empty one, each if it is below the least cost.
 fn enlist_longer<H: Hand, F: Fn(u64, u64) -> u64>(
     kept: &StoredBound<F>,
     hand: &mut H,

@@ -1,4 +1,4 @@
-//! Laws of the definitions. Each function does nothing: its contract is the law.
+//! Laws of the front: functions that do nothing when they run, with theorems as contracts.
 ghost use Rattle.std.specs.Prelude.{◌≡◌, ℕ, ◌≤◌, List, length, All, Contains};
 ghost use Rattle.strip_kind.specs.declared.kind.Kind.{Kind};
 ghost use Rattle.strip_pay.specs.Film.{FilmData};
@@ -10,27 +10,27 @@ ghost use Rattle.strip_hand.specs.Search.{AreStarts, SearchData, depth_of, searc
 ghost use Rattle.strip_front.specs.Front.{IsDepth};
 ghost use Rattle.strip_front.specs.Layers.{AreTasksOf, layer};
 
-/// A search can be parted into its tasks: they are paths of its film, each of as many scenes, what remains
-/// after two of them differs, and they are few.
+/// A search can be divided into its tasks: they are paths of its film with equal numbers of scenes, they leave
+/// different sets, and their number is within the limit.
 pub fn tasks_are_starts()
     ensures { (search : SearchData) (depth : ℕ) → IsFilm search.film → IsDepth search.film depth
         → AreTasksOf (search_rules search) depth search.tasks → AreStarts search × (depth_of search ≡ depth) }
 {}
 
-/// Each path of a layer is an open one of as many scenes.
+/// Each path of a layer is open and has the layer's number of scenes.
 pub fn layers_are_open()
     ensures { (kind : Kind) (film : FilmData) (depth : ℕ) → IsFilm film
         → All (λ path. IsOpen (rules_of kind film) path × (length path.scenes ≡ depth)) (layer film depth) }
 {}
 
-/// For each open path there is one in the layer of as many scenes that leaves the same and pays no more.
+/// For each open path, the layer of its length has a path that leaves the same set and pays no more.
 pub fn layers_pay_the_least()
     ensures { (kind : Kind) (film : FilmData) (path : PathData) → IsFilm film → IsOpen (rules_of kind film) path
         → (other : PathData) × Contains (layer film (length path.scenes)) other × (other.rest ≡ path.rest)
         × (other.paid ≤ path.paid) }
 {}
 
-/// The tasks stand in the order in which they arise, where all promise the same.
+/// If all promises are equal, the tasks have the order of the layer.
 pub fn tasks_stand_as_they_arise()
     ensures { (rules : Rules) (depth : ℕ) (tasks : List PathData) → ((paid set : ℕ) → rules.promise paid set ≡ 0)
         → AreTasksOf rules depth tasks → tasks ≡ layer rules.film depth }

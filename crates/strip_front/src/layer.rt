@@ -1,4 +1,4 @@
-// The layers of a search.
+// Layers of paths with equal numbers of scenes.
 ghost use Rattle.std.specs.Prelude.{◌≡◌, [], All, fold, IfOk};
 ghost use Rattle.std.specs.List.{flat_map};
 ghost use Rattle.strip_film.specs.Path.{IsPath};
@@ -11,7 +11,7 @@ use strip_film::{Film, Path};
 use strip_io::Memory;
 use strip_paths::{PathsBySet, put_paths_after};
 
-/// The layer of no scenes: the empty path.
+/// Makes layer 0: the empty path.
 pub(crate) fn first_layer(alloc: Global, film: &Film) -> Result<PathsBySet, Memory>
     ensures { IfOk result (λ first. paths_of first ≡ layer film.now 0) }
 {
@@ -20,7 +20,7 @@ pub(crate) fn first_layer(alloc: Global, film: &Film) -> Result<PathsBySet, Memo
     Ok(first)
 }
 
-/// The layer of one scene more than this one.
+/// Makes the next layer: the successors of the paths of the layer `before`.
 pub(crate) fn layer_after(
     alloc: Global,
     film: &Film,

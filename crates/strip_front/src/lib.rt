@@ -1,4 +1,8 @@
-//! The front of a search: the tasks that it is parted into, and the lines of the paths before these.
+//! The search frontier (front): the open paths of the first layers, of which the longest are the search's subproblems
+//! (tasks). The crate makes it, enlists its shorter paths as lines, and raises these lines once the tasks are walked.
+//!
+//! A law (`laws`) is a function that does nothing when it runs: its contract is a theorem that a caller obtains by
+//! calling it.
 #![tactic(auto)]
 
 mod down;

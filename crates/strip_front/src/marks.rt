@@ -1,4 +1,4 @@
-// Which tasks are asked for.
+// Marking the tasks that have to be walked.
 ghost use Rattle.std.specs.Prelude.{◌≡◌, ◌≢◌, ◌<◌, ℕ, length, IsSome};
 ghost use Rattle.std.specs.List.{AllPairs};
 ghost use Rattle.strip_film.specs.Film.{LiesIn};
@@ -14,8 +14,8 @@ use strip_film::Film;
 use strip_mask::Mask;
 use strip_rule::open_firsts;
 
-/// Asks for the tasks that follow from the front's lines: for each path with a line those that its open
-/// firsts leave. A look for each of them.
+/// Marks the tasks that follow from the front's lines: for each path with a line, the tasks that its open firsts lead
+/// to. It takes a lookup for each.
 pub(crate) fn mark_wanted(film: &Film, front: &mut Front)
     requires { (kind : Kind) × IsFrontOf (rules_of kind film.now) (front_data front.old) }
     ensures { MarksMore (front_data front.old) (front_data front.new) (IsWanted film.now (front_data front.old)) }
@@ -26,7 +26,7 @@ pub(crate) fn mark_wanted(film: &Film, front: &mut Front)
     }
 }
 
-/// Asks for the tasks that follow from the path at this place, where it has a line.
+/// Marks the tasks that follow from the path at this place, if it has a line.
 fn mark_behind(film: &Film, place: usize, front: &mut Front)
     requires front { (kind : Kind) × IsFrontOf (rules_of kind film.now) (front_data front.old) }
     requires place { place < length (front_data front.old).paths }
@@ -41,7 +41,7 @@ fn mark_behind(film: &Film, place: usize, front: &mut Front)
     }
 }
 
-/// Asks for the tasks that the open firsts of this set leave.
+/// Marks the tasks to which the open firsts of this set lead.
 fn mark_after(film: &Film, rest: Mask, front: &mut Front)
     requires lies { LiesIn film.now rest.0 }
     requires wanted { length (front_data front.old).wanted ≡ length (front_data front.old).tasks }
@@ -55,7 +55,7 @@ fn mark_after(film: &Film, rest: Mask, front: &mut Front)
     }
 }
 
-/// Asks for the task that leaves these scenes, where there is one.
+/// Marks the task that leaves these scenes, if there is one.
 fn ask_for(front: &mut Front, rest: Mask)
     requires wanted { length (front_data front.old).wanted ≡ length (front_data front.old).tasks }
     requires apart { AllPairs (λ a b. a.rest ≢ b.rest) (front_data front.old).tasks }

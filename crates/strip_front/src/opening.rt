@@ -1,4 +1,4 @@
-// A front with nothing in it.
+// Making the front.
 ghost use Rattle.std.specs.Prelude.{◌≡◌, ◌≤◌, ℕ, suc, false, None, min, length, replicate, IfOk};
 ghost use Rattle.strip_bound.specs.StoredBound.{Keeps};
 ghost use Rattle.strip_lines.specs.Lines.{rules_of};
@@ -16,12 +16,14 @@ use strip_bound::StoredBound;
 use strip_io::Memory;
 use strip_paths::PathsBySet;
 
-/// The front of the film, with no task asked for and no lines. The tasks are paths of `most` scenes, 2 to 4,
-/// or of as many as the film has: for each set of scenes that can remain after as many open firsts, one that
-/// paid the least. They stand by rising promise, equals in the order in which they arise: by rising scenes,
-/// each at the place of the first that leaves the same. It takes a few copies of a path for each set that
-/// can remain after so many scenes or fewer, and asks for the stored bound of each task once, and of each
-/// shorter path.
+/// Makes the front of the film, without marked tasks and lines.
+///
+/// The tasks are paths of `most` scenes, 2 to 4, or of all scenes of a shorter film. For each set that can remain after
+/// as many open firsts, there is one cheapest path. Tasks stand by rising promise. Ties keep the order in which paths
+/// arise: by rising scenes, each at the place of the first path that leaves its set.
+///
+/// It copies a few paths for each set that can remain after at most that number of scenes. It asks once for the stored
+/// bound of each task and of each shorter path. It fails only if memory runs out.
 pub fn make_front<F: Fn(u64, u64) -> u64>(
     alloc: Global,
     kept: &StoredBound<F>,
@@ -42,7 +44,7 @@ pub fn make_front<F: Fn(u64, u64) -> u64>(
     unfilled(alloc, depth, tasks, paths)
 }
 
-/// The tasks that go on from the paths of the layer before theirs.
+/// Makes the tasks that follow the paths of the layer `last`.
 fn tasks_behind<F: Fn(u64, u64) -> u64>(
     alloc: Global,
     kept: &StoredBound<F>,
@@ -60,7 +62,7 @@ fn tasks_behind<F: Fn(u64, u64) -> u64>(
     PathsBySet::of(alloc, tasks)
 }
 
-/// The front of these tasks and shorter paths, with nothing in it.
+/// Makes the front of these tasks and shorter paths, without marked tasks and lines.
 fn unfilled(
     alloc: Global,
     depth: usize,

@@ -1,4 +1,4 @@
-// The paths before the tasks, in the order in which a search goes through them.
+// The paths shorter than the tasks, in the order of the search.
 ghost use Rattle.std.specs.Prelude.{◌≡◌, ◌≢◌, ◌↔◌, ◌++◌, ◌+◌, ◌<◌, ◌≤◌, ℕ, List, All, Contains, IsTrue, IfOk, length, map};
 ghost use Rattle.std.specs.List.{AllPairs};
 ghost use Rattle.strip_pay.specs.Film.{FilmData};
@@ -24,8 +24,8 @@ use strip_mask::Mask;
 use strip_paths::PathsBySet;
 use strip_rule::open_firsts;
 
-/// The paths that are shorter than so many scenes, each before those that come after it, and the last of
-/// their layers. For each path but those of the last layer a call of the stored bound for each open first.
+/// Returns the paths with fewer than `depth` scenes, each before its successors, and the last of their layers. It calls
+/// the stored bound for each open first of each path, except for the paths of the last layer.
 pub(crate) fn shorter_paths<F: Fn(u64, u64) -> u64>(
     alloc: Global,
     kept: &StoredBound<F>,
@@ -49,8 +49,7 @@ pub(crate) fn shorter_paths<F: Fn(u64, u64) -> u64>(
     Ok((shorter, last))
 }
 
-/// The paths, which have fewer than `count` scenes, with those of the next layer, which have as many, each
-/// behind the one from which it goes on.
+/// Inserts the paths of the next layer, of `count` scenes, into the list of shorter paths, each behind its predecessor.
 fn with_layer<F: Fn(u64, u64) -> u64>(
     alloc: Global,
     kept: &StoredBound<F>,
@@ -77,7 +76,7 @@ fn with_layer<F: Fn(u64, u64) -> u64>(
     Ok(paths)
 }
 
-/// Pushes the paths of the layer that go on from this path, by rank.
+/// Appends the layer's successors of this path, by rank.
 fn push_kept<F: Fn(u64, u64) -> u64>(
     kept: &StoredBound<F>,
     path: &Path,
@@ -104,7 +103,7 @@ fn push_kept<F: Fn(u64, u64) -> u64>(
     Ok(())
 }
 
-/// Whether one of the paths is along these scenes.
+/// Returns whether the list has a path along the same scenes.
 fn has(paths: &PathsBySet, path: &Path) -> bool
     ensures { (film : FilmData) → All (IsPath film) (paths_of paths.now)
         → AllPairs (λ a b. a.rest ≢ b.rest) (paths_of paths.now)
@@ -116,8 +115,7 @@ fn has(paths: &PathsBySet, path: &Path) -> bool
     }
 }
 
-/// The open firsts of a set of scenes, which take their turns by rank. One call of the stored bound for
-/// each.
+/// Returns the open firsts of a set in the order of their ranks. It calls the stored bound once for each.
 fn turns_of<F: Fn(u64, u64) -> u64>(kept: &StoredBound<F>, rest: Mask) -> Turns
     requires keeps { Keeps (F.pre kept.now.f) (F.post kept.now.f) kept.now.kind kept.now.film.now }
     requires lies { LiesIn kept.now.film.now rest.0 }

@@ -1,4 +1,4 @@
-// Closing the front of a search up: its lines are raised by what was found of its tasks.
+// Raising the front's lines after the walks.
 ghost use Rattle.std.specs.Prelude.{◌≡◌, ◌+◌, ◌<◌, ◌≤◌, ◌^◌, ℕ, true, length, IfOk, IfErr};
 ghost use Rattle.strip_io.specs.Counts.{Rose};
 ghost use Rattle.strip_mask.specs.Set.{has};
@@ -22,14 +22,15 @@ use strip_io::Memory;
 use strip_mask::Mask;
 use strip_rule::open_firsts;
 
-/// Raises the front's lines once its tasks have ended. `found` has a number for each task, in units of
-/// money; for each that was asked for it is at most what is known of what remains after the task. The lines
-/// are raised layer by layer, from those of the most scenes to that of the empty path: each to the greater
-/// of its static bound and the least, over the open firsts then, of the step and the number of what then
-/// remains. That is the number found of the task, or the number to which the line of a longer path was
-/// raised, or the static bound where that path has no line. Answers the number to which the empty path's
-/// line was raised, or the static bound of all scenes where it has none. A call of the hand for each line,
-/// and two looks for each open first of each path.
+/// Raises the front's lines after the tasks are walked.
+///
+/// `found` has a number for each task, in units of money. For a marked task it is at most the bound known of the set
+/// that the task leaves. Lines are raised layer by layer, from the longest paths to the empty one. Each is raised to
+/// the least step plus bound over its successors, or its static bound if that is greater. The bound of a successor is
+/// its task's number or its line's raised bound, or its static bound if it has no line.
+///
+/// Returns the raised bound of the empty path, or the static bound of all scenes if it has no line. It takes a call of
+/// the hand for each line, and two lookups for each open first of each path.
 pub fn close_up<H: Hand, F: Fn(u64, u64) -> u64>(
     kept: &StoredBound<F>,
     hand: &mut H,
@@ -57,7 +58,7 @@ pub fn close_up<H: Hand, F: Fn(u64, u64) -> u64>(
     Ok(front.numbers[0])
 }
 
-/// Raises the lines of the paths of so many scenes.
+/// Raises the lines of the paths with `scene_count` scenes.
 fn raise_layer<H: Hand, F: Fn(u64, u64) -> u64>(
     kept: &StoredBound<F>,
     hand: &mut H,
@@ -88,8 +89,7 @@ fn raise_layer<H: Hand, F: Fn(u64, u64) -> u64>(
     Ok(())
 }
 
-/// Raises the line of a path, where it has one, and answers the number to which it was raised; without a
-/// line it answers the static bound of what then remains.
+/// Raises the line of a path and returns the raised bound, or returns the static bound if the path has no line.
 fn raise_path<H: Hand, F: Fn(u64, u64) -> u64>(
     kept: &StoredBound<F>,
     hand: &mut H,
@@ -124,8 +124,7 @@ fn raise_path<H: Hand, F: Fn(u64, u64) -> u64>(
     }
 }
 
-/// The least, over the open firsts of what remains, of the step and the number of what then remains, in
-/// units of money. Two looks for each open first.
+/// Returns the least step plus bound over the open firsts of the set, in units of money. It takes two lookups for each.
 fn least_over(film: &Film, front: &Front, found: &[u64], rest: Mask) -> u64
     requires front { (kind : Kind) × IsFrontOf (rules_of kind film.now) (front_data front.now) }
     requires count { length found.now ≡ length (front_data front.now).tasks }
@@ -149,8 +148,7 @@ fn least_over(film: &Film, front: &Front, found: &[u64], rest: Mask) -> u64
     least
 }
 
-/// The number that was found of the task that leaves these scenes, or that of the path which does; 0 where
-/// there is neither.
+/// Returns the number of the task that leaves these scenes, or of the shorter path, or 0 if there is neither.
 fn number_of(front: &Front, found: &[u64], rest: Mask) -> u64
     requires count { length found.now ≡ length (front_data front.now).tasks }
     ensures { (kind : Kind) (film : FilmData) (number : ℕ) → IsFilm film

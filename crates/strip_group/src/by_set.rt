@@ -1,4 +1,4 @@
-// A number for each set of a few places, and the greatest savings over them.
+// Numbers for all subsets of a few places, and the dynamic program for the greatest saving over them.
 ghost use Rattle.std.specs.Prelude.{◌≡◌, ℕ, ◌+◌, ◌*◌, ◌-◌, ◌^◌, ◌<◌, ◌≤◌, suc, max, length, slice_index};
 ghost use Rattle.strip_mask.specs.Set.{full, with};
 ghost use Rattle.strip_mask.specs.Sums.{sum_below};
@@ -8,28 +8,28 @@ ghost use Rattle.strip_group.specs.Saved.{HasRoom, Saves, left_by};
 use std::simd::prelude::*;
 use strip_mask::Mask;
 
-/// A number for each set of the first few places.
+/// An array with a number for each subset of the first few places.
 pub(crate) trait BySet: Sized + Drop {
-    /// How many places there are.
+    /// Number of places.
     ghost places: { ℕ };
 
-    /// The greatest number that fits.
+    /// The greatest number that fits in an entry.
     ghost most: { ℕ };
 
-    /// The number of a set.
+    /// The entry of a set.
     ghost value: { Self → ℕ → ℕ };
 
-    /// How many places there are.
+    /// Returns the number of places.
     fn places() -> usize
         requires { places ≤ 6 }
         ensures { result ≡ places };
 
-    /// 0 for each set.
+    /// Makes an array of zeros.
     fn none() -> Self
         ensures { (set : ℕ) → set < 2 ^ places → value result set ≡ 0 };
 
-    /// With the days that a table has of the scenes left by each set: those of them that stay at
-    /// each place of the set.
+    /// Adds to each set's entry the days that the table has for a subset of `scenes`. The subset has the scenes that
+    /// stay at each place of the set: those in which none of its actors works.
     fn with_days(&self, table: &[u16; 4096], scenes: Mask, stays: &[u64; 6]) -> Self
         requires few { places ≤ 6 }
         requires scenes { scenes.0 < 4096 }
@@ -37,37 +37,39 @@ pub(crate) trait BySet: Sized + Drop {
         ensures { (set : ℕ) → set < 2 ^ places → value result set ≡ value self.now set
             + slice_index table.now (left_by stays.now places set scenes.0) };
 
-    /// What each set saves, where it may also do so after the others, with one more place whose rate
-    /// is then saved on the days of the set.
+    /// Returns for each set the greater of its saving and the saving after the others. The latter adds `rate` for each
+    /// day of the set.
     fn or_after(&self, others: &Self, days: &Self, rate: u64) -> Self
         requires rate { rate ≤ most }
         requires fits { (set : ℕ) → set < 2 ^ places → value others.now set + rate * value days.now set ≤ most }
         ensures { (set : ℕ) → set < 2 ^ places → value result set
             ≡ max (value self.now set) (value others.now set + rate * value days.now set) };
 
-    /// What each set saves at most, place after place in any order, from what each saves alone.
+    /// Returns the greatest saving of each set. Its places may leave one after another, in any order, from the given
+    /// savings of each set alone.
     fn saved(&self, days: &Self, rates: &[u64; 6]) -> Self
         requires few { places ≤ 6 }
         requires room { HasRoom places most rates.now (value days.now) (value self.now) }
         ensures { Saves places rates.now (value days.now) (value self.now) (value result) };
 
-    /// What the places get together, each its rate for each day of the set of it alone.
+    /// Returns the total pay if each actor waits on all days without him: his rate times the entry of the set of his
+    /// place alone.
     fn paid_alone(&self, rates: &[u64; 6]) -> u64
         requires few { places ≤ 6 }
         requires rates { (place : ℕ) → slice_index rates.now place ≤ 64_000_000_000 }
         requires days { (set : ℕ) → set < 2 ^ places → value self.now set ≤ 19800 }
         ensures { result ≡ sum_below places (λ place. slice_index rates.now place * value self.now (with 0 place)) };
 
-    /// The number of the empty set.
+    /// Returns the entry of the empty set.
     fn first(&self) -> u64
         ensures { result ≡ value self.now 0 };
 
-    /// The number of the set of all places.
+    /// Returns the entry of the set of all places.
     fn last(&self) -> u64
         ensures { result ≡ value self.now (full places) };
 }
 
-/// A number alone, of no place.
+/// A single number, for no place.
 impl BySet for u64 {
     ghost places = { 0 };
 
@@ -111,7 +113,7 @@ impl BySet for u64 {
     }
 }
 
-/// The four sets of two places, at once.
+/// The four subsets of two places, in the lanes of one vector.
 impl BySet for [u32; 4] {
     ghost places = { 2 };
 
@@ -180,7 +182,7 @@ impl BySet for [u32; 4] {
     }
 }
 
-/// In each lane the greater of what is saved alone, and of what others save and a rate on some days.
+/// Returns in each lane the greater of the saving alone and the saving of others plus a rate for some days.
 #[inline(always)]
 fn or_paid(alone: u32x4, others: u32x4, days: u32x4, rates: u32x4) -> u32x4
     requires lanes { AreLanes alone × AreLanes others × AreLanes days × AreLanes rates }
@@ -193,7 +195,7 @@ fn or_paid(alone: u32x4, others: u32x4, days: u32x4, rates: u32x4) -> u32x4
     alone.simd_max(others.strict_add(rates.strict_mul(days)))
 }
 
-/// One place more: the numbers of the sets without it, and those of the sets with it.
+/// One place more: the entries of the sets without it, and of the sets with it.
 #[derive(Debug, Drop)]
 pub(crate) struct Halves<T> {
     without: T,

@@ -1,4 +1,4 @@
-// Days of sets of scenes, by tables.
+// Sums of days over sets of scenes, by precomputed tables.
 ghost use Rattle.std.specs.Prelude.{◌≡◌, ℕ, ◌+◌, ◌*◌, ◌^◌, ◌<◌, ◌≤◌, IfOk, drop, length, slice_index, sum};
 ghost use Rattle.strip_mask.specs.Set.{sum_over};
 ghost use Rattle.strip_group.specs.Days.{block_of};
@@ -10,13 +10,13 @@ use std::marker::Model;
 use strip_io::Memory;
 use strip_mask::Mask;
 
-/// How many scenes a table is for, and how many sets these have.
+/// Number of scenes of a table, and number of their subsets.
 const BLOCK: usize = 12;
 
 const SETS: usize = 4096;
 
-/// The days of each set of a film's scenes, of which there are at most 64: for each twelve scenes a
-/// table with the days of each set of these. A film of 24 scenes takes two looks and 16 KiB.
+/// The days of each set of a film's scenes, at most 64. There is a table of all subsets for each twelve scenes. So a
+/// film of 24 scenes takes two lookups for a set, and 16 KiB.
 #[derive(Debug, Drop)]
 pub struct DaySums {
     days: Vec<u64>,
@@ -36,7 +36,8 @@ impl Model for DaySums {
 }
 
 impl DaySums {
-    /// The tables of these days, where memory for them is left. Some 4096 turns for each twelve scenes.
+    /// Makes the tables of these days. It takes 4096 iterations for each twelve scenes. It fails only if memory runs
+    /// out.
     pub fn of(alloc: Global, days: &[u64]) -> Result<DaySums, Memory>
         requires few { length days.now ≤ 64 }
         requires day_sum { sum days.now ≤ 19800 }
@@ -53,14 +54,14 @@ impl DaySums {
         })
     }
 
-    /// The days of all scenes.
+    /// Returns the days of all scenes.
     pub(crate) fn all(&self) -> u64
         ensures { result ≡ sum self.now }
     {
         self.all
     }
 
-    /// The days of the set's scenes. One turn for each twelve scenes of the film.
+    /// Returns the days of the set's scenes. It takes a lookup for each twelve scenes of the film.
     pub fn sum(&self, set: Mask) -> u64
         ensures { result ≡ sum_over self.now set.0 }
     {
@@ -71,8 +72,8 @@ impl DaySums {
         sum
     }
 
-    /// For each set of places the days of those of the scenes that stay at each of them. One turn for
-    /// each twelve scenes of the film.
+    /// Returns for each set of places the days of the scenes that `stays` has at each of its places. It takes an
+    /// iteration for each twelve scenes of the film.
     pub(crate) fn by_set<T: BySet>(&self, scenes: Mask, stays: &[u64; 6]) -> T
         requires few { T.places ≤ 6 }
         requires wide { 4294967295 ≤ T.most }
@@ -91,7 +92,7 @@ impl DaySums {
     }
 }
 
-/// The same blocks of six sets.
+/// Returns the block of this number of each of the six sets.
 fn blocks_of(sets: &[u64; 6], number: usize) -> [u64; 6]
     requires { number < 6 }
     ensures { (place : ℕ) → place < 6 → slice_index result place ≡ block_of (slice_index sets.now place) number }
@@ -103,7 +104,7 @@ fn blocks_of(sets: &[u64; 6], number: usize) -> [u64; 6]
     parts
 }
 
-/// Those of these twelve scenes that the set has, as a set of numbers below 12.
+/// Returns the members of the set among the twelve scenes of block `number`, as a set of numbers below 12.
 fn block(set: Mask, number: usize) -> Mask
     requires { number < 6 }
     ensures is { result.0 ≡ block_of set.0 number }
@@ -112,7 +113,7 @@ fn block(set: Mask, number: usize) -> Mask
     Mask(set.0 >> (BLOCK * number) & (SETS as u64 - 1))
 }
 
-/// For each set of the twelve scenes from this one on their days.
+/// Returns the days of each subset of the twelve scenes from `first` on.
 fn table_from(days: &[u64], first: usize) -> [u16; SETS]
     requires few { length days.now ≤ 64 }
     requires first { first ≤ 64 }
@@ -133,7 +134,7 @@ fn table_from(days: &[u64], first: usize) -> [u16; SETS]
     table
 }
 
-/// The sum of these days.
+/// Returns the sum of the days.
 fn sum_of(days: &[u64]) -> u64
     requires { sum days.now ≤ 19800 }
     ensures { result ≡ sum days.now }
@@ -145,14 +146,14 @@ fn sum_of(days: &[u64]) -> u64
     sum
 }
 
-/// The days of a scene, and 0 past the last.
+/// Returns the days of a scene, or 0 behind the last scene.
 fn day_of(days: &[u64], scene: usize) -> u64
     ensures { result ≡ slice_index days.now scene }
 {
     if scene < days.len() { days[scene] } else { 0 }
 }
 
-/// The same numbers, where memory for them is left.
+/// Returns a copy of the numbers. It fails only if memory runs out.
 pub(crate) fn copy_of(alloc: Global, numbers: &[u64]) -> Result<Vec<u64>, AllocError>
     ensures { IfOk result (λ copy. copy.items ≡ numbers.now) }
 {

@@ -1,4 +1,4 @@
-// What the extras of a film's groups go by.
+// Precomputed tables of a film, for the extras of groups.
 ghost use Rattle.std.specs.Prelude.{◌≡◌, ℕ, ◌+◌, ◌*◌, ◌-◌, ◌^◌, ◌<◌, ◌≤◌, IfOk, length, not, slice_index, sum};
 ghost use Rattle.strip_mask.specs.Set.{LiesBelow, has, meet, size, sum_over};
 ghost use Rattle.strip_mask.specs.Sums.{sum_below};
@@ -13,14 +13,13 @@ use std::marker::Model;
 use strip_io::Memory;
 use strip_mask::Mask;
 
-/// Numbers of the sets of six places, four at once where they are below 2^32, and one by one.
+/// Numbers for all subsets of six places: four lanes at once if they are below 2^32, else one by one.
 type Narrow = Halves<Halves<Halves<Halves<[u32; 4]>>>>;
 
 type Wide = Halves<Halves<Halves<Halves<Halves<Halves<u64>>>>>>;
 
-/// For a film of at most 64 scenes: who works in each scene, its days, and what each actor gets for a
-/// day of waiting, in whole units of money. It is made once, with a copy of these numbers, for each
-/// actor the scenes without him, and tables of the days of sets.
+/// Tables of a film of at most 64 scenes: casts, days, and each actor's pay for a day of waiting, in whole units of
+/// money. It has copies of these numbers, the scenes without each actor, and the days of sets.
 #[derive(Debug, Drop)]
 pub struct GroupTable {
     casts: Vec<u64>,
@@ -41,8 +40,8 @@ impl Model for GroupTable {
 }
 
 impl GroupTable {
-    /// The table of a film's casts, days and hold rates, where memory for a copy is left. None of the
-    /// limits is checked again: the film has them.
+    /// Makes the tables of a film's casts, days and hold rates. It does not check the limits, which the contract
+    /// requires. It fails only if memory runs out.
     pub fn of(
         alloc: Global,
         casts: &[u64],
@@ -64,16 +63,16 @@ impl GroupTable {
         })
     }
 
-    /// The days of sets of the film's scenes.
+    /// Returns the sums of days over sets of the film's scenes.
     pub fn day_sums(&self) -> &DaySums
         ensures { result.now ≡ self.now.days }
     {
         &self.sums
     }
 
-    /// What the group, which has at most six actors, is paid for waiting at least while the set of
-    /// scenes remains, in whole units of money. It takes no memory: one turn for each twelve scenes and
-    /// each set of six places.
+    /// Returns the extra of a group of at most six actors on location: a lower bound of its pay for waiting while the
+    /// set of scenes remains. The unit is whole units of money. It allocates no memory. It takes an iteration for each
+    /// twelve scenes and each set of six places.
     pub fn extra(&self, group: Mask, q: Mask) -> u64
         requires few { size group.0 ≤ 6 }
         requires known { LiesBelow (length self.now.holds) group.0 }
@@ -91,7 +90,7 @@ impl GroupTable {
     }
 }
 
-/// For each actor the scenes without him.
+/// Returns for each actor the scenes without him.
 fn stays_of(alloc: Global, casts: &[u64], actors: usize) -> Result<Vec<u64>, AllocError>
     requires few { length casts.now ≤ 64 }
     requires known { actors ≤ 64 }
@@ -104,7 +103,7 @@ fn stays_of(alloc: Global, casts: &[u64], actors: usize) -> Result<Vec<u64>, All
     Ok(stays)
 }
 
-/// The scenes whose cast lacks the actor.
+/// Returns the scenes whose cast lacks the actor.
 fn scenes_without(casts: &[u64], actor: u32) -> Mask
     requires few { length casts.now ≤ 64 }
     requires known { actor < 64 }
@@ -120,14 +119,15 @@ fn scenes_without(casts: &[u64], actor: u32) -> Mask
     scenes
 }
 
-/// By place the scenes without an actor of a group, and what he gets for a day of waiting.
+/// The group's actors by place: the scenes without each of them, and his pay for a day of waiting.
 #[derive(Debug, Drop)]
 struct Places {
     stays: [u64; 6],
     rates: [u64; 6],
 }
 
-/// The places of the group's actors, and past them all scenes and no pay. One turn for each.
+/// Returns the places of the group's actors. Places behind the last have all scenes and no pay. Time is linear in the
+/// group's size.
 fn by_place(stays: &[u64], holds: &[u64], group: Mask) -> Places
     requires few { size group.0 ≤ 6 }
     requires known { LiesBelow (length holds.now) group.0 }
@@ -153,7 +153,7 @@ fn by_place(stays: &[u64], holds: &[u64], group: Mask) -> Places
     }
 }
 
-/// The sum of six rates.
+/// Returns the sum of the six rates.
 fn total(rates: &[u64; 6]) -> u64
     requires { (place : ℕ) → slice_index rates.now place ≤ 64_000_000_000 }
     ensures same { result ≡ sum rates.now }
@@ -166,15 +166,15 @@ fn total(rates: &[u64; 6]) -> u64
     sum
 }
 
-/// What six places are paid, where each waits on all days of a set without him, and what they save of
-/// it at most: a place that leaves after others needn't wait on the days that are without all of them.
+/// The pay of six places if each waits on all days without him, and their greatest saving. A place that leaves after
+/// others needn't wait on the days without all of them and him.
 #[derive(Debug, Drop)]
 struct Pay {
     alone: u64,
     saved: u64,
 }
 
-/// The pay of six places and what they save of it at most, while the set of scenes remains.
+/// Returns the pay of six places and their greatest saving, while the set of scenes remains.
 fn pay_of<T: BySet>(sums: &DaySums, q: Mask, stays: &[u64; 6], rates: &[u64; 6]) -> Pay
     requires short { length sums.now ≤ 64 }
     requires day_sum { sum sums.now ≤ 19800 }

@@ -1,4 +1,4 @@
-// What a worker can do in a search.
+// The trait of a worker's view of a search.
 ghost use Rattle.std.specs.Prelude.{◌≡◌, ℕ, ◌≤◌};
 ghost use Rattle.strip_film.specs.Film.{LiesIn};
 ghost use Rattle.strip_film.specs.Path.{IsComplete};
@@ -11,41 +11,40 @@ use strip_film::{Cursor, Known, Listed, Noted, Path, Probe};
 use strip_io::Memory;
 use strip_mask::Mask;
 
-/// The hand of one worker. Each call is one step on what all workers of a search share. What a hand
-/// knows stays true whatever the others do. A call answers `Memory` only where its count of refusals
+/// The hand of one worker: its view of the state that all workers share. Each call is one event on that state. A hand's
+/// knowledge is monotone: other workers cannot invalidate it. A call returns `Memory` only if its count of refusals
 /// rose in that call.
 pub trait Hand {
-    /// What the hand knows, was told, and did.
+    /// The hand's record: what it knows, what it was told, and its own events.
     ghost shows: { Self → HandData };
 
-    /// What every call asks for and keeps.
+    /// The precondition of every call, which every call keeps.
     ghost is_sound: { Self → Type 0 };
 
-    /// What the hand stands over, which no call changes.
+    /// The identity of the shared state behind the hand, which no call changes.
     ghost Home: { Type 0 };
 
     ghost home: { Self → Home };
 
-    /// What holds of every hand that is sound.
+    /// A law: the record of a sound hand is valid. The call does nothing when it runs.
     fn keeps_limits(&self)
         requires { is_sound self.now }
         ensures { IsHand (shows self.now) };
 
-    /// How far the search has come. It is told on the way: others may have gone on meanwhile.
+    /// Returns the progress of the search. Other workers may have changed it meanwhile.
     fn tally(&self) -> Tally
         requires { is_sound self.now }
         ensures lines { result.lines ≤ result.most }
         ensures most { result.most ≡ (shows self.now).search.cap };
 
-    /// The least cost that any worker offered, in units of money.
+    /// Returns the incumbent: the least cost that any worker offered, in units of money.
     fn look(&mut self) -> u64
         requires { is_sound self.old }
         ensures sound { is_sound self.new }
         ensures home { home self.new ≡ home self.old }
         ensures told { Tells (shows self.old) result (shows self.new) };
 
-    /// Offers a complete path, and is told the least cost, in units of money, which is then no more than
-    /// what the path paid.
+    /// Offers a complete path, and returns the least cost then, in units of money. It is at most the path's pay.
     fn offer(&mut self, path: &Path) -> u64
         requires sound { is_sound self.old }
         requires complete { IsComplete (shows self.old).search.film (path_data path.now) }
@@ -54,15 +53,15 @@ pub trait Hand {
         ensures told { Tells (shows self.old) result (shows self.new) }
         ensures offered { result ≤ (path_data path.now).paid };
 
-    /// Claims a part of the search that nobody claimed, the front first, where one is left.
+    /// Claims the next unclaimed part of the search, or none if no part is left. Part 0, the front, comes first.
     fn claim(&mut self) -> Option<u32>
         requires { is_sound self.old }
         ensures sound { is_sound self.new }
         ensures home { home self.new ≡ home self.old }
         ensures claimed { Claims (shows self.old) result (shows self.new) };
 
-    /// Makes a line of what remains after a path of the cursor's part, with its static bound, and moves
-    /// the cursor to the path; or tells that there are as many lines as there may be.
+    /// Enlists a path of the cursor's part: makes a line of the scenes that remain after it, with their static bound,
+    /// and moves the cursor to the path. If the line budget is used up, it returns `Spent` and makes no line.
     fn enlist(&mut self, cursor: &mut Cursor, path: &Path, bound: u64) -> Result<Listed, Memory>
         requires sound { is_sound self.old }
         requires may { MayEnlist (shows self.old) (cursor_data cursor.old) (path_data path.now) bound }
@@ -71,7 +70,7 @@ pub trait Hand {
         ensures listed { Enlists (shows self.old) (cursor_data cursor.old) (path_data path.now) bound result
             (shows self.new) (cursor_data cursor.new) };
 
-    /// Raises the bound of a line to this one at least.
+    /// Raises the bound of a line to at least `bound`.
     fn raise(&mut self, line: u32, bound: u64) -> Result<(), Memory>
         requires sound { is_sound self.old }
         requires may { MayRaise (shows self.old) line bound }
@@ -79,7 +78,7 @@ pub trait Hand {
         ensures home { home self.new ≡ home self.old }
         ensures raised { Raises (shows self.old) line bound result (shows self.new) };
 
-    /// Asks the table for a set.
+    /// Looks up a set in the transposition table.
     fn probe(&mut self, set: Mask) -> Result<Probe, Memory>
         requires sound { is_sound self.old }
         requires lies { LiesIn (shows self.old).search.film set.0 }
@@ -87,7 +86,7 @@ pub trait Hand {
         ensures home { home self.new ≡ home self.old }
         ensures probed { Probes (shows self.old) set.0 result (shows self.new) };
 
-    /// Puts a line that is known into the table.
+    /// Inserts a known line into the transposition table.
     fn note(&mut self, known: &Known) -> Result<Noted, Memory>
         requires sound { is_sound self.old }
         requires known { Knows (shows self.old).lines known.now }

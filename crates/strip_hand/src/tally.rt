@@ -1,7 +1,7 @@
-// How far a search has come.
+// The progress of a search.
 
-/// The least cost that any worker offered, in units of money; how many lines there are, and how many there
-/// may be.
+/// The progress of a search: the least cost that any worker offered, in units of money, the number of lines, and the
+/// line budget.
 #[derive(Clone, Copy, Debug)]
 pub struct Tally {
     pub cost: u64,

@@ -1,7 +1,7 @@
-// What a hub keeps of a probe.
+// A hub's record of a probe.
 use strip_film::Probe;
 
-/// A probe: the set that was asked for, and the answer.
+/// A probe: the set looked up, and the answer.
 #[derive(Clone, Copy, Debug)]
 pub struct Asked {
     pub(crate) set: u64,

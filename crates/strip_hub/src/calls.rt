@@ -1,4 +1,4 @@
-// What a worker does with its hub.
+// The hub as a hand.
 ghost use Rattle.std.specs.Prelude.{◌≡◌, ◌≤◌, ℕ};
 ghost use Rattle.strip_film.specs.Film.{LiesIn};
 ghost use Rattle.strip_film.specs.Path.{IsComplete};
@@ -21,8 +21,8 @@ use strip_io::Memory;
 use strip_mask::Mask;
 use strip_stripes::Named;
 
-/// Each call is a few steps on what all workers share; `tally` reads it without a step. `probe` and `note` wait for the lock of a stripe, and a
-/// claim of one who takes from queues for another who takes from the same one; the others wait for nobody.
+/// Each call takes a few steps on shared state; `tally` only reads it. `probe` and `note` wait for the lock of a
+/// stripe. A claim from queues may wait for another worker that takes from the same queue. The other calls never wait.
 impl<'a, R: Wait, N: Named> Hand for Hub<'a, R, N> {
     ghost shows = { λ h. hand_of h.source (known_least h.told) (known h.lines) h.asked h.noted };
 

@@ -1,4 +1,4 @@
-// A hub, and how it is put together and taken apart.
+// Making a hub, and taking it apart.
 ghost use Rattle.std.specs.Prelude.{◌≡◌, Some, None};
 ghost use Rattle.strip_book.specs.Pass.{IsPassOf as IsBookPassOf, known, table_of};
 ghost use Rattle.strip_least.specs.Pass.{IsPassOf as IsLeastPassOf, known as known_least};
@@ -12,9 +12,9 @@ use strip_film::Known;
 use strip_least::{Least, LeastPass};
 use strip_stripes::{Named, Stripes};
 
-/// The hand of one worker among several: a pass of the least cost and the next part, a pass of the book of lines,
-/// the table that all share, where it has its parts from, and the worker's last probe and note. It never answers
-/// want of memory.
+/// The hand of one worker among several. It has a pass of the least cost and the next part, a pass of the book of
+/// lines, and the shared table. It also has the source of the worker's parts, and its last probe and note. Its calls
+/// never fail for want of memory.
 #[derive(Drop)]
 pub struct Hub<'a, R: Wait, N: Named> {
     pub(crate) rt: &'a R,
@@ -28,7 +28,7 @@ pub struct Hub<'a, R: Wait, N: Named> {
     pub(crate) noted: Option<Known>,
 }
 
-/// The passes of a hub, and where it has its parts from.
+/// The passes of a hub, and the source of its parts.
 #[derive(Drop)]
 pub struct HubParts {
     pub told: LeastPass,
@@ -37,7 +37,7 @@ pub struct HubParts {
 }
 
 impl<'a, R: Wait, N: Named> Hub<'a, R, N> {
-    /// The hand of a worker with these passes, which go together. It has neither probed nor noted yet.
+    /// Makes the hand of a worker from passes that belong to one search. It has no probe and no note yet.
     pub fn of(
         rt: &'a R,
         least: &'a Least,
@@ -74,7 +74,7 @@ impl<'a, R: Wait, N: Named> Hub<'a, R, N> {
         }
     }
 
-    /// Gives the passes back.
+    /// Returns the passes.
     pub fn parts(self) -> HubParts
         ensures { (result.told ≡ self.entry.told) × (result.lines ≡ self.entry.lines)
             × (result.source ≡ self.entry.source) }

@@ -1,4 +1,5 @@
-//! The hand of one of several workers, by its passes of what all of them share.
+//! One worker's view of the search state (hand) in a parallel search: a hub, made of the worker's passes of the shared
+//! state. Parts come from a shared counter or from work-stealing queues.
 #![tactic(auto)]
 
 mod asked;

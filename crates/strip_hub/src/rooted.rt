@@ -1,8 +1,8 @@
-// Which source the workers of a search have.
+// The source that the workers of a search share.
 use std::marker::Brand;
 
-/// Names the source that all workers of a search have their parts from, so that what one of them took can be
-/// gathered.
+/// A type that names the source from which all workers of a search have their parts. So the parts that each of them
+/// took can be gathered.
 pub trait Rooted {
     ghost use Rattle.strip_hub.specs.Source.{SourceHome};
 

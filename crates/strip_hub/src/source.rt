@@ -1,4 +1,4 @@
-// Where a worker has its parts from.
+// Sources of a worker's parts.
 ghost use Rattle.std.specs.Prelude.{◌≡◌, MatchOption};
 ghost use Rattle.strip_least.specs.Pass.{Claims, IsPassOf, known};
 ghost use Rattle.strip_steal.specs.Taker.{IsTaker, StayAt, taker_queues, taker_shares};
@@ -9,26 +9,26 @@ use std::sync::Wait;
 use strip_least::{Least, LeastPass};
 use strip_steal::{Pool, Taker};
 
-/// What takers took, gathered in their pool by one who takes nothing himself.
+/// A worker who takes no task himself, but gathers in the pool the numbers that the takers took.
 #[derive(Drop)]
 pub struct Gatherer {
     pub pool: Pool,
-    /// Whether he was answered that there is no part for him.
+    /// Whether he was told that there is no part for him.
     pub has_ended: bool,
 }
 
-/// Where a worker has its parts from.
+/// The source of a worker's parts.
 #[derive(Drop)]
 pub enum Source {
-    /// The counter of the next part.
+    /// The shared counter of the next part.
     Counter,
-    /// The counter has the front alone; what takers took of the tasks is gathered here.
+    /// No further part: the counter had the front only. The tasks that takers took are gathered here.
     Gathers(Gatherer),
     /// The queues of a pool, which have all parts but the front.
     Takes(Taker),
 }
 
-/// The next part for a worker with this pass and this source, or none.
+/// Returns the next part for a worker with this pass and this source, or none.
 pub(crate) fn next_part<R: Wait>(
     rt: &R,
     least: &Least,
@@ -51,7 +51,7 @@ pub(crate) fn next_part<R: Wait>(
     }
 }
 
-/// The next number of a taker, as a part.
+/// Takes the next number of a taker, as a part.
 fn taken_part<R: Wait>(rt: &R, taker: &mut Taker) -> Option<u32>
     requires { IsTaker taker.old }
     ensures taker { IsTaker taker.new }

@@ -1,4 +1,4 @@
-// Files by name, as the program sees them.
+// The trait of files by name, and its errors.
 ghost use Rattle.std.specs.Prelude.{◌≡◌, ℕ, ◌+◌, ◌^◌, ◌<◌, ◌≤◌, List, length, Some, IfOk, OnOk, OnErr, codes};
 ghost use Rattle.strip_io.specs.Counts.{CameOnly, CountsOnly, ReadFailed};
 ghost use Rattle.strip_io.specs.Files.{CopiesFrom, FilesData};
@@ -7,7 +7,7 @@ use std::alloc::{AllocError, AllocFailed};
 use std::error::Error;
 use std::fmt;
 
-/// A read or a write failed.
+/// The error of a read or a write.
 #[derive(Clone, Copy, Debug, PartialEq, Eq)]
 pub struct Failed;
 
@@ -21,7 +21,7 @@ impl fmt::Display for Failed {
 
 impl Error for Failed {}
 
-/// Memory ran out.
+/// The error of an allocation.
 #[derive(Clone, Copy, Debug, PartialEq, Eq)]
 pub struct Memory;
 
@@ -51,16 +51,17 @@ impl fmt::Display for Memory {
 
 impl Error for Memory {}
 
-/// Files by name. A name is a text, seen as its bytes.
+/// A source of files by name. Contracts see a name as its bytes.
 pub trait Files {
-    /// The files as they stand: which names are held, their bytes where they are told, and both counts.
+    /// The current state: which names are held, their bytes if these are known, and two counts for each name. The
+    /// counts are of failed reads and of bytes that reads returned.
     ghost state: { Self → FilesData };
 
-    /// How many reads there have been, over all names, where they are counted.
+    /// The number of reads so far over all names, or 0 if the implementation does not count them.
     ghost reads: { Self → ℕ } = { λ _. 0 };
 
-    /// Copies bytes of the name from place `at` on to the front of `into`, and answers how many:
-    /// 0 only where the name ends there. What stands behind them in `into` is left open.
+    /// Copies bytes of the named file from offset `at` on to the front of `into`, and returns their number. The number
+    /// is 0 only at the end of the file. The contents of `into` behind the copied bytes are unspecified.
     fn read(&mut self, name: &str, at: u64, into: &mut [u8]) -> Result<usize, Failed>
         requires room { 0 < length into.old }
         requires place { at ≤ 2 ^ 31 }
@@ -69,7 +70,8 @@ pub trait Files {
         ensures copied { IfOk result (λ n. (text : List ℕ) → (state self.old).bytes name.now ≡ Some text
             → CopiesFrom text at n into.new) }
 
-        // It fails only where the count of this name rose in this call, or the name isn't held.
+        // A read fails only if the name is not held, or if its count of failures rose in this call. So no failure is
+        // uncounted.
         ensures cause { OnErr result (ReadFailed name.now (state self.old).holds (state self.old).faults
             (state self.new).faults) }
 
@@ -77,7 +79,7 @@ pub trait Files {
         ensures told { (state self.new).bytes ≡ (state self.old).bytes }
         ensures counts { CountsOnly name.now (state self.old).faults (state self.new).faults }
 
-        // A read that answers Ok hides no fault, and one that fails gave nothing.
+        // A successful read leaves the counts of failures as they are; a failed read returns no bytes.
         ensures unfailed { OnOk result ((state self.new).faults ≡ (state self.old).faults) }
         ensures came { IfOk result (λ n. CameOnly name.now n (state self.old).came (state self.new).came) }
         ensures none_came { OnErr result ((state self.new).came ≡ (state self.old).came) }

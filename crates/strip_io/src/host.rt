@@ -1,4 +1,4 @@
-// Files of a disk, and output of the host. What they hold and take isn't told.
+// Files of a disk, and the output of the host. The bytes that a disk holds are not known to the proof.
 ghost use Rattle.std.specs.Prelude.{◌≡◌, ◌↔◌, ℕ, ◌^◌, ◌<◌, ◌≤◌, true, false, [], ◌∷◌, ◌++◌, List, length, map, take, string_bytes, None, IfOk, OnOk, OnErr, IsErr, IsTrue, Contains};
 ghost use Rattle.std.specs.Io.KnownBytes.{Appends, Keeps};
 ghost use Rattle.strip_io.specs.Counts.{CameOnly, CountsOnly, ReadFailed, Rose};
@@ -17,11 +17,12 @@ use std::io;
 use std::io::{Printer, Write};
 use std::marker::Model;
 
-/// A disk's files of certain names, which are their paths. No other file is touched. The file that was read last stays open,
-/// so that a read where the last one ended goes on. Any error of the disk is a fault of the name, and closes the file.
+/// The files of a disk whose names are in a given list; a name is a path. No other file is opened. The file that was
+/// read last stays open, so a read at the offset reached goes on without a seek. Any error of the disk counts as a
+/// failure of the name, and closes the file.
 #[derive(Drop)]
 pub struct HostFiles<D: Disk> {
-    // The bytes stay on the disk: the entries have none.
+    // The entries of the table have no bytes: these stay on the disk.
     words: Table,
     disk: D,
     current: Option<OpenFile<D::File>>,
@@ -37,7 +38,7 @@ impl<D: Disk> Model for HostFiles<D> {
 }
 
 impl<D: Disk + Drop> HostFiles<D> {
-    /// The files of the disk with these names. A word that stands twice is one name. None is opened.
+    /// Makes the files of the disk with these names. A repeated name counts once. No file is opened.
     pub fn new(alloc: Global, disk: D, words: &[String]) -> Result<HostFiles<D>, Memory>
         ensures words { IfOk result (λ f. (name : List ℕ) → IsTrue (is_held f.held name)
             ↔ Contains (map string_bytes words.now) name) }
@@ -78,13 +79,14 @@ impl<D: Disk> Files for HostFiles<D> {
         ensures came { IfOk result (λ n. CameOnly name.now n (came_of self.old.held) (came_of self.new.held)) }
         ensures none_came { OnErr result (came_of self.new.held ≡ came_of self.old.held) }
 
-        // What it answers is what the file of this name gave from this place on: the one that is open, if it stands there.
+        // The bytes come from the named file at this offset: from the open file if it stands there, else from a newly
+        // opened one.
         ensures gave { IfOk result (λ n. IsReadOf D.File.stream_bytes D.File.stream_position D.File.remaining
             (standing (entry_of self.old.held name.now) at self.old.current) (entry_of self.old.held name.now) at n into.new
             self.new.current) }
 
-        // Only where none stands there it opens the file of this name, once and no other, whether that fails or not; and
-        // none where the name isn't held.
+        // If the open file can't be used, the named file is opened once, even if the read fails. If the name is not
+        // held, none is opened. A failed read closes the file.
         ensures opened { is_held self.old.held name.now ≡ true → D.opened self.new.disk ≡ D.opened self.old.disk
             ++ opened_for (standing (entry_of self.old.held name.now) at self.old.current) name.now }
         ensures unopened { is_held self.old.held name.now ≡ false
@@ -111,8 +113,8 @@ impl<D: Disk> Files for HostFiles<D> {
     }
 }
 
-/// A writer as a sink, as the host's standard output. Sending takes no memory. A write that fails or
-/// takes nothing is a fault.
+/// A sink over a writer, as the host's standard output. A write that fails or accepts no byte counts as a failure.
+/// Writing allocates no memory.
 #[derive(Drop)]
 pub struct HostSink<W> {
     writer: W,
@@ -128,7 +130,7 @@ impl<W> Model for HostSink<W> {
 }
 
 impl<'r, R: io::Print> HostSink<Printer<'r, R>> {
-    /// The host's standard output, to which nothing was written yet.
+    /// Makes a sink over the host's standard output.
     pub fn new(host: &'r R) -> HostSink<Printer<'r, R>>
         ensures { result.faults ≡ 0 }
     {
@@ -137,14 +139,14 @@ impl<'r, R: io::Print> HostSink<Printer<'r, R>> {
 }
 
 impl<W: Write> HostSink<W> {
-    /// This writer, to which nothing was written yet.
+    /// Makes a sink over this writer.
     pub fn over(writer: W) -> HostSink<W>
         ensures { result ≡ record { writer = writer; faults = 0 } }
     {
         HostSink { writer, faults: 0 }
     }
 
-    /// The writer.
+    /// Returns the writer.
     pub fn into_inner(self) -> W
         ensures { result ≡ self.writer }
     {
@@ -163,14 +165,14 @@ impl<W: Write> Sink for HostSink<W> {
         ensures later { self.old.faults ≤ self.new.faults }
         ensures unfailed { OnOk result (self.new.faults ≡ self.old.faults) }
 
-        // The writer got the bytes that are answered and no others, where it tells what it holds.
+        // On success the writer got the returned number of bytes and no others, if its contents are observable.
         ensures appended { IfOk result (λ n. Appends (W.contents self.old.writer) (W.contents self.new.writer)
             (take n piece.now)) }
         ensures kept { OnErr result (Keeps (W.contents self.old.writer) (W.contents self.new.writer)) }
 
         ensures err { OnErr result (self.new.faults ≡ next_count self.old.faults) }
     {
-        // What takes nothing would keep a send from its end.
+        // A write of zero bytes counts as a failure, so that the loop in `send` terminates.
         match self.writer.write(piece) {
             Ok(count) if count > 0 => Ok(count),
             _ => {

@@ -1,18 +1,18 @@
-//! Laws of the definitions. Each function does nothing: its contract is the law.
+//! Laws of streams and sinks: functions that do nothing when they run, with theorems as contracts.
 ghost use Rattle.std.specs.Prelude.{List, ℕ, ◌++◌, Option, Some};
 ghost use Rattle.std.specs.Io.Cursor.{cursor_inner, cursor_position, cursor_remaining};
 ghost use Rattle.std.specs.declared.io.impls.Cursor.{Cursor};
 ghost use Rattle.strip_io.specs.Sink.{Took, TookFront};
 ghost use Rattle.strip_io.specs.Streams.{GivesFromItsPlace};
 
-/// A cursor gives what it holds from its place on, as `read_at` has to know of a stream.
+/// A cursor returns its bytes from its position on. `read_at` needs this property of a stream.
 pub fn cursors_give_from_their_place<T>()
     ensures { (bytes : T → Option (List ℕ)) → GivesFromItsPlace (λ (c : Cursor T). bytes (cursor_inner c))
         (λ (c : Cursor T). Some (cursor_position c)) (cursor_remaining bytes) }
 {}
 
-/// A text is taken where its parts are, one after the other; and a front of it where a front of the
-/// first part is, or the first part and a front of the next.
+/// A sink that takes two texts in turn has taken their concatenation. `TookFront` means that only a proper prefix was
+/// taken. It carries over to the concatenation from the first text, and from the second once the first is taken.
 pub fn texts_are_taken_in_parts()
     ensures whole { (a b c : Option (List ℕ)) (first next : List ℕ) → Took a b first → Took b c next
         → Took a c (first ++ next) }

@@ -1,4 +1,8 @@
-//! Files by name and a sink for text: what is read, what is written, and how often either failed.
+//! Input and output behind two traits: files by name (`Files`) and an output sink (`Sink`). Both have an implementation
+//! of the host, one in memory with chosen failures, and one without failures. Failed reads and writes are counted.
+//!
+//! A law (`laws`) is a function that does nothing when it runs: its contract is a theorem that a caller obtains by
+//! calling it.
 #![tactic(auto)]
 
 mod disk;

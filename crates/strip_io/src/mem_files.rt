@@ -1,4 +1,4 @@
-// Files in memory, which fail at chosen reads.
+// Files in memory, with failures at chosen reads.
 ghost use Rattle.std.specs.Prelude.{◌≡◌, ◌≢◌, ◌⊎◌, ◌↔◌, ℕ, ◌+◌, ◌-◌, ◌^◌, ◌<◌, ◌≤◌, min, false, List, [], length, Some, IfOk, OnOk, OnErr, IsErr, Contains};
 ghost use Rattle.strip_io.specs.Counts.{CameOnly, CountsOnly, ReadFailed};
 ghost use Rattle.strip_io.specs.Files.{CopiesFrom};
@@ -10,8 +10,8 @@ use crate::{Failed, Files, Memory};
 use std::alloc::Global;
 use std::marker::Model;
 
-/// Files in memory. A read fails where its number, counted from 1 over all names, is among those
-/// that were given, and where its name isn't held.
+/// Files in memory. A read fails if its number, counted from 1 over all names, is in the given list, or if its name is
+/// not held.
 #[derive(Drop)]
 pub struct MemFiles {
     files: Table,
@@ -32,15 +32,16 @@ impl Model for MemFiles {
 }
 
 impl MemFiles {
-    /// No files yet, whose reads will give as many bytes as fit. The reads with these numbers will fail.
+    /// Makes a source without files, whose reads return as many bytes as fit. The reads with the numbers in `failing`
+    /// will fail.
     pub fn new(alloc: Global, failing: &[u64]) -> Result<MemFiles, Memory>
         ensures { IfOk result (λ m. m ≡ record { files = []; piece = 2 ^ 64 - 1; failing = failing.now; calls = 0 }) }
     {
         MemFiles::short(alloc, usize::MAX, failing)
     }
 
-    /// No files yet, of which each read will give at most `piece` bytes. The reads with these numbers
-    /// will fail.
+    /// Makes a source without files, whose reads return at most `piece` bytes each. The reads with the numbers in
+    /// `failing` will fail.
     pub fn short(alloc: Global, piece: usize, failing: &[u64]) -> Result<MemFiles, Memory>
         requires { 1 ≤ piece }
         ensures { IfOk result (λ m. m ≡ record { files = []; piece = piece; failing = failing.now; calls = 0 }) }
@@ -53,8 +54,8 @@ impl MemFiles {
         })
     }
 
-    /// Holds these bytes under the name, in place of those that it had. A new name begins with counts
-    /// of 0, and a held one keeps its own.
+    /// Stores these bytes under the name, in place of earlier ones. A new name begins with counts of 0; a held one
+    /// keeps its counts. It fails only if memory runs out.
     #[tactic(auto, using(crate::proofs::Names::bytes_put, crate::proofs::Names::bytes_put_other, crate::proofs::Names::faults_put, crate::proofs::Names::came_put))]
     pub fn add(&mut self, name: &str, bytes: &[u8]) -> Result<(), Memory>
         ensures ok { OnOk result (self.new ≡ record self.old { files = put self.old.files name.now bytes.now }) }
@@ -92,7 +93,7 @@ impl Files for MemFiles {
         ensures none_came { OnErr result (came_of self.new.files ≡ came_of self.old.files) }
         ensures one_read { self.new.calls ≤ self.old.calls + 1 }
 
-        // It fails at the listed calls and at names that aren't held, and nowhere else.
+        // A read fails exactly at the listed calls and at names that are not held.
         ensures fails { IsErr result ↔ (Contains self.old.failing (next_count self.old.calls)
             ⊎ (is_held self.old.files name.now ≡ false)) }
         ensures exact { IfOk result (λ n. (text : List ℕ) → bytes_of self.old.files name.now ≡ Some text

@@ -1,4 +1,4 @@
-// A sink in memory, which fails at chosen writes.
+// A sink in memory, with failures at chosen writes.
 ghost use Rattle.std.specs.Prelude.{◌≡◌, ◌⊎◌, ◌↔◌, ◌+◌, ◌-◌, ◌<◌, ◌≤◌, min, [], ◌++◌, length, take, Some, IfOk, OnOk, OnErr, IsErr, Contains};
 ghost use Rattle.strip_io.specs.Counts.{Rose};
 ghost use Rattle.strip_io.specs.Held.{next_count};
@@ -10,9 +10,8 @@ use crate::{Failed, Memory, Sink};
 use std::alloc::Global;
 use std::marker::Model;
 
-/// A sink that keeps what it takes, in room that is reserved when it is made: its writes take no
-/// memory. A write fails where its number, counted from 1, is among those that were given, and
-/// where the room is used up.
+/// A sink that keeps the bytes that it takes, in a buffer reserved when it is made. So its writes allocate no memory. A
+/// write fails if its number, counted from 1, is in the given list, or if the buffer is full.
 #[derive(Drop)]
 pub struct MemSink {
     taken: Vec<u8>,
@@ -35,8 +34,8 @@ impl Model for MemSink {
 }
 
 impl MemSink {
-    /// Room for `room` bytes, of which each write takes at most `piece`. The writes with these
-    /// numbers will fail.
+    /// Makes a sink with a buffer of `room` bytes, whose writes take at most `piece` bytes each. The writes with the
+    /// numbers in `failing` will fail.
     pub fn new(alloc: Global, room: usize, piece: usize, failing: &[u64]) -> Result<MemSink, Memory>
         requires { 1 ≤ piece }
         ensures { IfOk result (λ m. m
@@ -52,7 +51,7 @@ impl MemSink {
         })
     }
 
-    /// The bytes taken so far.
+    /// Returns the bytes taken so far.
     pub fn taken(&self) -> &[u8]
         ensures { result.now ≡ self.now.taken }
     {
@@ -72,7 +71,7 @@ impl Sink for MemSink {
         ensures later { self.old.faults ≤ self.new.faults }
         ensures unfailed { OnOk result (self.new.faults ≡ self.old.faults) }
 
-        // It fails at the listed calls and where the room is used up, and nowhere else.
+        // A write fails exactly at the listed calls and if the buffer is full.
         ensures fails { IsErr result ↔ (Contains self.old.failing (next_count self.old.calls)
             ⊎ (length self.old.taken ≡ self.old.room)) }
         ensures exact { IfOk result (λ n. n ≡ min self.old.piece

@@ -11,7 +11,7 @@ use crate::{Failed, Files, Memory, Sink};
 use std::alloc::Global;
 use std::marker::Model;
 
-/// Files in memory whose reads never fail. Each name is held: one that was never added is empty.
+/// Files in memory whose reads never fail. Every name is held: a name that was never added is an empty file.
 #[derive(Drop)]
 pub struct NoFaultFiles {
     files: Table,
@@ -27,7 +27,7 @@ impl Model for NoFaultFiles {
 }
 
 impl NoFaultFiles {
-    /// No names yet. It takes no memory.
+    /// Makes a source without files. It allocates no memory.
     pub fn new(alloc: Global) -> NoFaultFiles
         ensures { result ≡ [] }
     {
@@ -36,7 +36,7 @@ impl NoFaultFiles {
         }
     }
 
-    /// Holds these bytes under the name, in place of those that it had.
+    /// Stores these bytes under the name, in place of earlier ones. It fails only if memory runs out.
     #[tactic(auto, using(crate::proofs::Names::bytes_put, crate::proofs::Names::bytes_put_other))]
     pub fn add(&mut self, name: &str, bytes: &[u8]) -> Result<(), Memory>
         ensures ok { OnOk result (self.new ≡ put self.old name.now bytes.now) }
@@ -83,14 +83,14 @@ impl Model for NoFaultSink {
 }
 
 impl NoFaultSink {
-    /// Nothing taken yet.
+    /// Makes a sink that has taken no bytes.
     pub fn new() -> NoFaultSink
         ensures { result ≡ 0 }
     {
         NoFaultSink { bytes: 0 }
     }
 
-    /// How many bytes it has taken, at most 2^64 - 1.
+    /// Returns the number of bytes taken, at most 2^64 - 1.
     pub fn count(&self) -> u64
         ensures { result ≡ self.now }
     {

@@ -1,4 +1,4 @@
-// The file of a disk that is open.
+// The open file of a disk.
 ghost use Rattle.std.specs.Prelude.{◌≡◌, ◌+◌, ◌^◌, ◌<◌, ◌≤◌, [], ◌∷◌, ◌++◌, length, string_bytes, IfOk};
 ghost use Rattle.strip_io.specs.Disk.{opened_for, standing};
 ghost use Rattle.strip_io.specs.Streams.{GaveFrom, StandsAt, WentOn};
@@ -7,8 +7,7 @@ use crate::Disk;
 use std::io;
 use std::io::{Read, Seek, SeekFrom};
 
-/// A file that is open, by the number of its name among those that may be read, and the place to which reads of it have
-/// come.
+/// An open file: the index of its name in the table, and the offset that its reads have reached.
 #[derive(Drop)]
 pub(crate) struct OpenFile<F> {
     pub entry: usize,
@@ -17,7 +16,8 @@ pub(crate) struct OpenFile<F> {
 }
 
 impl<F: Read> OpenFile<F> {
-    /// Reads once, to the front of `into`, and answers how many bytes: 0 only at the end.
+    /// Reads once, to the front of `into`, and returns the number of bytes. The number is 0 only at the end of the
+    /// file.
     fn read(&mut self, into: &mut [u8]) -> io::Result<usize>
         requires room { 0 < length into.old }
         requires place { self.old.at ≤ 2 ^ 31 }
@@ -32,8 +32,8 @@ impl<F: Read> OpenFile<F> {
     }
 }
 
-/// Reads once from this place of a file, and answers the file, and how many bytes. It goes on with the file that is open,
-/// if it is this one and stands at this place; else that one is closed first, and this one opened.
+/// Reads once from offset `at` of the file, and returns the file and the number of bytes. It uses the open file if that
+/// is the requested one at this offset; else it closes that file and opens the requested one.
 pub(crate) fn read_at<D: Disk>(
     disk: &mut D,
     current: Option<OpenFile<D::File>>,
@@ -59,7 +59,7 @@ pub(crate) fn read_at<D: Disk>(
     Ok((file, count))
 }
 
-/// The file that is open, if it is this one and stands at this place; else it is closed.
+/// Returns the open file if it is the requested one at this offset; else closes it.
 fn standing<F: Drop>(entry: usize, at: u64, current: Option<OpenFile<F>>) -> Option<OpenFile<F>>
     ensures { result ≡ standing entry at current }
 {
@@ -71,7 +71,7 @@ fn standing<F: Drop>(entry: usize, at: u64, current: Option<OpenFile<F>>) -> Opt
     }
 }
 
-/// The file of this name, opened and at this place. At its beginning it isn't sought, since a pipe can't be.
+/// Opens the named file and moves it to this offset. At offset 0 it doesn't seek, since a pipe does not allow it.
 fn open_at<D: Disk>(
     disk: &mut D,
     name: &String,

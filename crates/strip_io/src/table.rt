@@ -1,4 +1,4 @@
-// The names that a source holds, with what it knows of each.
+// The names that a source holds, with bytes and counts for each.
 ghost use Rattle.std.specs.Prelude.{◌≡◌, ◌-◌, min, List, [], length, take, drop, map, string_bytes, IfSome, OnOk, OnErr};
 ghost use Rattle.std.specs.List.{position};
 ghost use Rattle.std.specs.Option.{is_some, option_copied};
@@ -18,7 +18,7 @@ struct Entry {
     came: u64,
 }
 
-// Names, each with its bytes, and with counts of its faults and of the bytes that reads gave.
+// A list of names, each with its bytes, its number of failed reads, and the number of bytes that reads returned.
 #[derive(Drop)]
 pub(crate) struct Table {
     alloc: Global,
@@ -36,7 +36,7 @@ impl Model for Table {
     ghost view = { λ table. map held_file table.entries.items };
 }
 
-// The place of a name.
+// Returns the index of the name.
 fn place(entries: &[Entry], name: &str) -> Option<usize>
     ensures { result ≡ position (λ entry. bytes_eq (string_bytes entry.name) name.now) entries.now }
 {
@@ -53,7 +53,7 @@ impl Table {
         }
     }
 
-    // Which of the names this is, by its number, and the name as the table has it.
+    // Returns the index of the name, and the name as the table has it.
     pub(crate) fn own_name(&self, name: &str) -> Option<(usize, &String)>
         ensures held { is_some result ≡ is_held self.now name.now }
         ensures entry { IfSome result (λ own. own.0 ≡ entry_of self.now name.now) }
@@ -108,8 +108,8 @@ impl Table {
     }
 }
 
-// Copies bytes of the text from a place on to the front of `into`, as many as there are and fit, and at
-// most so many.
+// Copies bytes of the text from offset `at` on to the front of `into`, and returns their number. It copies as many as
+// remain and fit, and at most `most`.
 pub(crate) fn copy_from(text: &[u8], at: usize, most: usize, into: &mut [u8]) -> usize
     ensures count { result ≡ min most (min (length into.old) (length text.now - at)) }
     ensures bytes { take result into.new ≡ take result (drop at text.now) }

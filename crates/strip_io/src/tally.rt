@@ -1,8 +1,8 @@
-// Counts that stand still at the end of their type.
+// Counts that saturate.
 ghost use Rattle.std.specs.Prelude.{◌≡◌};
 ghost use Rattle.strip_io.specs.Held.{next_count};
 
-// One more, but at the end of the type the same.
+// Returns the count plus one, or the greatest `u64` if the count has reached it.
 pub(crate) fn next_count(count: u64) -> u64
     ensures { result ≡ next_count count }
 {

@@ -1,4 +1,4 @@
-// Whole files and whole texts.
+// Loading whole files, and sending whole texts.
 ghost use Rattle.std.specs.Prelude.{◌≡◌, ◌≢◌, ℕ, ◌+◌, ◌^◌, ◌<◌, ◌≤◌, List, length, vec_len, Some, Err, IfOk, OnOk, OnErr};
 ghost use Rattle.strip_io.specs.declared.transfer.LoadFault.TheVariants.{Read, Memory as OutOfMemory};
 ghost use Rattle.strip_io.specs.Counts.{CameAtLeast, CameOnly, CountsOnly, ReadFailed, Rose};
@@ -9,12 +9,12 @@ use std::alloc::{AllocError, Global};
 use std::error::Error;
 use std::fmt;
 
-/// Why a file wasn't loaded.
+/// The reason why a file was not loaded.
 #[derive(Clone, Copy, Debug, PartialEq, Eq)]
 pub enum LoadFault {
-    /// A read failed, or the name isn't held.
+    /// A read failed, or the name is not held.
     Read,
-    /// It has more bytes than the limit.
+    /// The file has more bytes than the limit.
     TooLong,
     /// Memory ran out.
     Memory,
@@ -52,11 +52,11 @@ impl fmt::Display for LoadFault {
 
 impl Error for LoadFault {}
 
-/// How many bytes are asked for at once.
+/// Number of bytes requested in one read.
 const PIECE: usize = 65_536;
 
-/// The bytes of a name, read to its end by at most `limit + 1` reads. At most `limit` of them are
-/// kept. No read that failed is tried again.
+/// Loads the whole file of a name, by at most `limit + 1` reads. A file of more than `limit` bytes is refused. A failed
+/// read is not tried again.
 pub fn load<F: Files>(
     alloc: Global,
     files: &mut F,
@@ -78,7 +78,8 @@ pub fn load<F: Files>(
     ensures counts { CountsOnly name.now (F.state files.old).faults (F.state files.new).faults }
     ensures unfailed { result ≢ Err LoadFault.Read → (F.state files.new).faults ≡ (F.state files.old).faults }
 
-    // What came in this call, also where no bytes are told: as many bytes as it answers, or too many.
+    // These clauses hold even if the file's bytes are not known: they tell the number of bytes that the reads returned.
+    // On success it is the result's length, and `TooLong` means that it exceeds the limit.
     ensures came { IfOk result (λ v. CameOnly name.now (vec_len v) (F.state files.old).came (F.state files.new).came) }
     ensures too_many { result ≡ Err LoadFault.TooLong
         → CameAtLeast (limit + 1) ((F.state files.old).came name.now) ((F.state files.new).came name.now) }
@@ -101,7 +102,7 @@ pub fn load<F: Files>(
     unreachable!()
 }
 
-/// Writes the whole text, in as many pieces as the sink takes. It takes no memory.
+/// Writes the whole text, in as many pieces as the sink needs. It allocates no memory.
 pub fn send<S: Sink>(out: &mut S, text: &[u8]) -> Result<(), Failed>
     ensures ok { OnOk result (Took (S.state out.old).taken (S.state out.new).taken text.now) }
     ensures cause { OnErr result (Rose (S.state out.old).faults (S.state out.new).faults) }

@@ -1,15 +1,15 @@
-// The static bounds.
+// The kinds of static bounds.
 
-/// Which static bound is used.
+/// The kind of static bound (lower bound of a set of remaining scenes, from the film alone) that a search uses.
 #[derive(Clone, Copy, Debug, PartialEq, Eq)]
 pub enum Kind {
-    /// Each scene's days for its own cast.
+    /// The pay for work: the days of each scene of the set, at the rates of its cast.
     Plain,
-    /// The same, and what pairs of actors on location cost beyond it.
+    /// `Plain`, and the least pay for waiting of disjoint pairs of actors on location.
     Pairs,
-    /// The same, and what groups of up to six actors on location cost beyond it.
+    /// `Plain`, and the least pay for waiting of disjoint groups of up to six actors on location.
     Groups,
-    /// The same as plain, and what larger groups on location cost beyond it together with actors who
-    /// are still to come.
+    /// `Plain`, and the least pay for waiting of larger disjoint groups on location, each together with newcomers
+    /// (actors who are still to come).
     Arrivals,
 }

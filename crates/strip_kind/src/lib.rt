@@ -1,4 +1,5 @@
-//! The names of the static bounds, which words, plans and searches share.
+//! The names of the static bounds (lower bounds of a set of remaining scenes, from the film alone). Command words,
+//! plans and searches share them.
 #![tactic(auto)]
 
 mod kind;

@@ -1,4 +1,4 @@
-// What a worker does with its pass, and what anyone may see.
+// The calls of a pass, and the read that needs no pass.
 ghost use Rattle.std.specs.Prelude.{◌≡◌, ◌≤◌, false};
 ghost use Rattle.strip_film.specs.Path.{IsComplete};
 ghost use Rattle.strip_film.specs.Shown.{path_data};
@@ -10,7 +10,7 @@ use crate::pass::LeastPass;
 use crate::rule::{Count, Cut, Draw, Look, Merge, Offer, Settle};
 use strip_film::Path;
 
-/// The cheaper of two paths, the first where they cost the same.
+/// Returns the cheaper of two paths, or the first if they cost the same.
 fn cheaper(path: &Path, other: &Path) -> Path
     ensures { path_data result ≡ cheaper (path_data path.now) (path_data other.now) }
 {
@@ -22,14 +22,15 @@ fn cheaper(path: &Path, other: &Path) -> Path
 }
 
 impl Least {
-    /// The least cost that any pass offered until now, in units of money. It needs no pass, and tells none.
+    /// Returns the least cost that any pass offered so far, in units of money. It needs no pass, and gives a pass no
+    /// knowledge.
     pub fn peek(&self) -> u64 {
         self.table.shared.peek(0)
     }
 }
 
 impl LeastPass {
-    /// The best path that this pass offered, was begun with, or has from a pass that was joined into it.
+    /// Returns the best path of the pass: one that it offered, the one it began with, or one of a pass joined into it.
     pub fn best(&self) -> &Path
         ensures best { path_data result.now ≡ best_path self.now }
         ensures pays { (path_data result.now).paid ≡ (known self.now).best }
@@ -37,8 +38,8 @@ impl LeastPass {
         &self.best
     }
 
-    /// The least cost that any pass offered until now, in units of money. It is at most every value that
-    /// this pass was told or offered, and at least the optimum of the film.
+    /// Returns the least cost that any pass offered so far, in units of money. It is at most every cost that this pass
+    /// was told or offered, and at least the optimum of the film.
     pub fn look(&mut self, least: &Least) -> u64
         requires { IsPassOf least.now self.old }
         ensures pass { IsPassOf least.now self.new }
@@ -48,8 +49,8 @@ impl LeastPass {
         least.table.shared.load::<Look>(&mut self.seat, 0)
     }
 
-    /// Offers a complete path, and answers the least cost, in units of money, which is then no more than
-    /// what the path paid. The pass keeps the path where it is cheaper than its best one.
+    /// Offers a complete path, and returns the least cost then, in units of money. It is at most the path's pay. The
+    /// pass keeps the path if it is cheaper than its best one.
     pub fn offer(&mut self, least: &Least, path: &Path) -> u64
         requires pass { IsPassOf least.now self.old }
         requires complete { IsComplete (known self.old).film (path_data path.now) }
@@ -66,8 +67,8 @@ impl LeastPass {
         found.min(paid)
     }
 
-    /// Claims the next part, which no other pass gets; none where all are claimed. A pass that was told
-    /// so takes no further step.
+    /// Claims the next part, which no other pass gets, or returns none if all parts are claimed. After that the pass
+    /// makes no further atomic step for a claim.
     pub fn claim(&mut self, least: &Least) -> Option<u32>
         requires { IsPassOf least.now self.old }
         ensures pass { IsPassOf least.now self.new }
@@ -95,8 +96,8 @@ impl LeastPass {
         None
     }
 
-    /// A new pass of weight 1, which knows what this one knows, has its best path, and claimed nothing.
-    /// The weight of this pass, which is 2 or more, falls by 1.
+    /// Splits off a pass of weight 1, which has the knowledge and the best path of this pass, but no claims. The weight
+    /// of this pass must be at least 2, and falls by 1.
     pub fn split(&mut self, least: &Least) -> LeastPass
         requires pass { IsPassOf least.now self.old }
         requires weight { 2 ≤ (known self.old).weight }
@@ -115,8 +116,8 @@ impl LeastPass {
         }
     }
 
-    /// Takes in another pass of the same words: its weight, its claims, what it was told, and its best
-    /// path where that is cheaper. No part stands twice among the claims of both.
+    /// Joins another pass of the same words into this one: its weight, its claims, its knowledge, and its best path if
+    /// that is cheaper. No part occurs twice among the claims of both.
     pub fn join(&mut self, least: &Least, other: LeastPass)
         requires pass { IsPassOf least.now self.old }
         requires other { IsPassOf least.now other }
@@ -137,8 +138,8 @@ impl LeastPass {
         self.has_ended |= has_ended;
     }
 
-    /// Tells the pass the least cost. A pass of full weight, into which all others were joined, has a path
-    /// that paid it as its best; and where it has ended, it has claimed all parts, each once.
+    /// Reads the least cost for the pass. A pass of full weight, into which all others were joined, has a best path
+    /// with this cost. If it has also ended, it has claimed all parts, each once.
     pub fn settle(&mut self, least: &Least)
         requires { IsPassOf least.now self.old }
         ensures pass { IsPassOf least.now self.new }

@@ -1,8 +1,7 @@
-// What a search is over.
+// The parameters of a search.
 use strip_film::Film;
 
-/// The film, what the path that a search starts with paid, in units of money, and how many parts the
-/// search has.
+/// The parameters of a search: the film, the start path's pay in units of money, and the number of parts.
 #[derive(Drop)]
 pub struct Course {
     pub film: Film,

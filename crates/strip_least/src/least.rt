@@ -1,4 +1,4 @@
-// The words themselves.
+// The two shared words.
 ghost use Rattle.std.specs.Prelude.{◌≡◌};
 
 use crate::course::Course;
@@ -7,8 +7,8 @@ use crate::view::View;
 use atomic_table::Table;
 use std::alloc::Global;
 
-/// The least cost that was found so far, and the next part to be claimed, as two words that any number
-/// of workers step on at once, each with a pass of its own.
+/// The incumbent cost and the next part to be claimed, as two atomic words. Any number of workers step on them at once,
+/// each with its own pass.
 #[derive(Drop)]
 pub struct Least {
     pub(crate) table: Table<(), View, Course, Rule, Global>,

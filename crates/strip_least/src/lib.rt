@@ -1,5 +1,6 @@
-//! The two words that the workers of a search share: the least cost that was found so far, and the next
-//! part to be claimed. Each call of a pass takes one step or two on them, and waits for nobody.
+//! Two atomic words that the workers of a search share: the incumbent cost, of the best order known, and the next part
+//! to be claimed. A worker steps on them with a pass, a token of its knowledge. Each call takes one or two atomic
+//! steps, and never waits.
 #![tactic(auto)]
 
 mod calls;

@@ -1,4 +1,4 @@
-// How the words and their first pass are made.
+// Making the words and their first pass.
 ghost use Rattle.std.specs.Prelude.{IfOk};
 ghost use Rattle.strip_film.specs.Path.{IsComplete};
 ghost use Rattle.strip_film.specs.Shown.{path_data};
@@ -13,9 +13,9 @@ use strip_film::{Film, Path};
 use strip_io::Memory;
 
 impl Least {
-    /// The words of a search of so many parts that starts with this complete path, and their first pass,
-    /// which has the full weight, 2^32, and the start path as its best. It fails only where memory runs
-    /// out, and no call of a pass takes any.
+    /// Makes the words of a search of `parts` parts that starts with this complete path, and their first pass. The pass
+    /// has the full weight, 2^32, and the start path as its best. It fails only if memory runs out. No call of a pass
+    /// allocates memory.
     pub fn new(
         alloc: Global,
         film: &Film,
@@ -27,7 +27,7 @@ impl Least {
     {
         film.keeps_limits();
         let paid = start.paid();
-        // The rule names a film of its own, so that the words borrow none.
+        // The rule refers to its own copy of the film, so that the words borrow none.
         let course = Course {
             film: film.copy()?,
             start: paid,

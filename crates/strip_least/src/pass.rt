@@ -1,4 +1,4 @@
-// What a worker steps with.
+// Passes.
 ghost use Rattle.std.specs.Prelude.{◌≡◌};
 ghost use Rattle.strip_film.specs.Shown.{path_data};
 
@@ -6,7 +6,8 @@ use crate::view::View;
 use atomic_table::Seat;
 use strip_film::Path;
 
-/// A worker's pass: the best path that it has, and whether it found that no part is left.
+/// A worker's pass: its best path, and whether it found that no part is left. The seat is the ghost token of its
+/// knowledge.
 #[derive(Drop)]
 pub struct LeastPass {
     pub(crate) seat: Seat<(), View>,

@@ -1,11 +1,11 @@
-// The rule of the words, and the steps on them.
+// The invariant of the words, and the kinds of steps on them.
 ghost use Rattle.std.specs.Prelude.{◌≡◌, min};
 
 use crate::course::Course;
 use crate::view::View;
 use atomic_table::{Join, Play, Split, TableRule};
 
-/// What holds of the words and of all that passes know, whatever steps were taken.
+/// The invariant of the words and of the knowledge of all passes, which every step keeps.
 pub struct Rule;
 
 impl TableRule<(), View, Course> for Rule {
@@ -16,7 +16,7 @@ impl TableRule<(), View, Course> for Rule {
     ghost first = { first_view };
 }
 
-/// A load of the least cost.
+/// The step that reads the least cost.
 pub struct Look;
 
 impl Play<(), View> for Look {
@@ -25,7 +25,7 @@ impl Play<(), View> for Look {
     ghost then = { λ step before found after. HasLooked before.0 found after.0 × (after.1 ≡ before.1) };
 }
 
-/// A step that lowers the least cost to what a path paid.
+/// The step that lowers the least cost to the pay of a path.
 pub struct Offer;
 
 impl Play<(), View> for Offer {
@@ -34,7 +34,7 @@ impl Play<(), View> for Offer {
     ghost then = { λ step before found after. HasOffered step.first before.0 (min found step.first) after.0 × (after.1 ≡ before.1) };
 }
 
-/// A step that takes the next part.
+/// The step that takes the next part.
 pub struct Draw;
 
 impl Play<(), View> for Draw {
@@ -43,7 +43,7 @@ impl Play<(), View> for Draw {
     ghost then = { λ step before found after. HasDrawn before.0 found after.0 × (after.1 ≡ before.1) };
 }
 
-/// A load that tells of the claims that no part stands twice among them.
+/// The read by which a pass learns that no part occurs twice among its claims.
 pub struct Count;
 
 impl Play<(), View> for Count {
@@ -52,7 +52,7 @@ impl Play<(), View> for Count {
     ghost then = { λ step before found after. HasCounted before.0 after.0 × (after.1 ≡ before.1) };
 }
 
-/// A load of the least cost that tells a pass of full weight that nothing is missing.
+/// The read of the least cost by which a pass of full weight learns that no offer and no claim is missing.
 pub struct Settle;
 
 impl Play<(), View> for Settle {
@@ -61,7 +61,7 @@ impl Play<(), View> for Settle {
     ghost then = { λ step before found after. HasSettled before.0 found after.0 × (after.1 ≡ before.1) };
 }
 
-/// A pass gives a weight of 1 to a new one.
+/// The split of a pass: a new one gets a weight of 1.
 pub struct Cut;
 
 impl Split<View> for Cut {
@@ -72,7 +72,7 @@ impl Split<View> for Cut {
     ghost right = { split_off };
 }
 
-/// A pass takes in another.
+/// The join of a pass into another.
 pub struct Merge;
 
 impl Join<View> for Merge {

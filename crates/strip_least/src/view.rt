@@ -1,10 +1,10 @@
-// What a pass knows.
+// The knowledge of a pass.
 use std::collections::LinkedList;
 use strip_film::Film;
 
-/// What a pass knows, which exists in proofs alone: no value of it is made. Its weight is its share of
-/// the first pass; `told` is the least cost that it was told or offered, `best` what its best path paid,
-/// and `claims` are the parts that it claimed.
+/// The knowledge of a pass. It exists in proofs only: no value of it is made. `weight` is its share of the first pass.
+/// `told` is the least cost that it was told or offered, `best` its best path's pay, and `claims` the parts that it
+/// claimed.
 pub struct View {
     pub weight: u64,
     pub ended: bool,

@@ -1,4 +1,4 @@
-//! Laws of the definitions. Each function does nothing but cite other laws: its contract is the law.
+//! Laws of lines: functions that do nothing when they run but call other laws, with theorems as contracts.
 ghost use Rattle.std.specs.Prelude.{◌≡◌, ℕ, ◌<◌, ◌≤◌, List, [], ◌∷◌, ◌++◌, length, All};
 ghost use Rattle.strip_kind.specs.declared.kind.Kind.{Kind};
 ghost use Rattle.strip_pay.specs.Film.{FilmData};
@@ -11,9 +11,8 @@ ghost use Rattle.strip_lines.specs.Lines.{AreJustified, GrowTo, IsJustified, ahe
 use strip_bound::laws::the_bounds_are_true;
 use strip_rule::laws::an_open_first_begins_a_least_tail;
 
-/// What lines go by holds of the static bounds and the open firsts of every film and kind: the bounds
-/// are at most the cost of finishing, and some open first begins a least tail; and open firsts are
-/// ready.
+/// The rules of a search hold for every film and kind of bound. The static bounds are at most the cost of finishing.
+/// Some open first begins a least tail, and open firsts are ready.
 pub fn the_rules_are_true()
     ensures bounds { (kind : Kind) (film : FilmData) → IsFilm film → BoundsFinish (rules_of kind film) }
     ensures begin { (kind : Kind) (film : FilmData) → IsFilm film → BeginLeast (rules_of kind film) }
@@ -23,8 +22,7 @@ pub fn the_rules_are_true()
     an_open_first_begins_a_least_tail();
 }
 
-/// What a justified list of lines makes known is true: each bound is at most the cost of finishing its
-/// set.
+/// Every bound derived from a justified list of lines is valid: it is at most the cost of finishing its set.
 pub fn a_justified_list_is_true()
     ensures lines { (rules : Rules) (lines : List Line) → IsFilm rules.film → BoundsFinish rules → BeginLeast rules
         → AreJustified rules lines → All (λ line. IsAtMostFinish rules.film line.set line.bound) lines }
@@ -33,14 +31,14 @@ pub fn a_justified_list_is_true()
         → AreJustified rules lines → LiesIn rules.film set → IsAtMostFinish rules.film set (known rules lines set) }
 {}
 
-/// The look-ahead of a set of the film's scenes is at most the cost of finishing it.
+/// The look-ahead of a set is a valid lower bound. It is the greater of its static bound and the least step plus bound
+/// over its firsts.
 pub fn the_look_ahead_is_true()
     ensures { (rules : Rules) → IsFilm rules.film → BoundsFinish rules → BeginLeast rules → FirstsAreReady rules
         → (set : ℕ) → LiesIn rules.film set → IsAtMostFinish rules.film set (ahead rules set) }
 {}
 
-/// What is known of a set is the greatest of its static bound and the bounds of the lines with this
-/// set.
+/// The bound known of a set is the greatest of its static bound and the bounds of its lines.
 pub fn what_is_known_is_the_greatest()
     ensures bound { (rules : Rules) (lines : List Line) (set : ℕ) → rules.bound set ≤ known rules lines set }
     ensures line { (rules : Rules) (lines : List Line) (place : ℕ) → place < length lines
@@ -50,7 +48,7 @@ pub fn what_is_known_is_the_greatest()
         → known rules lines set ≤ most }
 {}
 
-/// Where lines grow, what they make known doesn't fall, and what they justify stays justified.
+/// When lines grow, the bounds known of sets don't fall, and justified lines stay justified.
 pub fn what_is_known_stays()
     ensures known { (rules : Rules) (lines more : List Line) (set : ℕ) → GrowTo lines more
         → known rules lines set ≤ known rules more set }
@@ -58,8 +56,8 @@ pub fn what_is_known_stays()
         → IsJustified rules lines line → IsJustified rules more line }
 {}
 
-/// A list stays justified where a line with the static bound of its set is added, and where the bound
-/// of one of its lines is raised to a justified one; and it grows so.
+/// A justified list stays justified, and grows, in two ways. A line with at most the static bound of its set is
+/// appended, or a line's bound is raised to a justified one.
 pub fn justified_lists_grow()
     ensures added { (rules : Rules) (lines : List Line) (line : Line) → AreJustified rules lines
         → LiesIn rules.film line.set

@@ -1,4 +1,8 @@
-//! What a list of lines makes known of the cost of finishing a set of scenes, and when it is true.
+//! Lines: lower bounds of the cost of finishing sets of remaining scenes, as a search records them. A line is justified
+//! if it follows from static bounds and other lines. Every line of a justified list is a valid lower bound.
+//!
+//! A law (`laws`) is a function that does nothing when it runs: its contract is a theorem that a caller obtains by
+//! calling it.
 #![tactic(auto)]
 
 pub mod laws;

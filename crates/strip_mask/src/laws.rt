@@ -1,7 +1,7 @@
-//! Laws of the definitions. The function does nothing: its contract is the law.
+//! The law of bit sets: a function that does nothing when it runs, with a theorem as its contract.
 ghost use Rattle.strip_mask.specs.Laws.{AddsItsValue, ClosesTheGap, EmptyHasNone, HasLeastMember, MadeByMembers, MembersBelow64, MembersRise, NoMoreThanTheWhole, OneFewer, SameMembersSameSet, SumsAddUp};
 
-/// Sets are told apart by their members alone, and sizes and sums follow the members.
+/// Sets with the same members are equal. Sizes, sums and the set operations follow from the members.
 pub fn sets_are_by_members()
     ensures same { SameMembersSameSet }
     ensures made { MadeByMembers }

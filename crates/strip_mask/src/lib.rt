@@ -1,4 +1,7 @@
-//! Sets of numbers below 64, kept as masks.
+//! Bit sets of numbers below 64 (masks), and sums of values over a set.
+//!
+//! A law (`laws`) is a function that does nothing when it runs: its contract is a theorem that a caller obtains by
+//! calling it.
 #![tactic(auto)]
 
 pub mod laws;

@@ -1,17 +1,17 @@
-// Sets of numbers below 64, as masks: bit `i` stands for number `i`.
+// Bit sets of numbers below 64: bit `i` stands for number `i`.
 ghost use Rattle.std.specs.Prelude.{◌≡◌, ◌↔◌, ℕ, ◌^◌, ◌<◌, ◌≤◌, true, length, IfSome, IsTrue, Some};
 ghost use Rattle.std.specs.Iterator.{UpTo, YieldsFirst, item_count};
 ghost use Rattle.std.specs.Iterator.SizeHint.{IsWithinCount};
 ghost use Rattle.strip_mask.specs.Iter.{rest_of};
 ghost use Rattle.strip_mask.specs.Set.{LiesBelow, closed_up, first, full, has, meet, members, minus, size, sum_over, union, with, without};
 
-/// A set of numbers below 64: bit `i` stands for number `i`. Each call but the turns of `iter` is a
-/// few instructions.
+/// A set of numbers below 64: bit `i` stands for number `i`. Each method but `below`, `lies_below` and the iteration
+/// takes a few instructions.
 #[derive(Clone, Copy, Debug, PartialEq, Eq)]
 pub struct Mask(pub u64);
 
 impl Mask {
-    /// The set of the numbers below `count`, which is at most 64. One turn for each.
+    /// Returns the set of the numbers below `count`, which is at most 64. Time is linear in `count`.
     pub fn below(count: u32) -> Mask
         requires { count ≤ 64 }
         ensures { result.0 ≡ full count }
@@ -23,7 +23,7 @@ impl Mask {
         all
     }
 
-    /// Whether each number of the set is below `count`, which is at most 64.
+    /// Returns whether each number of the set is below `count`, which is at most 64. Time is linear in `count`.
     pub fn lies_below(self, count: u32) -> bool
         requires { count ≤ 64 }
         ensures { IsTrue result ↔ LiesBelow count self.0 }
@@ -31,7 +31,7 @@ impl Mask {
         self.minus(Mask::below(count)).is_empty()
     }
 
-    /// Whether the set has the number, which is below 64.
+    /// Returns whether the set has number `i`, which is below 64.
     pub fn has(self, i: u32) -> bool
         requires { i < 64 }
         ensures { result ≡ has self.0 i }
@@ -39,7 +39,7 @@ impl Mask {
         self.0 >> i & 1 == 1
     }
 
-    /// The set with this number, which is below 64, in it.
+    /// Returns the set with number `i`, which is below 64, added.
     pub fn with(self, i: u32) -> Mask
         requires { i < 64 }
         ensures { result.0 ≡ with self.0 i }
@@ -47,7 +47,7 @@ impl Mask {
         Mask(self.0 | 1 << i)
     }
 
-    /// The set without this number, which is below 64.
+    /// Returns the set with number `i`, which is below 64, removed.
     pub fn without(self, i: u32) -> Mask
         requires { i < 64 }
         ensures { result.0 ≡ without self.0 i }
@@ -55,7 +55,7 @@ impl Mask {
         Mask(self.0 & !(1 << i))
     }
 
-    /// The set without this number, which is below 64, and each greater number one lower.
+    /// Returns the set with number `i`, which is below 64, removed, and each greater number lowered by one.
     pub fn closed_up(self, i: u32) -> Mask
         requires { i < 64 }
         ensures { result.0 ≡ closed_up self.0 i }
@@ -64,35 +64,35 @@ impl Mask {
         Mask(self.0 & lower | (self.0 >> 1) & !lower)
     }
 
-    /// The numbers of either set.
+    /// Returns the union of both sets.
     pub fn union(self, other: Mask) -> Mask
         ensures { result.0 ≡ union self.0 other.0 }
     {
         Mask(self.0 | other.0)
     }
 
-    /// The numbers of both sets.
+    /// Returns the intersection of both sets.
     pub fn meet(self, other: Mask) -> Mask
         ensures { result.0 ≡ meet self.0 other.0 }
     {
         Mask(self.0 & other.0)
     }
 
-    /// The numbers of this set that the other lacks.
+    /// Returns the set difference: the numbers of this set that the other lacks.
     pub fn minus(self, other: Mask) -> Mask
         ensures { result.0 ≡ minus self.0 other.0 }
     {
         Mask(self.0 & !other.0)
     }
 
-    /// How many numbers the set has.
+    /// Returns the number of members.
     pub fn size(self) -> u32
         ensures { result ≡ size self.0 }
     {
         self.0.count_ones()
     }
 
-    /// The least number of the set; none where it is empty.
+    /// Returns the least member, or none if the set is empty.
     pub fn first(self) -> Option<u32>
         ensures { result ≡ first self.0 }
     {
@@ -103,14 +103,14 @@ impl Mask {
         }
     }
 
-    /// Whether the set has no number.
+    /// Returns whether the set is empty.
     pub fn is_empty(self) -> bool
         ensures { IsTrue result ↔ (self.0 ≡ 0) }
     {
         self.0 == 0
     }
 
-    /// The numbers of the set, rising: one turn for each.
+    /// Returns an iterator over the members, in rising order.
     pub fn iter(self) -> MaskIter
         ensures left { rest_of result ≡ members self.0 }
         ensures few { length (rest_of result) ≤ 64 }
@@ -131,7 +131,7 @@ impl IntoIterator for Mask {
     }
 }
 
-/// The numbers of a set that are still to come, rising.
+/// An iterator over the members of a set, in rising order.
 #[derive(Clone, Debug, Drop)]
 pub struct MaskIter {
     rest: u64,
@@ -163,8 +163,8 @@ impl Iterator for MaskIter {
     }
 }
 
-/// The sum of the values at the numbers of the set, each of which is a place of the slice; it is below
-/// 2^64. One turn for each number.
+/// Returns the sum of the values whose indices are in the set. Each member must be an index of the slice, and the sum
+/// must be below 2^64. Time is linear in the number of members.
 pub fn sum_over(values: &[u64], m: Mask) -> u64
     requires within { (i : ℕ) → has m.0 i ≡ true → i < length values.now }
     requires fits { sum_over values.now m.0 < 2 ^ 64 }

@@ -1,5 +1,5 @@
-//! A memo of static bounds: what was asked for is remembered by set, and forgotten where another set comes
-//! to its place.
+//! A direct-mapped cache of static bounds, of one worker (memo). Its keys are sets of remaining scenes; a new set
+//! replaces the set at its place.
 #![tactic(auto)]
 
 mod memo;

@@ -1,4 +1,4 @@
-// A memo of static bounds.
+// The cache of static bounds (memo) of one worker.
 ghost use Rattle.std.specs.Prelude.{◌≡◌, ◌-◌, ◌*◌, ◌^◌, ◌<◌, ◌≤◌, false, vec_len};
 
 use std::alloc::Global;
@@ -9,27 +9,27 @@ use strip_mask::Mask;
 
 const MULTIPLIER: u64 = 0x9E37_79B9_7F4A_7C15;
 
-/// How many bytes the memos of all workers may take, 128 MB.
+/// Maximum number of bytes of all workers' memos, 128 MB.
 const ROOM: u64 = 1 << 27;
 
-/// How many bytes an entry takes with its mark.
+/// Number of bytes of an entry with its mark.
 const ENTRY_ROOM: u64 = 17;
 
-/// What is remembered of a set: a number that is at most its static bound.
+/// A cached value: a number that is at most the static bound of the set.
 #[derive(Clone, Copy, Debug)]
 pub(crate) struct Entry {
     pub set: u64,
     pub value: u64,
 }
 
-/// A memo of static bounds: a table in which each set has one place, by the top bits of its hash, and the
-/// last set that came there stands.
+/// A memo: a direct-mapped cache of static bounds. The top bits of its hash give a set's place, which holds the set
+/// stored there last.
 #[derive(Debug, Drop)]
 pub struct Memo {
     pub(crate) entries: Vec<Entry>,
     /// Whether each value is the whole bound.
     pub(crate) is_whole: bool,
-    /// Where not each is, for each place whether its value is.
+    /// If `is_whole` is false, for each place whether its value is the whole bound.
     pub(crate) marks: Vec<bool>,
     shift: u32,
     pub ghost room: { (shift < 64) × (2 ^ (64 - shift) ≤ vec_len entries) },
@@ -44,8 +44,8 @@ impl Memo {
     ghost use Rattle.strip_bound.specs.StoredBound.{Keeps};
     ghost use Rattle.strip_memo.specs.Memo.{IsMemo, bytes_of};
 
-    /// A memo that remembers the empty set alone: 2^18 entries of 16 bytes, 2^19 for groups, and for
-    /// arrivals 2^20 of 17 bytes; fewer where the film has few sets of scenes.
+    /// Makes a memo that knows the empty set alone. It has 2^18 entries of 16 bytes, 2^19 for groups, or 2^20 of 17
+    /// bytes for arrivals. There are fewer if the film has few sets of scenes. It fails only if memory runs out.
     pub fn new<F: Fn(u64, u64) -> u64>(alloc: Global, kept: &StoredBound<F>) -> Result<Memo, Memory>
         requires { Keeps (F.pre kept.now.f) (F.post kept.now.f) kept.now.kind kept.now.film.now }
         ensures { IfOk result (IsMemo kept.now.kind kept.now.film.now) }
@@ -53,9 +53,9 @@ impl Memo {
         Memo::among(alloc, kept, 1)
     }
 
-    /// A memo as `new` makes it, for one of so many workers, 1 to 100, who have one each: the more there
-    /// are, the fewer entries, so that all memos together take at most 128 MB. Several workers have 2^17
-    /// entries each at most for groups and arrivals, since they share a store of what they worked out.
+    /// Makes the memo of one of `workers` workers, 1 to 100, like `new`. The more workers, the fewer entries, so that
+    /// all memos together take at most 128 MB. For groups and arrivals, several workers have at most 2^17 entries each,
+    /// since they share a store of bounds.
     pub fn among<F: Fn(u64, u64) -> u64>(
         alloc: Global,
         kept: &StoredBound<F>,
@@ -81,8 +81,8 @@ impl Memo {
         })
     }
 
-    /// A number that is at most the static bound of the set, in units of money, and at least `need` or the
-    /// bound: the one that stands here, or else one that is asked for and then stands here.
+    /// Returns a number that is at most the static bound of the set, in units of money, and at least `need` or the
+    /// bound. It returns the cached value, if that suffices, or asks for a value and caches it.
     pub fn reach<F: Fn(u64, u64) -> u64>(
         &mut self,
         kept: &StoredBound<F>,
@@ -115,7 +115,7 @@ impl Memo {
         value
     }
 
-    /// Whether the value at this place is the whole bound.
+    /// Returns whether the value at this place is the whole bound.
     fn has_whole(&self, place: usize) -> bool
         requires { place < vec_len self.now.entries }
         ensures { result ≡ (self.now.is_whole || slice_index_or self.now.marks.items place false) }
@@ -123,8 +123,8 @@ impl Memo {
         self.is_whole || self.marks[place]
     }
 
-    /// Those of the scenes without each of which the set is one that stands here. The places are looked at in
-    /// a row, so that they come from memory at once. Which stand is a hint, on which the time alone depends.
+    /// Returns those of the scenes without which the set is cached. The places are read in a row, so that the memory
+    /// accesses overlap. The result is a hint: it affects the time only.
     pub fn standing(&self, q: Mask, scenes: Mask) -> Mask
         ensures { (scene : ℕ) → has result.0 scene ≡ true → has scenes.0 scene ≡ true }
     {
@@ -138,7 +138,7 @@ impl Memo {
         standing
     }
 
-    /// The place of the set's entry.
+    /// Returns the place of the set's entry.
     fn place(&self, q: Mask) -> usize
         ensures { result < vec_len self.now.entries }
     {
@@ -146,8 +146,8 @@ impl Memo {
     }
 }
 
-/// How many bits of its hash tell a set's place: at most two more than there are scenes, and no more than
-/// there is room for among so many workers.
+/// Returns the number of hash bits that give a set's place. It is at most two more than the number of scenes, and
+/// within the memory limit for this number of workers.
 fn bits_of(kind: Kind, scenes: usize, workers: u32) -> u32
     requires { (1 ≤ workers) × (workers ≤ 100) }
     ensures some { 0 < result }
@@ -167,7 +167,7 @@ fn bits_of(kind: Kind, scenes: usize, workers: u32) -> u32
     enough.min(bits_among(workers))
 }
 
-/// For how many bits each of so many workers has room.
+/// Returns the number of hash bits for which each of the workers has room.
 fn bits_among(workers: u32) -> u32
     requires { (1 ≤ workers) × (workers ≤ 100) }
     ensures some { 0 < result }
@@ -176,7 +176,8 @@ fn bits_among(workers: u32) -> u32
     (ROOM / (ENTRY_ROOM * u64::from(workers))).ilog2()
 }
 
-/// Whether the whole bound is answered whatever is asked for, so that it costs nothing to ask for it.
+/// Returns whether the static bound of this kind is always computed whole. Then a memo may ask for the whole bound at
+/// no extra cost.
 fn is_answered_whole(kind: Kind) -> bool {
     match kind {
         Kind::Plain | Kind::Pairs | Kind::Groups => true,

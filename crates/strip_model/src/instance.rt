@@ -1,4 +1,4 @@
-// An instance within the limits.
+// Instances within the limits.
 ghost use Rattle.std.specs.Prelude.{◌≡◌, ◌≢◌, ◌↔◌, ◌≤◌, ◌<◌, ℕ, List, [], length, map, All, IsTrue, IsSome, IfSome};
 ghost use Rattle.std.specs.List.{AllPairs};
 ghost use Rattle.strip_pay.specs.Pairs.{FitPairs};
@@ -11,9 +11,8 @@ use crate::scene::{Actor, Scene, is_actor, is_scene};
 use std::marker::Model;
 use strip_pay::{MAX_SCENES, Pair, fit};
 
-/// The scenes and the actors of a film, each numbered by its place, and the pairs of scenes that
-/// have an order of their own, within the limits. Contracts see it as plain lists: names as their
-/// bytes, a cast as a set of actor numbers.
+/// An instance: scenes and actors, each numbered by its place, and pairs of scenes (precedence constraints), within the
+/// limits. Contracts see it as plain lists: names as their bytes, a cast as a set of actor numbers.
 #[derive(Debug, Drop)]
 pub struct Instance {
     scenes: Vec<Scene>,
@@ -34,7 +33,7 @@ impl Model for Instance {
 }
 
 impl Instance {
-    /// The instance of these scenes and actors without pairs, where they keep the limits. It takes no
+    /// Makes the instance of these scenes and actors, without pairs, or none if they break a limit. It allocates no
     /// memory.
     pub fn of(scenes: Vec<Scene>, actors: Vec<Actor>) -> Option<Instance>
         ensures limits { IsSome result ↔ IsInstance (instance_data scenes.items actors.items []) }
@@ -51,16 +50,16 @@ impl Instance {
         })
     }
 
-    /// Whether the instance can have these pairs: two different scenes of it each, no pair twice, and
-    /// no way along the pairs from a scene back to it. It takes no memory, a few instructions for each
-    /// pair, and 200 turns for one that the pairs before it don't imply.
+    /// Returns whether the pairs are valid for the instance. Each pair must have two different scenes of it, no pair
+    /// may occur twice, and the pairs may have no cycle. It allocates no memory, and takes a few instructions for each
+    /// pair, and 200 iterations for one that earlier pairs don't imply.
     pub fn fits_pairs(&self, pairs: &[Pair]) -> bool
         ensures { IsTrue result ↔ FitPairs (length self.now.scenes) pairs.now }
     {
         fit(pairs, self.scenes.len())
     }
 
-    /// The same instance with these pairs, which it can have. It takes no memory.
+    /// Returns the instance with these pairs, which must be valid for it. It allocates no memory.
     pub fn with_pairs(self, pairs: Vec<Pair>) -> Instance
         requires { FitPairs (length self.scenes) pairs.items }
         ensures { result ≡ record self { pairs = pairs.items } }
@@ -68,15 +67,15 @@ impl Instance {
         Instance { pairs, ..self }
     }
 
-    /// Every instance keeps the limits. It does nothing: a caller that needs one of them, and reads
-    /// none of the instance's parts, makes this call first.
+    /// A law: every instance keeps the limits. The call does nothing when it runs. A caller that reads none of the
+    /// instance's parts obtains the limits by it.
     pub fn keeps_limits(&self)
         ensures { IsInstance self.now }
     {
         let _ = &self.scenes;
     }
 
-    /// The scenes, in the order of their numbers.
+    /// Returns the scenes, by scene number.
     pub fn scenes(&self) -> &[Scene]
         ensures scenes { map scene_data result.now ≡ self.now.scenes }
         ensures count { length result.now ≡ length self.now.scenes }
@@ -85,7 +84,7 @@ impl Instance {
         &self.scenes
     }
 
-    /// The pairs: of each, the first scene is shot before the other.
+    /// Returns the pairs: of each, the first scene must be shot before the other.
     pub fn pairs(&self) -> &[Pair]
         ensures pairs { result.now ≡ self.now.pairs }
         ensures limits { IsInstance self.now }
@@ -93,7 +92,7 @@ impl Instance {
         &self.pairs
     }
 
-    /// The actors, in the order of their numbers.
+    /// Returns the actors, by actor number.
     pub fn actors(&self) -> &[Actor]
         ensures actors { map actor_data result.now ≡ self.now.actors }
         ensures count { length result.now ≡ length self.now.actors }

@@ -1,4 +1,8 @@
-//! Scenes, actors, pairs of scenes, and what an order of the scenes pays.
+//! Instances of the talent scheduling problem: scenes with names, days and casts, actors with rates, and pairs
+//! (precedence constraints) of scenes. The crate also checks an order and computes its pay.
+//!
+//! A law (`laws`, `Instance::keeps_limits`) is a function that does nothing when it runs: its contract is a theorem
+//! that a caller obtains by calling it.
 #![tactic(auto)]
 
 mod instance;

@@ -1,8 +1,8 @@
-// Names that no two of a list share.
+// Lists of items with different names.
 ghost use Rattle.std.specs.Prelude.{◌≡◌, ◌≢◌, ◌↔◌, ℕ, ◌<◌, List, ◌==◌, true, false, length, All, Any, IsTrue};
 ghost use Rattle.std.specs.List.{AllPairs};
 
-/// What has a name.
+/// An item with a name.
 pub(crate) trait HasName {
     ghost name: { Self → List ℕ };
 
@@ -10,7 +10,7 @@ pub(crate) trait HasName {
         ensures { result.now ≡ name self.now };
 }
 
-/// Whether no two items share a name. It takes time with the square of their number.
+/// Returns whether no two items share a name. Time is quadratic in their number.
 pub(crate) fn have_own_names<N: HasName>(items: &[N]) -> bool
     ensures { IsTrue result ↔ AllPairs (λ a b. N.name a ≢ N.name b) items.now }
 {

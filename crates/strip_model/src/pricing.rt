@@ -7,8 +7,8 @@ ghost use Rattle.strip_model.specs.Film.{film_of};
 use crate::instance::Instance;
 use strip_mask::Mask;
 
-/// Whether the list has each scene number of the instance exactly once, and no other number. It
-/// takes no memory, and time with the square of the number of scenes.
+/// Returns whether the list has each scene number of the instance exactly once, and no other number. It allocates no
+/// memory. Time is quadratic in the number of scenes.
 pub fn is_order(inst: &Instance, order: &[u16]) -> bool
     ensures { IsTrue result ↔ IsOrder (length inst.now.scenes) order.now }
 {
@@ -39,17 +39,17 @@ fn times_in(order: &[u16], scene: usize) -> usize
     order.iter().filter(|x| **x as usize == scene).count()
 }
 
-/// Whether the first scene of each pair stands in the list, and the other somewhere behind it. It
-/// takes no memory, and time with the product of the numbers of pairs and scenes.
+/// Returns whether the list has each pair's first scene, and the other scene somewhere behind it. It allocates no
+/// memory. Time is the product of the numbers of pairs and scenes.
 pub fn keeps_pairs(inst: &Instance, order: &[u16]) -> bool
     ensures { IsTrue result ↔ Keeps inst.now.pairs order.now }
 {
     strip_pay::keeps(inst.pairs(), order)
 }
 
-/// What the order pays: for each actor, for the scenes from his first in the order to his last, their
-/// days at his rate where he works and at his hold rate where he waits; and nothing for an actor who
-/// works in none. It takes no memory, and time with the product of the numbers of scenes and actors.
+/// Returns the pay of the order, in units of money. An actor is paid for the scenes from his first to his last: their
+/// days at his rate if he works, and at his hold rate if he waits. An actor without scenes is paid nothing. It
+/// allocates no memory. Time is the product of the numbers of scenes and actors.
 pub fn pay(inst: &Instance, order: &[u16]) -> u64
     requires { IsOrder (length inst.now.scenes) order.now }
     ensures { result ≡ pay_of (film_of inst.now) order.now }
@@ -61,7 +61,7 @@ pub fn pay(inst: &Instance, order: &[u16]) -> u64
     total
 }
 
-/// What the actor gets for the scenes from his first in the order to his last.
+/// Returns the actor's pay for the scenes from his first to his last.
 fn pay_of_actor(inst: &Instance, order: &[u16], actor: usize) -> u64
     requires order { All (λ scene. scene < length inst.now.scenes) order.now }
     requires short { length order.now ≤ 200 }
@@ -72,7 +72,7 @@ fn pay_of_actor(inst: &Instance, order: &[u16], actor: usize) -> u64
     pay_to_last(inst, from_first_scene(inst, order, actor), actor)
 }
 
-/// The order from the actor's first scene on.
+/// Returns the part of the order from the actor's first scene on.
 fn from_first_scene<'a>(inst: &Instance, order: &'a [u16], actor: usize) -> &'a [u16]
     requires order { All (λ scene. scene < length inst.now.scenes) order.now }
     requires actor { actor < length inst.now.actors }
@@ -86,7 +86,7 @@ fn from_first_scene<'a>(inst: &Instance, order: &'a [u16], actor: usize) -> &'a 
     &[]
 }
 
-/// What the actor gets for the scenes up to his last in the order.
+/// Returns the actor's pay for the scenes up to his last.
 fn pay_to_last(inst: &Instance, order: &[u16], actor: usize) -> u64
     requires order { All (λ scene. scene < length inst.now.scenes) order.now }
     requires short { length order.now ≤ 200 }
@@ -114,7 +114,7 @@ fn works_in(inst: &Instance, actor: usize, scene: u16) -> bool
     Mask(inst.scenes()[scene as usize].cast).has(actor as u32)
 }
 
-/// What the actor gets for a scene that he works in or waits through.
+/// Returns the actor's pay for a scene, whether he works in it or waits.
 fn day_pay(inst: &Instance, actor: usize, scene: u16) -> u64
     requires scene { scene < length inst.now.scenes }
     requires actor { actor < length inst.now.actors }
@@ -132,7 +132,7 @@ fn days_in(inst: &Instance, scene: u16) -> u64
     inst.scenes()[scene as usize].days
 }
 
-/// The actor's rate for a day of the scene.
+/// Returns the actor's pay for a day of the scene.
 fn rate_in(inst: &Instance, actor: usize, scene: u16) -> u64
     requires scene { scene < length inst.now.scenes }
     requires actor { actor < length inst.now.actors }

@@ -12,9 +12,9 @@ use strip_mask::Mask;
 #[derive(Debug, Drop)]
 pub struct Scene {
     pub name: String,
-    /// How many days it is shot.
+    /// Number of days that the scene takes.
     pub days: u64,
-    /// Who works in it: bit `i` stands for actor number `i`.
+    /// The cast: bit `i` stands for actor number `i`.
     pub cast: u64,
 }
 
@@ -50,7 +50,7 @@ fn is_name(name: &str) -> bool
     !name.is_empty() && name.len() <= MAX_NAME
 }
 
-/// Whether the scene keeps the limits, where there are `actors` actors.
+/// Returns whether the scene keeps the limits, if there are `actors` actors.
 pub(crate) fn is_scene(scene: &Scene, actors: usize) -> bool
     requires { actors ≤ 64 }
     ensures { IsTrue result ↔ IsScene actors (scene_data scene.now) }
@@ -61,7 +61,7 @@ pub(crate) fn is_scene(scene: &Scene, actors: usize) -> bool
         && Mask(scene.cast).lies_below(actors as u32)
 }
 
-/// Whether the actor keeps the limits.
+/// Returns whether the actor keeps the limits.
 pub(crate) fn is_actor(actor: &Actor) -> bool
     ensures { IsTrue result ↔ IsActor (actor_data actor.now) }
 {

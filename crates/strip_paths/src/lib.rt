@@ -1,4 +1,5 @@
-//! Paths of a film by the set of scenes that they leave. Of those that leave the same set the cheapest is kept.
+//! Successors of a path (partial schedule), and for each set of remaining scenes the cheapest path that leaves it.
+//! Paths with equal sets and dearer pay are dominated, and dropped.
 #![tactic(auto)]
 
 mod by_set;

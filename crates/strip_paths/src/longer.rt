@@ -1,4 +1,4 @@
-// Paths with one scene more.
+// Successors of a path.
 ghost use Rattle.std.specs.Prelude.{◌≡◌, ◌+◌, [], ◌∷◌, ◌++◌, true, fold, IfOk};
 ghost use Rattle.strip_mask.specs.Set.{has, without};
 ghost use Rattle.strip_film.specs.Path.{IsPath};
@@ -13,7 +13,7 @@ use strip_io::Memory;
 use strip_mask::Mask;
 use strip_rule::open_firsts_with;
 
-/// Puts the open paths that go on from this one with one scene more to the others.
+/// Puts the open successors of the path, with one scene more, into the list. It fails only if memory runs out.
 pub fn put_paths_after(film: &Film, path: &Path, paths: &mut PathsBySet) -> Result<(), Memory>
     requires path { IsPath film.now (path_data path.now) }
     ensures { IfOk result (λ _. paths_of paths.new ≡ fold with_path (paths_of paths.old)
@@ -28,8 +28,8 @@ pub fn put_paths_after(film: &Film, path: &Path, paths: &mut PathsBySet) -> Resu
     Ok(())
 }
 
-/// Puts the path with this scene more to the others. Mostly one stands there already that leaves the same scenes and pays
-/// no more; then no path is made.
+/// Puts the path extended by this scene into the list. Mostly the list has a path with the same set that is no dearer;
+/// then no path is made.
 fn put_longer(
     film: &Film,
     path: &Path,

@@ -1,4 +1,4 @@
-// What pairs put before what, as sets.
+// The precedence relation of a list of pairs, as sets.
 ghost use Rattle.std.specs.Prelude.{◌≡◌, ◌↔◌, ℕ, ◌<◌, true, List, [], ◌∷◌, ◌++◌, ◌==◌, ◌&&◌, ◌||◌, Contains, IsTrue};
 ghost use Rattle.strip_pay.specs.declared.pair.Pair.{Pair};
 ghost use Rattle.strip_pay.specs.Befores.{Knows, leads_to};
@@ -8,19 +8,19 @@ use crate::fitting::MAX_SCENES;
 use crate::pair::Pair;
 use crate::scene_set::SceneSet;
 
-/// What a list of pairs of scenes below 200 says: which pairs stand in it, and which scenes lead to which
-/// along them. It begins with no pairs, and each call of `add` puts one behind them. It takes no memory
-/// but its own 12,800 bytes.
+/// The precedences of a list of pairs (precedence constraints) of scenes below 200, with their transitive closure. It
+/// begins without pairs, and each call of `add` appends one. It is a fixed array of 12,800 bytes and allocates no
+/// memory.
 #[derive(Drop)]
 pub struct Befores {
-    /// For each scene those that a pair puts behind it.
+    /// For each scene, the scenes that a pair puts after it.
     standing: [SceneSet; MAX_SCENES],
-    /// For each scene those that pairs lead to from it.
+    /// For each scene, the scenes that a chain of pairs puts after it.
     leading: [SceneSet; MAX_SCENES],
 }
 
 impl Befores {
-    /// No pairs.
+    /// Makes the relation of the empty list.
     pub fn new() -> Befores
         ensures { Knows result [] }
     {
@@ -31,7 +31,7 @@ impl Befores {
         }
     }
 
-    /// Whether the pair, of two scenes below 200, is one of the pairs. It is a few instructions.
+    /// Returns whether the pair, of two scenes below 200, is in the list. It takes a few instructions.
     pub fn stands(&self, pair: Pair) -> bool
         requires first { pair.first < 200 }
         requires then { pair.then < 200 }
@@ -40,7 +40,8 @@ impl Befores {
         self.standing[pair.first as usize].has(pair.then)
     }
 
-    /// Whether pairs lead from the one scene to the other, both below 200. It is a few instructions.
+    /// Returns whether a chain of pairs leads from scene `from` to scene `to`, both below 200. It takes a few
+    /// instructions.
     pub fn leads(&self, from: u16, to: u16) -> bool
         requires from { from < 200 }
         requires to { to < 200 }
@@ -49,8 +50,8 @@ impl Befores {
         self.leading[from as usize].has(to)
     }
 
-    /// The pairs with one of two scenes below 200 behind them. One turn for each scene, and none where
-    /// pairs lead from its first scene to the other already.
+    /// Appends a pair of two scenes below 200 to the list. Time is linear in the number of scenes, but constant if
+    /// pairs already lead from its first scene to the other.
     pub fn add(&mut self, pair: Pair)
         requires first { pair.first < 200 }
         requires then { pair.then < 200 }
@@ -62,7 +63,8 @@ impl Befores {
         self.standing[pair.first as usize].add(pair.then);
     }
 
-    /// The pair's first scene, and each that leads to it, lead to the other, and to those that it leads to.
+    /// Updates the transitive closure. The pair's first scene, and each scene that leads to it, now lead to the other
+    /// scene and to each scene after that.
     fn lead_on(&mut self, pair: Pair)
         requires first { pair.first < 200 }
         requires then { pair.then < 200 }

@@ -1,4 +1,4 @@
-// Pairs that scenes can have.
+// Validity of pairs.
 ghost use Rattle.std.specs.Prelude.{◌≡◌, ◌≢◌, ◌↔◌, ℕ, ◌<◌, ◌≤◌, List, [], ◌∷◌, ◌++◌, IsTrue};
 ghost use Rattle.strip_pay.specs.declared.pair.Pair.{Pair};
 ghost use Rattle.strip_pay.specs.Befores.{Knows};
@@ -7,12 +7,12 @@ ghost use Rattle.strip_pay.specs.Pairs.{FitPairs, IsKnownPair};
 use crate::befores::Befores;
 use crate::pair::Pair;
 
-/// How many scenes there may be.
+/// Maximum number of scenes.
 pub const MAX_SCENES: usize = 200;
 
-/// Whether `scenes` scenes, at most 200, can have these pairs: two different scenes of them each, no
-/// pair twice, and no way along the pairs from a scene back to it. A few instructions for each pair,
-/// and 200 turns for one that the pairs before it don't imply.
+/// Returns whether the pairs are valid for `scenes` scenes, at most 200. Each pair must have two different scenes below
+/// `scenes`, no pair may occur twice, and the pairs may have no cycle. It takes a few instructions for each pair, and
+/// 200 iterations for one that earlier pairs don't imply.
 pub fn fit(pairs: &[Pair], scenes: usize) -> bool
     requires { scenes ≤ 200 }
     ensures { IsTrue result ↔ FitPairs scenes pairs.now }
@@ -27,7 +27,7 @@ pub fn fit(pairs: &[Pair], scenes: usize) -> bool
     true
 }
 
-/// Whether the pair fits behind pairs that fit, which are known.
+/// Returns whether a valid list of pairs, known as `befores`, stays valid if this pair is appended.
 fn fits_behind(befores: &Befores, pair: &Pair, scenes: usize) -> bool
     requires { scenes ≤ 200 }
     ensures known { IsTrue result → IsKnownPair scenes pair.now }

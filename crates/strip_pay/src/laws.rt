@@ -1,4 +1,4 @@
-//! Laws of the definitions. Each function does nothing: its contract is the law.
+//! Laws of orders, pay and pairs: functions that do nothing when they run, with theorems as contracts.
 ghost use Rattle.std.specs.Prelude.{◌≡◌, ◌≢◌, ◌⊎◌, ℕ, ◌*◌, ◌+◌, ◌^◌, ◌<◌, ◌≤◌, Bool, true, false, List, [], ◌∷◌, ◌++◌, All, length, reverse, slice_index, sum, sum_by, count_by, ◌==◌};
 ghost use Rattle.std.specs.List.Sorted.{IsPermutation};
 ghost use Rattle.strip_mask.specs.Sums.{sum_below};
@@ -8,28 +8,28 @@ ghost use Rattle.strip_pay.specs.Order.{IsBefore, IsOrder, Keeps};
 ghost use Rattle.strip_pay.specs.Pairs.{HasCycle, Leads, Precedes};
 ghost use Rattle.strip_pay.specs.Pay.{pay_of};
 
-/// An order of n scenes has n numbers, and the orders of n scenes are the permutations of one of them.
+/// An order of n scenes has length n. The orders of n scenes are the permutations of any one of them.
 pub fn orders_are_permutations()
     ensures length { (n : ℕ) (order : List ℕ) → IsOrder n order → length order ≡ n }
     ensures permuted { (n : ℕ) (a b : List ℕ) → IsOrder n a → IsOrder n b → IsPermutation a b }
     ensures stays { (n : ℕ) (a b : List ℕ) → IsOrder n a → IsPermutation a b → IsOrder n b }
 {}
 
-/// The sum of the values of a list's numbers is that of how often each stands in it, and so that of
-/// all numbers below n along an order.
+/// The sum of a function over a list of numbers below n is its sum over all numbers below n, weighted by their counts.
+/// In an order of n scenes each count is 1.
 pub fn sums_are_by_counts()
     ensures counts { (n : ℕ) (f : ℕ → ℕ) (xs : List ℕ) → All (λ x. x < n) xs
         → sum_by f xs ≡ sum_below n (λ i. count_by (λ x. x == i) xs * f i) }
     ensures order { (n : ℕ) (f : ℕ → ℕ) (order : List ℕ) → IsOrder n order → sum_by f order ≡ sum_below n f }
 {}
 
-/// The reverse of an order is an order and pays the same.
+/// The reverse of an order is an order, and pays the same.
 pub fn the_reverse_pays_the_same()
     ensures order { (n : ℕ) (order : List ℕ) → IsOrder n order → IsOrder n (reverse order) }
     ensures pay { (film : FilmData) (order : List ℕ) → pay_of film (reverse order) ≡ pay_of film order }
 {}
 
-/// An order pays at most all days at the rates and hold rates of all actors; so within the limits of
+/// An order pays at most the sum of all days times the sum of all rates and hold rates. So within the limits of
 /// instances and films a pay is below 2^63.
 pub fn pays_stay_small()
     ensures most { (film : FilmData) (order : List ℕ) → length film.holds ≡ length film.rates
@@ -41,15 +41,15 @@ pub fn pays_stay_small()
         → pay_of film order < 2 ^ 63 }
 {}
 
-/// Which of two lists comes first is a total order.
+/// The lexicographic order of lists (`IsBefore`) is a strict total order.
 pub fn lists_are_in_order()
     ensures total { (a b : List ℕ) → IsBefore a b ⊎ ((a ≡ b) ⊎ IsBefore b a) }
     ensures once { (a : List ℕ) → ¬ IsBefore a a }
     ensures transitive { (a b c : List ℕ) → IsBefore a b → IsBefore b c → IsBefore a c }
 {}
 
-/// What a cycle means: no order keeps pairs that have one; and where there is none, each set of scenes
-/// that isn't empty has one that no pair puts behind another of the set.
+/// No order keeps pairs that have a cycle. If pairs have no cycle, each nonempty set of scenes has one that no pair
+/// puts after another of the set.
 pub fn cycles_can_not_be_kept()
     ensures kept { (n : ℕ) (pairs : List Pair) (order : List ℕ) → IsOrder n order → Keeps pairs order
         → ¬ HasCycle pairs }
@@ -58,8 +58,8 @@ pub fn cycles_can_not_be_kept()
         → (scene : ℕ) × (inside scene ≡ true) × ((first : ℕ) → Precedes pairs first scene → inside first ≡ false) }
 {}
 
-/// When a pair more makes a cycle: pairs without one have none with it either where its scenes differ and
-/// its second doesn't lead to its first; where it leads there they have one; and one that was there stays.
+/// A further pair makes no cycle if its scenes differ and its second scene doesn't lead to its first. If its second
+/// scene leads to its first, it makes one. A list with a cycle keeps it when pairs are appended.
 pub fn cycles_come_by_pairs()
     ensures none { (pairs : List Pair) (pair : Pair) → ¬ HasCycle pairs → pair.first ≢ pair.then
         → ¬ Leads pairs pair.then pair.first
@@ -69,9 +69,9 @@ pub fn cycles_come_by_pairs()
     ensures stays { (pairs more : List Pair) → HasCycle pairs → HasCycle (pairs ++ more) }
 {}
 
-/// Two scenes of equal cast can stand together: to bring the later one forward or the earlier one back
-/// costs no more than to leave them apart, by which of the two places is the cheaper one to wait at;
-/// and which of them is shot first makes no difference then.
+/// Two scenes with equal casts can be made adjacent at no cost: moving the later one forward, or the earlier one back,
+/// pays no more. The cheaper of the two places to wait at decides which. Swapping two adjacent scenes with equal casts
+/// changes no pay.
 pub fn equal_casts_can_stand_together()
     ensures together { (film : FilmData) (before between behind : List ℕ) (a b : ℕ)
         → slice_index film.casts a ≡ slice_index film.casts b

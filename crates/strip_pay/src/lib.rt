@@ -1,4 +1,8 @@
-//! What an order of scenes pays: the words that an instance and a film share, over plain lists.
+//! Orders of scenes, precedence constraints (pairs), and the pay of an order, defined over plain lists. Instances and
+//! films share these definitions.
+//!
+//! A law (`laws`) is a function that does nothing when it runs: its contract is a theorem that a caller obtains by
+//! calling it.
 #![tactic(auto)]
 
 mod befores;

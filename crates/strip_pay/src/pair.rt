@@ -1,16 +1,16 @@
-// Pairs of scenes that have an order of their own.
+// Pairs (precedence constraints) of scenes.
 ghost use Rattle.std.specs.Prelude.{◌≡◌, ◌↔◌, ℕ, ◌<◌, ◌≤◌, Contains, IsTrue};
 ghost use Rattle.strip_pay.specs.Order.{Keeps, StandsBefore};
 
-/// A scene that has to be shot before another, by their numbers.
+/// A pair: scene number `first` has to be shot before scene number `then`.
 #[derive(Clone, Copy, Debug, PartialEq, Eq)]
 pub struct Pair {
     pub first: u16,
     pub then: u16,
 }
 
-/// Whether the order keeps the pairs: the first scene of each stands before the other. One turn for
-/// each pair and each scene of the order.
+/// Returns whether the order keeps the pairs: each pair's first scene stands before the other. If no scene occurs twice
+/// in the list, time is the product of the numbers of pairs and scenes.
 pub fn keeps(pairs: &[Pair], order: &[u16]) -> bool
     ensures { IsTrue result ↔ Keeps pairs.now order.now }
 {
@@ -22,7 +22,7 @@ pub fn keeps(pairs: &[Pair], order: &[u16]) -> bool
     true
 }
 
-/// Whether the first number stands in the list, and the other somewhere behind it.
+/// Returns whether the list has number `first`, and number `then` somewhere behind it.
 fn stands_before(order: &[u16], first: u16, then: u16) -> bool
     ensures { IsTrue result ↔ StandsBefore first then order.now }
 {
@@ -34,7 +34,7 @@ fn stands_before(order: &[u16], first: u16, then: u16) -> bool
     false
 }
 
-/// Whether the number stands in the list. One turn for each number of it.
+/// Returns whether the list has the number. Time is linear in the list's length.
 pub fn stands_in(order: &[u16], number: u16) -> bool
     ensures { IsTrue result ↔ Contains order.now number }
 {

@@ -1,4 +1,4 @@
-// From orders of classes to orders of scenes.
+// From orders of classes back to orders of scenes.
 ghost use Rattle.std.specs.Prelude.{◌≡◌, ℕ, ◌<◌, All, IfOk, length, reverse};
 ghost use Rattle.strip_pay.specs.Film.{FilmData};
 ghost use Rattle.strip_pay.specs.Order.{IsOrder};
@@ -11,8 +11,8 @@ use crate::reduced::Reduced;
 use std::alloc::Global;
 use strip_io::Memory;
 
-/// The way back: each class of the order as the scenes that were joined in it, in their own order. Time
-/// and memory grow with the number of scenes; it fails only where memory runs out.
+/// Expands an order of classes to an order of scenes: each class becomes its scenes, in the class's own order. Time and
+/// memory are linear in the number of scenes. It fails only if memory runs out.
 pub fn expand(alloc: Global, reduced: &Reduced, order: &[u8]) -> Result<Vec<u16>, Memory>
     requires { All (λ class. class < length reduced.now.film.casts) order.now }
     ensures { IfOk result (λ scenes. scenes.items ≡ way_back (reduced_data reduced.now).members order.now) }
@@ -24,8 +24,8 @@ pub fn expand(alloc: Global, reduced: &Reduced, order: &[u8]) -> Result<Vec<u16>
     Ok(scenes)
 }
 
-/// The order turned round where its first number is greater than its last: of an order and its reverse,
-/// which pay the same, always the same one. No memory.
+/// Reverses the order if its first number is greater than its last. So an order and its reverse, which pay the same,
+/// give one result. It allocates no memory.
 pub fn orient(order: &mut [u8])
     ensures oriented { order.new ≡ oriented order.old }
     ensures order { (n : ℕ) → IsOrder n order.old → IsOrder n order.new }

@@ -1,4 +1,4 @@
-// An instance reduced to a film of its classes.
+// Reduction of an instance to a film of its classes.
 ghost use Rattle.std.specs.Prelude.{◌≡◌, ℕ, ◌<◌, ◌≤◌, Err, length, IfOk, OnOk};
 ghost use Rattle.strip_model.specs.Film.{film_of};
 ghost use Rattle.strip_reduce.specs.declared.fault.ReduceFault.TheVariants.{TooManyClasses};
@@ -16,15 +16,13 @@ use std::alloc::{AllocError, Global};
 use strip_film::Film;
 use strip_model::Instance;
 
-/// The instance reduced to a film of its classes, where it has at most 64 of them; else how many it
-/// has, or want of memory, which it takes for the film and the classes' scenes.
+/// Reduces the instance to a film of classes. It fails with the number of classes if there are more than 64, or if
+/// memory runs out. Memory is needed for the film and the classes' scenes.
 ///
-/// It takes at most one step for each scene and each actor. A step goes once over the casts and the
-/// pairs, and then looks for two scenes or two actors to join from where the last one found them:
-/// scenes from the first one on again only where an actor was dropped, since casts change then. So
-/// the time is at most with the number of actors by the square of the number of scenes, with the
-/// number of scenes by the square of the number of actors, with the number of steps by that of pairs,
-/// and at the end, where at most 64 classes are left, with the number of their pairs.
+/// There are t steps at most, one for each scene and each actor. A step goes once over the casts and the pairs. It then
+/// looks for two scenes or two actors to join, from the last find on. Only after an actor is dropped does it start
+/// again, since casts change then. For s scenes, a actors and p pairs, the time is O(a·s² + s·a² + t·p). Making the
+/// film at the end takes time linear in p.
 pub fn reduce(alloc: Global, inst: &Instance) -> Result<Reduced, ReduceFault>
     ensures classes { IfOk result (λ r. reduced_data r ≡ reduced (film_of inst.now)) }
     ensures stands { IfOk result (λ r. StandsFor (film_of inst.now) (reduced_data r)) }
@@ -39,7 +37,7 @@ pub fn reduce(alloc: Global, inst: &Instance) -> Result<Reduced, ReduceFault>
     finished(draft)
 }
 
-/// Takes this many steps, or fewer where no more can be taken.
+/// Takes `most` steps, or fewer if no more can be taken.
 fn take_steps(draft: &mut Draft, most: usize) -> Result<(), AllocError>
     requires { IsDraft (draft_state draft.old) draft.old.compared }
     ensures steps { OnOk result (draft_state draft.new ≡ after_steps most (draft_state draft.old)) }
@@ -53,7 +51,7 @@ fn take_steps(draft: &mut Draft, most: usize) -> Result<(), AllocError>
     Ok(())
 }
 
-/// The draft as a film of classes, where there are at most 64 of them.
+/// Returns the draft as a film of classes, if there are at most 64 of them.
 fn finished(draft: Draft) -> Result<Reduced, ReduceFault>
     requires { IsDraft (draft_state draft) draft.compared }
     ensures classes { IfOk result (λ r. reduced_data r ≡ draft_state draft) }

@@ -1,4 +1,4 @@
-// A state that steps are taken on.
+// The state of a reduction, on which steps are taken.
 ghost use Rattle.std.specs.Prelude.{◌≡◌, ◌<◌, None, Some, length, IfOk, MatchBool, OnOk};
 ghost use Rattle.strip_reduce.specs.Draft.{IsDraft, draft_state};
 ghost use Rattle.strip_reduce.specs.Reduction.{next};
@@ -9,22 +9,22 @@ use crate::search::{droppable, joinable_actors, joinable_scenes};
 use std::alloc::AllocError;
 use strip_pay::Pair;
 
-/// How far scenes and actors were compared: none below these numbers can be joined with a later one,
-/// so the search for the next two begins with them. Of the rest nothing is known.
+/// Progress of the search for scenes and for actors to join: none with a number below these can be joined with a later
+/// one. So the search begins with these numbers. Nothing is known of the others.
 #[derive(Clone, Copy)]
 pub(crate) struct Compared {
     pub(crate) scenes: usize,
     pub(crate) actors: usize,
 }
 
-/// Nothing was compared.
+/// No scenes and no actors are compared yet.
 pub(crate) const NOTHING: Compared = Compared {
     scenes: 0,
     actors: 0,
 };
 
-/// A film that steps are taken on, the scenes that were joined in each of its scenes, and what was
-/// set apart.
+/// The state of a reduction: a film, the scenes joined in each of its scenes, and the cost set apart (equal in every
+/// order).
 #[derive(Drop)]
 pub(crate) struct Draft {
     pub(crate) casts: Vec<u64>,
@@ -38,7 +38,7 @@ pub(crate) struct Draft {
 }
 
 impl Draft {
-    /// Takes the first step that can be taken, and says whether there is one.
+    /// Takes the first step that can be taken, and returns whether there was one.
     pub(crate) fn step(&mut self) -> Result<bool, AllocError>
         requires { IsDraft (draft_state self.old) self.old.compared }
         ensures went { IfOk result (λ went. MatchBool went
@@ -61,7 +61,7 @@ impl Draft {
         Ok(false)
     }
 
-    /// Takes the actor out, and sets apart what he gets for his days of work.
+    /// Drops the actor, and sets apart the pay for his days of work.
     fn drop_actor(&mut self, actor: usize)
         requires draft { IsDraft (draft_state self.old) self.old.compared }
         requires known { actor < length self.old.rates.items }
@@ -95,7 +95,7 @@ impl Draft {
         Ok(())
     }
 
-    /// Counts actor `b` in actor `a`.
+    /// Joins actor `b` to actor `a`, who gets the sums of their rates.
     fn join_actors(&mut self, a: usize, b: usize)
         requires draft { IsDraft (draft_state self.old) self.old.compared }
         requires places { a < b }
@@ -106,7 +106,7 @@ impl Draft {
         close_up(&mut self.casts, b as u32);
         sum_up(&mut self.rates, a, b);
         sum_up(&mut self.holds, a, b);
-        // Actors are joined where no two scenes can be, and no scenes become alike by it.
+        // Actors are joined only if no two scenes can be joined, and joining actors makes no two casts equal.
         self.compared = Compared {
             scenes: self.casts.len(),
             actors: a,

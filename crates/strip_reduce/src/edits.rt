@@ -1,4 +1,4 @@
-// What a step changes, list by list.
+// Effects of a step on each list of the state.
 ghost use Rattle.std.specs.Prelude.{◌≡◌, ◌+◌, ◌^◌, ◌<◌, ◌≤◌, ◌++◌, [], length, map, slice_index_or, sum, vec_len, OnOk};
 ghost use Rattle.strip_film.specs.Film.{film_data};
 ghost use Rattle.strip_reduce.specs.Steps.{casts_without, joined, renumbered, renumbered_pair, summed, work_days};
@@ -7,7 +7,7 @@ use std::alloc::AllocError;
 use strip_mask::Mask;
 use strip_pay::Pair;
 
-/// Takes the actor out of the casts; the greater actors' numbers are then one lower.
+/// Removes the actor from the casts, and lowers the numbers of later actors by one.
 pub(crate) fn close_up(casts: &mut [u64], actor: u32)
     requires { actor < 64 }
     ensures { casts.new ≡ casts_without casts.old actor }
@@ -17,7 +17,7 @@ pub(crate) fn close_up(casts: &mut [u64], actor: u32)
     }
 }
 
-/// The days of the scenes that the actor works in.
+/// Returns the days of the scenes that the actor works in.
 pub(crate) fn work_days(casts: &[u64], days: &[u64], actor: u32) -> u64
     requires actor { actor < 64 }
     requires count { length days.now ≡ length casts.now }
@@ -34,7 +34,7 @@ pub(crate) fn work_days(casts: &[u64], days: &[u64], actor: u32) -> u64
     total
 }
 
-/// Puts the sum of the values at places `a` and `b` at place `a`, and closes up place `b`.
+/// Stores the sum of the values at places `a` and `b` at place `a`, and removes place `b`.
 pub(crate) fn sum_up(values: &mut Vec<u64>, a: usize, b: usize)
     requires places { a < b }
     requires within { b < vec_len values.old }
@@ -45,7 +45,7 @@ pub(crate) fn sum_up(values: &mut Vec<u64>, a: usize, b: usize)
     values[a] += gone;
 }
 
-/// Gives the pairs' scenes the numbers that they have when scene `gone` is taken out.
+/// Renumbers the pairs' scenes for the removal of scene `gone`.
 pub(crate) fn renumber(pairs: &mut [Pair], gone: u16)
     ensures { pairs.new ≡ map (renumbered_pair gone) pairs.old }
 {
@@ -69,7 +69,7 @@ fn renumbered(scene: u16, gone: u16) -> u16
     if gone < scene { scene - 1 } else { scene }
 }
 
-/// Puts the members of scene `b` behind those of scene `a`, and closes up place `b`.
+/// Appends the members of scene `b` to those of scene `a`, and removes place `b`.
 pub(crate) fn join_members(
     members: &mut Vec<Vec<u16>>,
     a: usize,

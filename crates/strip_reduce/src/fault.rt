@@ -1,13 +1,13 @@
-// Why an instance wasn't reduced.
+// The error of a reduction.
 ghost use Rattle.std.specs.Prelude.{◌≡◌};
 ghost use Rattle.strip_reduce.specs.declared.fault.ReduceFault.TheVariants.{Memory as OutOfMemory};
 
 use std::alloc::AllocError;
 
-/// Why an instance wasn't reduced to a film.
+/// The reason why an instance was not reduced to a film.
 #[derive(Clone, Copy, Debug, PartialEq, Eq)]
 pub enum ReduceFault {
-    /// So many classes are left, and a film has at most 64.
+    /// There are `count` classes, and a film has at most 64.
     TooManyClasses { count: u64 },
     /// Memory ran out.
     Memory,

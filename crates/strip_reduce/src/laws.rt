@@ -1,4 +1,4 @@
-//! Laws of the definitions. Each function does nothing: its contract is the law.
+//! Laws of the reduction: functions that do nothing when they run, with theorems as contracts.
 ghost use Rattle.std.specs.Prelude.{◌≡◌, ℕ, ◌+◌, ◌≤◌, None, Some, length};
 ghost use Rattle.strip_pay.specs.Film.{FilmData};
 ghost use Rattle.strip_film.specs.Film.{IsFilmUpTo};
@@ -8,8 +8,8 @@ ghost use Rattle.strip_reduce.specs.State.{IsState, State, start};
 ghost use Rattle.strip_reduce.specs.Reduction.{next, reduced};
 ghost use Rattle.strip_reduce.specs.Law.{KeepsOptimum, StandsFor};
 
-/// Every step keeps the limits of films, takes one scene or one actor, and keeps the optimum over the
-/// orders that keep the pairs, up to what it sets apart.
+/// Each step keeps the limits of films, and removes one scene or one actor. The optimum over the orders that keep the
+/// pairs falls by the cost that the step sets apart.
 pub fn steps_keep_the_optimum()
     ensures limits { (before after : State) → IsState before → next before ≡ Some after → IsState after }
     ensures fewer { (before after : State) → next before ≡ Some after
@@ -17,15 +17,16 @@ pub fn steps_keep_the_optimum()
     ensures optimum { (before after : State) → IsState before → next before ≡ Some after → KeepsOptimum before after }
 {}
 
-/// At the end of the reduction no step can be taken. Its classes stand for the film: each order of them
-/// has a way back that pays the same and what is set apart, and so much is between the optima.
+/// At the end of the reduction no step can be taken. Each order of its classes expands to an order of the film that
+/// keeps the pairs if and only if the order of classes does. The expanded order pays more by the cost set apart, and so
+/// do the optima differ.
 pub fn the_classes_stand_for_the_film()
     ensures ended { (film : FilmData) → next (reduced film) ≡ None }
     ensures limits { (film : FilmData) → IsFilmUpTo 200 film → IsState (reduced film) }
     ensures stands { (film : FilmData) → IsFilmUpTo 200 film → StandsFor film (reduced film) }
 {}
 
-/// An instance's film keeps the limits, and so does the state that its reduction begins with.
+/// An instance's film keeps the limits, and so does the state with which its reduction begins.
 pub fn reductions_begin_within_the_limits()
     ensures film { (inst : InstanceData) → IsInstance inst → IsFilmUpTo 200 (film_of inst) }
     ensures start { (film : FilmData) → IsFilmUpTo 200 film → IsState (start film) }

@@ -1,5 +1,8 @@
-//! The reduction of an instance to a film of its classes, and the way back from an order of classes to one of
-//! the instance's scenes.
+//! Preprocessing: reduces an instance to a film of classes (groups of scenes with equal casts). An order of classes is
+//! expanded to an order of the instance's scenes. Costs that are equal in every order are set apart.
+//!
+//! A law (`laws`) is a function that does nothing when it runs: its contract is a theorem that a caller obtains by
+//! calling it.
 #![tactic(auto)]
 
 mod back;

@@ -1,4 +1,4 @@
-// Which step can be taken on a film.
+// Search for the next step of a reduction.
 ghost use Rattle.std.specs.Bool.{beq};
 ghost use Rattle.std.specs.Prelude.{◌≡◌, ℕ, ◌<◌, ◌≤◌, ◌==◌, nat_le, ◌&&◌, false, [], length, slice_index_or, All};
 ghost use Rattle.strip_mask.specs.Set.{has};
@@ -11,7 +11,7 @@ ghost use Rattle.strip_reduce.specs.Search.{can_join_marked, NoTwoBelow};
 use strip_mask::Mask;
 use strip_pay::{MAX_SCENES, Pair};
 
-/// The least actor whose pay is the same in any order.
+/// Finds the least actor whose pay is equal in every order: his hold rate is 0, or he works in fewer than two scenes.
 pub(crate) fn droppable(casts: &[u64], holds: &[u64]) -> Option<usize>
     requires { length holds.now ≤ 64 }
     ensures { result ≡ least_below (length holds.now) (can_drop (film_data casts.now [] [] holds.now [])) }
@@ -25,7 +25,7 @@ pub(crate) fn droppable(casts: &[u64], holds: &[u64]) -> Option<usize>
     None
 }
 
-/// Who works in two scenes or more.
+/// Returns the actors who work in two scenes or more.
 fn working_twice(casts: &[u64]) -> Mask
     ensures { (actor : ℕ) → has result.0 actor ≡ nat_le 2 (scene_count (film_data casts.now [] [] [] []) actor) }
 {
@@ -38,7 +38,7 @@ fn working_twice(casts: &[u64]) -> Mask
     twice
 }
 
-/// The least two scenes that can be joined, where no scene below `from` can be joined with a later one.
+/// Finds the first two scenes that can be joined. No scene below `from` can be joined with a later one.
 pub(crate) fn joinable_scenes(casts: &[u64], pairs: &[Pair], from: usize) -> Option<(usize, usize)>
     requires few { length casts.now ≤ 200 }
     requires known { All (IsKnownPair 200) pairs.now }
@@ -49,7 +49,7 @@ pub(crate) fn joinable_scenes(casts: &[u64], pairs: &[Pair], from: usize) -> Opt
     equal_scenes(casts, &paired(pairs), from)
 }
 
-/// Which scenes stand in a pair.
+/// Marks the scenes that stand in a pair.
 fn paired(pairs: &[Pair]) -> [bool; MAX_SCENES]
     requires { All (IsKnownPair 200) pairs.now }
     ensures { (scene : ℕ) → slice_index_or result scene false ≡ is_paired pairs.now scene }
@@ -62,7 +62,7 @@ fn paired(pairs: &[Pair]) -> [bool; MAX_SCENES]
     marks
 }
 
-/// The least two unmarked scenes of equal casts, where no scene below `from` is the first of two.
+/// Finds the first two unmarked scenes with equal casts. No scene below `from` is the first of two.
 fn equal_scenes(casts: &[u64], marks: &[bool; MAX_SCENES], from: usize) -> Option<(usize, usize)>
     requires few { length casts.now ≤ 200 }
     requires none_before { NoTwoBelow from (length casts.now) (can_join_marked casts.now marks.now) }
@@ -76,7 +76,7 @@ fn equal_scenes(casts: &[u64], marks: &[bool; MAX_SCENES], from: usize) -> Optio
     None
 }
 
-/// The least unmarked scene behind `a` with its cast, where `a` is unmarked.
+/// Finds the first unmarked scene after `a` with the cast of `a`, or none if `a` is marked.
 fn equal_behind(casts: &[u64], marks: &[bool; MAX_SCENES], a: usize) -> Option<usize>
     requires few { length casts.now ≤ 200 }
     requires scene { a < length casts.now }
@@ -93,8 +93,8 @@ fn equal_behind(casts: &[u64], marks: &[bool; MAX_SCENES], a: usize) -> Option<u
     None
 }
 
-/// The least two actors who work in the same scenes, where no actor below `from` works in the same
-/// scenes as a later one.
+/// Finds the first two actors who work in the same scenes. No actor below `from` works in the same scenes as a later
+/// one.
 pub(crate) fn joinable_actors(casts: &[u64], actors: usize, from: usize) -> Option<(usize, usize)>
     requires few { actors ≤ 64 }
     requires none_before { NoTwoBelow from actors (can_join_actors (film_data casts.now [] [] [] [])) }
@@ -108,7 +108,7 @@ pub(crate) fn joinable_actors(casts: &[u64], actors: usize, from: usize) -> Opti
     None
 }
 
-/// The least actor behind `a` who works in the same scenes.
+/// Finds the first actor after `a` who works in the same scenes.
 fn alike_behind(casts: &[u64], a: usize, actors: usize) -> Option<usize>
     requires few { actors ≤ 64 }
     requires actor { a < actors }
@@ -123,7 +123,7 @@ fn alike_behind(casts: &[u64], a: usize, actors: usize) -> Option<usize>
     None
 }
 
-/// The actors who work in the same scenes as this one.
+/// Returns the actors who work in the same scenes as this actor.
 fn working_alike(casts: &[u64], actor: u32) -> Mask
     requires { actor < 64 }
     ensures { (other : ℕ) → other < 64 → has result.0 other
@@ -136,7 +136,7 @@ fn working_alike(casts: &[u64], actor: u32) -> Mask
     alike
 }
 
-/// Those of the set that are in the cast, or aren't, as the actor is.
+/// Keeps the actors of the set who are in the cast if this actor is in it, else those who are not.
 fn narrowed(set: Mask, cast: Mask, actor: u32) -> Mask
     requires { actor < 64 }
     ensures { (other : ℕ) → has result.0 other ≡ (has set.0 other && beq (has cast.0 actor) (has cast.0 other)) }

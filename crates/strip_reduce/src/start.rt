@@ -1,4 +1,4 @@
-// The draft that a reduction begins with.
+// The state with which a reduction begins.
 ghost use Rattle.std.specs.Prelude.{◌≡◌, ◌≤◌, [], ◌∷◌, map, IfOk};
 ghost use Rattle.strip_mask.specs.Set.{numbers_below};
 ghost use Rattle.strip_model.specs.Film.{film_of};
@@ -9,7 +9,7 @@ use crate::draft::{Draft, NOTHING};
 use std::alloc::{AllocError, Global};
 use strip_model::{Actor, Instance, Scene};
 
-/// The film of the instance, with a class for each scene.
+/// Makes the draft of the instance's film, with a class for each scene.
 pub(crate) fn first_draft(alloc: Global, inst: &Instance) -> Result<Draft, AllocError>
     ensures state { IfOk result (λ draft. draft_state draft ≡ start (film_of inst.now)) }
     ensures draft { IfOk result (λ draft. IsDraft (draft_state draft) draft.compared) }
@@ -52,7 +52,7 @@ fn holds_of(alloc: Global, actors: &[Actor]) -> Result<Vec<u64>, AllocError>
     actors.iter().map(|actor| actor.hold).collect(alloc)
 }
 
-/// For each scene below `count` the list of it alone.
+/// Returns for each scene below `count` the list of this scene alone.
 fn single_scenes(alloc: Global, count: usize) -> Result<Vec<Vec<u16>>, AllocError>
     requires { count ≤ 200 }
     ensures { IfOk result (λ members. map (λ list. list.items) members.items

@@ -1,4 +1,4 @@
-//! Laws of the definitions. Each function does nothing: its contract is the law.
+//! Laws of the dominance rule: functions that do nothing when they run, with theorems as contracts.
 ghost use Rattle.std.specs.Prelude.{◌≡◌, ◌↔◌, ℕ, ◌≤◌, true, false, List, ◌∷◌};
 ghost use Rattle.strip_mask.specs.Set.{IsSet, has};
 ghost use Rattle.strip_pay.specs.Film.{FilmData};
@@ -8,8 +8,8 @@ ghost use Rattle.strip_film.specs.Finish.{EachOnce, steps_cost};
 ghost use Rattle.strip_film.specs.Rules.{BeginLeast, FirstsAreReady};
 ghost use Rattle.strip_rule.specs.Rule.{open_firsts, rules_out};
 
-/// Where a scene rules out another, each list that begins with the other has a list that begins with
-/// the scene, goes on with the other, and costs no more.
+/// Suppose that a scene rules out another. Then for each list that begins with the other, one that begins with the
+/// scene costs no more.
 pub fn the_exchange_costs_no_more()
     ensures { (film : FilmData) (set first second : ℕ) (later : List ℕ) → IsFilm film → LiesIn film set
         → rules_out film set first second ≡ true → EachOnce film set (second ∷ later)
@@ -17,8 +17,7 @@ pub fn the_exchange_costs_no_more()
         × (steps_cost film set (first ∷ other) ≤ steps_cost film set (second ∷ later)) }
 {}
 
-/// No two scenes of a set rule each other out, and a scene rules out whatever those that it rules out
-/// do: so some scene is left.
+/// Ruling out is a strict partial order on the scenes of a set. So some ready scene of a nonempty set is open.
 pub fn ruling_out_is_an_order()
     ensures never_both { (film : FilmData) (set first second : ℕ) → rules_out film set first second ≡ true
         → rules_out film set second first ≡ false }
@@ -32,8 +31,7 @@ pub fn open_firsts_are_by_scenes()
         ↔ ((has (ready film set) scene ≡ true) × ((first : ℕ) → rules_out film set first scene ≡ false)) }
 {}
 
-/// Where the open firsts of a set may be shot first, some first begins a least tail; and they are
-/// ready.
+/// If the open firsts of a set may be shot first, one of them begins a least tail. All of them are ready.
 pub fn an_open_first_begins_a_least_tail()
     ensures best { (film : FilmData) (bound : ℕ → ℕ) (promise : ℕ → ℕ → ℕ) → IsFilm film
         → BeginLeast (record { film = film; bound = bound; firsts = open_firsts film; promise = promise }) }

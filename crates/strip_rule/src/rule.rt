@@ -1,4 +1,4 @@
-// Which scenes of a set needn't be shot first, since another makes up for it.
+// The dominance rule, an exchange argument on the scene that is shot next.
 ghost use Rattle.std.specs.Prelude.{◌≡◌, ◌↔◌, ℕ, ◌<◌, true, length, slice_index};
 ghost use Rattle.std.specs.List.{list_any};
 ghost use Rattle.strip_mask.specs.Set.{has, members};
@@ -9,10 +9,9 @@ ghost use Rattle.strip_rule.specs.Rule.{fits_before, is_part, open_firsts, rules
 use strip_film::{Film, on, ready};
 use strip_mask::Mask;
 
-/// Whether scene `t` rules scene `s` out as the one that is shot next while the set remains: both are
-/// ready, whoever is on location works in `t`, and whoever works in `t` is on location or works in
-/// `s`; of two that would rule each other out the lesser number stays. One turn for each scene of the
-/// film, and as many again where it has pairs.
+/// Returns whether scene `t` rules out scene `s` as the next scene while the set remains. Both must be ready, and all
+/// actors on location must work in `t`. Each actor of `t` must be on location or work in `s`. If each would rule out
+/// the other, only the one with the lesser number does. Time is linear in the film's number of scenes.
 pub fn yields(film: &Film, q: Mask, t: u32, s: u32) -> bool
     requires lies { LiesIn film.now q.0 }
     requires first { has q.0 t ≡ true }
@@ -24,8 +23,8 @@ pub fn yields(film: &Film, q: Mask, t: u32, s: u32) -> bool
     firsts.has(t) && firsts.has(s) && goes_before(film, on(film, q), t, s)
 }
 
-/// The ready scenes of the set that no scene rules out. One of them begins a least tail, where the set
-/// isn't empty. One turn for each scene of the film, and the time of `open_firsts_with`.
+/// Returns the open firsts: the ready scenes of the set that no scene rules out. If the set isn't empty, one of them
+/// begins a least tail. Time is linear in the film's number of scenes, plus the time of `open_firsts_with`.
 pub fn open_firsts(film: &Film, q: Mask) -> Mask
     requires { LiesIn film.now q.0 }
     ensures open { result.0 ≡ open_firsts film.now q.0 }
@@ -33,9 +32,9 @@ pub fn open_firsts(film: &Film, q: Mask) -> Mask
     open_firsts_with(film, q, on(film, q))
 }
 
-/// The same where who is on location is known already. The time of `ready`, and a turn for each ready
-/// scene; where all who are on location work in some of them, a turn more for each of these with each
-/// ready scene at most.
+/// Returns the open firsts, given the actors on location. It takes the time of `ready`, and an iteration for each ready
+/// scene. If all actors on location work in some ready scenes, each of these is compared with each ready scene at most
+/// once.
 pub fn open_firsts_with(film: &Film, q: Mask, on: Mask) -> Mask
     requires lies { LiesIn film.now q.0 }
     requires on { on.0 ≡ on_location film.now q.0 }
@@ -56,7 +55,7 @@ pub fn open_firsts_with(film: &Film, q: Mask, on: Mask) -> Mask
     open
 }
 
-/// Those of the scenes in which all who are on location work: no other can rule one out.
+/// Returns the scenes in which all actors on location work. Only these can rule out a scene.
 fn holders(film: &Film, firsts: Mask, on: Mask) -> Mask
     requires { LiesIn film.now firsts.0 }
     ensures { (scene : ℕ) → (has result.0 scene ≡ true)
@@ -73,8 +72,8 @@ fn holders(film: &Film, firsts: Mask, on: Mask) -> Mask
     holders
 }
 
-/// Whether one of these scenes rules scene `s` out, in any set with these on location in which all of
-/// them are ready.
+/// Returns whether one of the scenes `firsts` rules out scene `s`. This holds for any set with these actors on location
+/// in which all of them are ready.
 fn is_ruled_out_by(film: &Film, firsts: Mask, on: Mask, s: u32) -> bool
     requires lies { LiesIn film.now firsts.0 }
     requires scene { s < length film.now.casts }
@@ -90,7 +89,7 @@ fn is_ruled_out_by(film: &Film, firsts: Mask, on: Mask, s: u32) -> bool
     false
 }
 
-/// Whether scene `t` rules scene `s` out, in any set with these on location in which both are ready.
+/// Returns whether scene `t` rules out scene `s`, for any set with these actors on location in which both are ready.
 fn goes_before(film: &Film, on: Mask, t: u32, s: u32) -> bool
     requires first { t < length film.now.casts }
     requires second { s < length film.now.casts }
@@ -101,8 +100,8 @@ fn goes_before(film: &Film, on: Mask, t: u32, s: u32) -> bool
     t != s && fits_before(film, on, t, s) && (t < s || !fits_before(film, on, s, t))
 }
 
-/// Whether all who are on location work in scene `t`, and whoever works in it is on location or works
-/// in scene `s`.
+/// Returns whether all actors on location work in scene `t`, and each actor of `t` is on location or works in scene
+/// `s`.
 fn fits_before(film: &Film, on: Mask, t: u32, s: u32) -> bool
     requires first { t < length film.now.casts }
     requires second { s < length film.now.casts }

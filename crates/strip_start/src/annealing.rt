@@ -10,9 +10,10 @@ use crate::prices::Prices;
 use strip_film::laws::what_remains_lies_in_the_film;
 use strip_film::{Film, MAX_COUNT, Path, ready};
 
-/// Makes `tries` small changes one after the other, by simulated annealing: takes each whose order keeps the pairs and is
-/// dearer by no more than the slack. Answers the path of the cheapest order that it takes, and the given path with no
-/// tries or fewer than three scenes. Takes no memory, and for each try time with the number of scenes.
+/// Improves a path by simulated annealing, with `tries` random changes in turn. A change is accepted if its order keeps
+/// the pairs and costs no more than the slack beyond the current order. Returns the path of the cheapest order
+/// accepted, or the given path if there are no tries or fewer than three scenes. It allocates no memory. Each try takes
+/// time linear in the number of scenes.
 pub(crate) fn anneal(
     film: &Film,
     start: &Path,
@@ -36,8 +37,8 @@ pub(crate) fn anneal(
     walked(film, &best[..count]).unwrap_or(*start)
 }
 
-/// The scenes of the cheapest order that was taken on the way, the first of those that cost the same, where the
-/// given order is the first of all.
+/// Returns the scenes of the cheapest order accepted, or of the first if several cost the same. The given order counts
+/// as the first.
 fn cheapest_scenes(
     prices: &Prices,
     start: Order,
@@ -72,7 +73,7 @@ fn cheapest_scenes(
     best
 }
 
-/// The path along the scenes, where each is ready in its turn and none is left.
+/// Returns the complete path along the scenes, or none if some scene is not ready in its turn or some scene remains.
 fn walked(film: &Film, scenes: &[u8]) -> Option<Path>
     ensures { IfSome result (λ path. IsComplete film.now (path_data path)) }
 {

@@ -1,4 +1,4 @@
-// An order that is varied by several workers.
+// Simulated annealing by several workers.
 ghost use Rattle.std.specs.Prelude.{◌≡◌, ◌<◌, ◌≤◌};
 ghost use Rattle.strip_film.specs.Path.{IsComplete};
 ghost use Rattle.strip_film.specs.Shown.{path_data};
@@ -8,8 +8,8 @@ use std::thread;
 use std::thread::Threads;
 use strip_film::{Film, Path};
 
-/// Varies a path as `vary` does, in runs that are made by at most so many workers at once. Answers the same path for
-/// any number of workers, since a run depends on no other. If no thread can be started, the caller makes the runs.
+/// Varies a path as `vary` does, with runs in at most `workers` threads at once. The result is the same for any number
+/// of workers, since runs do not depend on each other. If no thread can be started, the caller makes the runs.
 pub fn vary_beside<R: Threads + Sync>(
     rt: &R,
     film: &Film,

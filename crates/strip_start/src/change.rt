@@ -1,17 +1,17 @@
-// How a piece of an order is changed.
+// Moves of the annealing: changes of a piece of an order.
 ghost use Rattle.std.specs.Prelude.{◌≡◌, ◌<◌, ◌≤◌, ◌+◌, ◌-◌, length};
 ghost use Rattle.strip_film.specs.declared.limits.TheConstants.{MAX_COUNT};
 
 use strip_film::MAX_COUNT;
 
-/// What becomes of a piece: so many scenes of its front go behind the others, or its scenes are turned round.
+/// The change of a piece: its first scenes, of the given number, go behind the others, or the piece is reversed.
 #[derive(Clone, Copy, Debug)]
 enum Turn {
     Behind(usize),
     Round,
 }
 
-/// A piece of an order, from its first place to the one behind its last, and what becomes of it.
+/// A change of an order: the piece from place `first` to before place `end`, and how it changes.
 #[derive(Clone, Copy, Debug)]
 pub(crate) struct Change {
     pub(crate) first: usize,
@@ -21,8 +21,7 @@ pub(crate) struct Change {
 }
 
 impl Change {
-    /// So many scenes from a place on go to where the first of them stands at another; none where the two
-    /// are the same.
+    /// Makes the change that moves `size` scenes from place `from` on to place `to`, or none if the places are equal.
     pub(crate) fn moved(size: usize, from: usize, to: usize) -> Option<Change>
         requires size { 0 < size }
         requires from { from + size ≤ MAX_COUNT }
@@ -45,7 +44,7 @@ impl Change {
         }
     }
 
-    /// The scenes from the lesser place to the greater are turned round; none where the two are the same.
+    /// Makes the change that reverses the scenes between the two places, inclusive, or none if the places are equal.
     pub(crate) fn turned(one: usize, other: usize) -> Option<Change>
         requires one { one < MAX_COUNT }
         requires other { other < MAX_COUNT }
@@ -61,7 +60,7 @@ impl Change {
         })
     }
 
-    /// Writes the piece as it is after the change.
+    /// Writes the changed piece.
     pub(crate) fn write(&self, piece: &[u8], changed: &mut [u8])
         requires { length piece.now ≡ length changed.old }
     {

@@ -7,9 +7,8 @@ ghost use Rattle.strip_start.specs.Greedy.{IsGreedy, IsLeastStep};
 
 use strip_film::{Film, Path, Running, ready};
 
-/// The path that shoots at each turn the ready scene whose step costs the least, the least number of
-/// those that cost the same. It takes no memory, and time with the square of the number of scenes, for
-/// each of which there is a turn for each actor who is paid.
+/// Returns the greedy path: at each turn it shoots the ready scene with the least step cost, or the lowest number among
+/// equals. It allocates no memory. Time is quadratic in the number of scenes, times the number of actors who are paid.
 pub fn greedy(film: &Film) -> Path
     ensures complete { IsComplete film.now (path_data result) }
     ensures greedy { IsGreedy film.now (path_data result).scenes }
@@ -22,15 +21,14 @@ pub fn greedy(film: &Film) -> Path
     *state.path()
 }
 
-/// A scene that can be shot next, and what its step costs.
+/// A scene that can be shot next, and its step cost.
 #[derive(Clone, Copy, Debug)]
 struct Choice {
     scene: u32,
     step: u64,
 }
 
-/// The ready scene whose step costs the least, the least number of those that cost the same; none where
-/// nothing remains.
+/// Finds the ready scene with the least step cost, or the lowest number among equals, or none if no scene remains.
 fn least_step(film: &Film, state: &Running) -> Option<u32>
     requires { IsRunning film.now (running_data state.now) }
     ensures some { IfSome result (IsLeastStep film.now (running_data state.now).path.rest) }
@@ -45,7 +43,7 @@ fn least_step(film: &Film, state: &Running) -> Option<u32>
     Some(best?.scene)
 }
 
-/// The one that costs less, the first where they cost the same.
+/// Returns the choice that costs less, or the earlier one if they cost the same.
 fn lesser(best: Option<Choice>, found: Choice) -> Choice
     ensures { MatchOption best (result ≡ found) (λ b. MatchBool (nat_lt found.step b.step) (result ≡ found) (result
         ≡ b)) }

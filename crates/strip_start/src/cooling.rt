@@ -1,20 +1,21 @@
-// How much dearer an order may be that is taken.
+// The cooling schedule: the slack of the annealing at each try.
 ghost use Rattle.std.specs.Prelude.{◌≤◌};
 
-/// How many tries make a round.
+/// Number of tries in a round.
 pub(crate) const TRIES_A_ROUND: u32 = 100_000;
 
-/// How the slack falls while tries are made, from a hundredth of what the first order pays for waiting to nothing.
+/// A cooling schedule. The slack is the cost by which an accepted order may exceed the current one. It falls from a
+/// hundredth of the first order's pay for waiting to nothing.
 #[derive(Clone, Copy, Debug)]
 pub(crate) enum Cooling {
-    /// Evenly over so many tries.
+    /// Falls evenly over the given number of tries.
     Even(u32),
-    /// In two halves over a whole round: to a quarter in the first, evenly to nothing in the second.
+    /// Falls over a whole round: to a quarter in the first half, and evenly to nothing in the second.
     InHalves,
 }
 
 impl Cooling {
-    /// How much dearer than the one that it changes an order may be in this turn, if the first pays so much for waiting.
+    /// Returns the slack in this turn, if the first order's pay for waiting is `begun`.
     pub(crate) fn slack(self, begun: u64, turn: u32) -> u64 {
         let left = match self {
             Cooling::Even(tries) => 1000 - gone(turn, tries),
@@ -24,14 +25,14 @@ impl Cooling {
     }
 }
 
-/// How many thousandths of the tries are made before this turn.
+/// Returns the tries made before this turn, in thousandths of all tries.
 fn gone(turn: u32, tries: u32) -> u64
     ensures { result ≤ 1000 }
 {
     (u64::from(turn) * 1000 / u64::from(tries.max(1))).min(1000)
 }
 
-/// How many thousandths of the slack are left after so many of the tries.
+/// Returns the slack left, in thousandths, after `gone` thousandths of the tries.
 fn left_in_halves(gone: u64) -> u64
     requires { gone ≤ 1000 }
 {

@@ -1,4 +1,4 @@
-// Changes that are drawn.
+// Random changes.
 ghost use Rattle.std.specs.Prelude.{◌<◌, ◌≤◌};
 
 use crate::change::Change;
@@ -6,26 +6,27 @@ use rand_core::utils::NextWord;
 use rand_pcg::Pcg32;
 use strip_film::MAX_COUNT;
 
-/// The generator's stream in the first run; each further run has the next. State and stream are the same for every
-/// film, so that the same film is varied in the same way.
+/// The generator's stream in the first run; each further run has the next one. Seed and streams are fixed, so a film is
+/// always varied in the same way.
 const FIRST_STREAM: u64 = 54;
 
-/// Where changes are drawn from.
+/// A source of random changes.
 #[derive(Drop)]
 pub(crate) struct Draws {
     words: Pcg32,
 }
 
 impl Draws {
-    /// What is drawn from in the run of this number, 0 for the first.
+    /// Makes the source for the run of this number, 0 for the first.
     pub(crate) fn of_run(run: usize) -> Draws {
         Draws {
             words: Pcg32::new(0, FIRST_STREAM.wrapping_add(run as u64)),
         }
     }
 
-    /// A change of an order of so many scenes: a scene moved, two scenes or more moved together, at most a third of
-    /// all and one more, or a piece turned round. None where the two places that were drawn are the same.
+    /// Draws a change of an order of `count` scenes: a scene moved, several scenes moved together, or a piece reversed.
+    /// Several are at least two, and at most a third of all and one more. Returns none if the two places drawn are
+    /// equal.
     pub(crate) fn draw(&mut self, count: usize) -> Option<Change>
         requires { (3 ≤ count) × (count ≤ MAX_COUNT) }
     {
@@ -46,7 +47,7 @@ impl Draws {
         Change::moved(size, from, to)
     }
 
-    /// A number below `count`.
+    /// Draws a number below `count`.
     fn below(&mut self, count: usize) -> usize
         requires { (0 < count) × (count ≤ MAX_COUNT) }
         ensures { result < count }

@@ -1,4 +1,8 @@
-//! The order that a search begins with, found quickly: a greedy one, improved by moves and then varied.
+//! The initial order of a search: a greedy construction heuristic (start), then local search by moves of one scene,
+//! then simulated annealing with a number of random changes (tries).
+//!
+//! A law (`laws`) is a function that does nothing when it runs: its contract is a theorem that a caller obtains by
+//! calling it.
 #![tactic(auto)]
 
 mod annealing;

@@ -1,4 +1,4 @@
-// Paths along orders that are at hand.
+// Paths along given orders.
 ghost use Rattle.std.specs.Prelude.{◌≡◌, ◌≤◌};
 ghost use Rattle.strip_pay.specs.Order.{IsKeptOrder};
 ghost use Rattle.strip_pay.specs.Pay.{pay_of};
@@ -11,8 +11,8 @@ use strip_film::laws::{
 };
 use strip_film::{Film, Path, ready};
 
-/// The complete path whose scenes are this order, which keeps the film's pairs. It pays what the order costs. The time of
-/// a step for each scene.
+/// Returns the complete path along an order that keeps the film's pairs. Its pay is the order's cost. It takes the time
+/// of `Path::extend` for each scene.
 pub fn path_of(film: &Film, order: &[u8]) -> Path
     requires { IsKeptOrder film.now order.now }
     ensures complete { IsComplete film.now (path_data result) }
@@ -29,8 +29,8 @@ pub fn path_of(film: &Film, order: &[u8]) -> Path
     path
 }
 
-/// The cheaper of a path and the one that shoots the scenes by their numbers, as far as the pairs let it; the given one if
-/// they pay the same.
+/// Returns the cheaper of the given path and the one by scene numbers, or the given one if they pay the same. The path
+/// by numbers shoots the ready scene of the lowest number at each turn.
 pub fn or_listed(film: &Film, path: &Path) -> Path
     requires { IsComplete film.now (path_data path.now) }
     ensures complete { IsComplete film.now (path_data result) }
@@ -44,7 +44,7 @@ pub fn or_listed(film: &Film, path: &Path) -> Path
     }
 }
 
-/// The path that shoots at each turn the ready scene of the least number.
+/// Returns the path that shoots the ready scene of the lowest number at each turn.
 fn listed(film: &Film) -> Path
     ensures { IsComplete film.now (path_data result) }
 {

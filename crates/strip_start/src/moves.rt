@@ -1,4 +1,4 @@
-// An order improved by moves.
+// Local search by moves of one scene.
 ghost use Rattle.std.specs.Prelude.{◌≡◌, ℕ, ◌<◌, ◌≤◌, None, List, length, slice_index, IfSome};
 ghost use Rattle.strip_film.specs.Path.{IsComplete};
 ghost use Rattle.strip_film.specs.Shown.{path_data};
@@ -8,14 +8,13 @@ use crate::scan::first_place;
 use crate::sides::Sides;
 use strip_film::{Film, MAX_COUNT, Path};
 
-/// How many moves are taken at most.
+/// Maximum number of moves.
 const MAX_MOVES: usize = 64;
 
-/// The path after the first better move, the first better one of what that gives, and so on, until no move
-/// is better or 64 were taken. A move takes one scene out and puts it back at another place; moves are
-/// tried by the place of the scene, and for each by the place that it is put at. A move is better where the
-/// moved order keeps the pairs and costs less. It takes no memory, and for each move time with the square
-/// of the number of scenes.
+/// Improves a path by first-improvement local search: takes the first better move, again and again, until no move is
+/// better or 64 were taken. A move takes one scene out and puts it back at another place. Moves are tried by the place
+/// of the scene, then by its new place. A move is better if the moved order keeps the pairs and costs less. It
+/// allocates no memory. Each move takes time quadratic in the number of scenes.
 pub fn improve(film: &Film, path: &Path) -> Path
     requires { IsComplete film.now (path_data path.now) }
     ensures complete { IsComplete film.now (path_data result) }
@@ -32,14 +31,14 @@ pub fn improve(film: &Film, path: &Path) -> Path
     best
 }
 
-/// The scene at place `from` is taken out and put back, so that it stands at place `to`.
+/// A move: the scene at place `from` is taken out and put back, so that it stands at place `to`.
 #[derive(Clone, Copy, Debug)]
 struct Move {
     from: usize,
     to: usize,
 }
 
-/// The first better move of the path's order; none where no move is better.
+/// Finds the first better move of the path's order, or none if no move is better.
 fn first_move(film: &Film, path: &Path) -> Option<Move>
     requires { IsComplete film.now (path_data path.now) }
     ensures some { IfSome result (λ found. IsFirstMove film.now (path_data path.now).scenes found.from found.to) }
@@ -56,7 +55,7 @@ fn first_move(film: &Film, path: &Path) -> Option<Move>
     None
 }
 
-/// The path of the moved order. The time of `Path::extend` for each scene.
+/// Returns the path of the moved order. It takes the time of `Path::extend` for each scene.
 fn moved(film: &Film, path: &Path, found: Move) -> Path
     requires complete { IsComplete film.now (path_data path.now) }
     requires better { IsBetter film.now (path_data path.now).scenes found.from found.to }
@@ -72,7 +71,7 @@ fn moved(film: &Film, path: &Path, found: Move) -> Path
     next
 }
 
-/// Where the scene that stands at this place after the move stood before it.
+/// Returns the place, before the move, of the scene at place `place` after it.
 fn place_before(found: Move, place: usize) -> usize
     requires { place < MAX_COUNT }
     ensures { (order : List ℕ) → found.from < length order → found.to < length order → place < length order

@@ -1,4 +1,4 @@
-// An order that is varied.
+// The current order of the annealing, with the pay for waiting at each place.
 ghost use Rattle.std.specs.Prelude.{◌≤◌, ◌<◌, All, length};
 
 use crate::change::Change;
@@ -6,8 +6,8 @@ use crate::prices::Prices;
 use crate::sides::Sides;
 use strip_film::{Film, MAX_COUNT};
 
-/// The scenes of an order, who works before and behind each place as sets of actors, and what is paid for waiting
-/// at it.
+/// An order: its scenes, the actors who work before and behind each place as sets of actor numbers, and the pay for
+/// waiting at it.
 #[derive(Clone, Copy)]
 pub(crate) struct Order {
     scenes: [u8; MAX_COUNT],
@@ -17,7 +17,7 @@ pub(crate) struct Order {
 }
 
 impl Order {
-    /// The order of these scenes. Three turns for each.
+    /// Makes the order of these scenes. Time is linear in their number.
     pub(crate) fn of(film: &Film, prices: &Prices, list: &[u8]) -> Order
         requires known { All (λ scene. scene < length film.now.casts) list.now }
         requires few { length list.now ≤ MAX_COUNT }
@@ -41,7 +41,7 @@ impl Order {
         self.scenes
     }
 
-    /// What is paid for waiting from the first place on up to the end.
+    /// Returns the pay for waiting from place `first` to before place `end`.
     pub(crate) fn waits(&self, first: usize, end: usize) -> u64
         requires { (first ≤ end) × (end ≤ MAX_COUNT) }
     {
@@ -52,8 +52,8 @@ impl Order {
         sum
     }
 
-    /// Makes the piece what it is after the change of the other order, and answers what is then paid for waiting in it.
-    /// None where that is more than `most`, or where a pair is broken; the piece is then left half made.
+    /// Sets the piece to its changed state, from the order `from`, and returns the pay for waiting in it. Returns none
+    /// if that exceeds `most` or a pair is broken; the piece is then in no valid state.
     pub(crate) fn change(
         &mut self,
         prices: &Prices,
@@ -70,7 +70,7 @@ impl Order {
         self.look_ahead(prices, first, end, from.before[first], most)
     }
 
-    /// Whether no scene of the piece stands before one that a pair puts before it.
+    /// Returns whether the piece keeps the pairs.
     fn keeps_pairs(&self, prices: &Prices, first: usize, end: usize) -> bool
         requires { (first ≤ end) × (end ≤ MAX_COUNT) }
     {
@@ -84,7 +84,7 @@ impl Order {
         true
     }
 
-    /// Who works behind each place of the piece, where these work behind its last.
+    /// Sets the actors who work behind each place of the piece, given those who work behind its last place.
     fn look_back(&mut self, prices: &Prices, first: usize, end: usize, behind: u64)
         requires { (first ≤ end) × (end ≤ MAX_COUNT) }
     {
@@ -95,8 +95,8 @@ impl Order {
         }
     }
 
-    /// Who works before each place of the piece, where these work before its first, and what is paid for waiting
-    /// in it. None where that is more than `most`.
+    /// Sets the actors who work before each place of the piece, given those who work before its first place. Returns
+    /// the pay for waiting in it, or none if that exceeds `most`.
     fn look_ahead(
         &mut self,
         prices: &Prices,
@@ -123,7 +123,7 @@ impl Order {
         Some(paid)
     }
 
-    /// Takes the changed piece of the other order.
+    /// Copies the changed piece of the other order.
     pub(crate) fn take(&mut self, other: &Order, change: &Change) {
         let Change { first, end, .. } = *change;
         self.scenes[first..end].copy_from_slice(&other.scenes[first..end]);

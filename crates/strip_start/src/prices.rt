@@ -1,12 +1,11 @@
-// What orders are compared by.
+// Precomputed numbers by which the annealing compares orders.
 use strip_film::{Film, MAX_COUNT};
 
-/// How many sets there are of eight actors.
+/// Number of sets of eight actors.
 const SETS: usize = 256;
 
-/// A film's numbers in arrays: who works in each scene, its days, which scenes come directly before it, and
-/// the sums of the hold rates of the sets of eight actors each. Sums that don't fit are the greatest number,
-/// which those of a film within its limits never reach.
+/// A film's numbers in arrays: casts, days, the scenes directly before each scene, and the sums of hold rates. There is
+/// a sum for each set within each eight actors. Sums saturate; those of a film within its limits never do.
 #[derive(Drop)]
 pub(crate) struct Prices {
     casts: [u64; MAX_COUNT],
@@ -17,7 +16,7 @@ pub(crate) struct Prices {
 }
 
 impl Prices {
-    /// The prices of a film. A turn for each of its scenes, and 256 for each eight of its actors.
+    /// Makes the prices of a film. It takes an iteration for each scene, and 256 for each eight actors.
     pub(crate) fn of(film: &Film) -> Prices {
         Prices {
             casts: in_array(film.casts()),
@@ -40,7 +39,7 @@ impl Prices {
         self.before[scene as usize % MAX_COUNT]
     }
 
-    /// What is paid for waiting in the scene, where these actors work before it and behind it.
+    /// Returns the pay for waiting in the scene, if these actors work both before and behind it.
     pub(crate) fn wait(&self, scene: u8, actors: u64) -> u64 {
         let mut waiting = actors & !self.cast(scene);
         let mut hold = 0u64;
@@ -55,7 +54,7 @@ impl Prices {
     }
 }
 
-/// The numbers of a list at the front of an array.
+/// Copies the numbers to the front of an array.
 fn in_array(numbers: &[u64]) -> [u64; MAX_COUNT] {
     let mut array = [0; MAX_COUNT];
     for (place, number) in array.iter_mut().zip(numbers) {
@@ -72,7 +71,7 @@ fn directly_before(film: &Film) -> [u64; MAX_COUNT] {
     before
 }
 
-/// For each eight of the actors, the sums of the hold rates of all sets of them.
+/// Returns for each eight actors the sums of the hold rates of all sets of them.
 fn sums_by_eight(holds: &[u64]) -> [[u64; SETS]; 8] {
     let mut sums = [[0; SETS]; 8];
     for (eight, holds) in sums.iter_mut().zip(holds.chunks(8)) {
@@ -89,7 +88,7 @@ fn sums_of(holds: &[u64]) -> [u64; SETS] {
     sums
 }
 
-/// The sum of the numbers whose places are in the set.
+/// Returns the sum of the numbers whose places are in the set.
 fn sum_in(holds: &[u64], set: usize) -> u64 {
     let mut left = set;
     let mut sum = 0u64;

@@ -1,4 +1,4 @@
-// The places that one scene of an order can be moved to.
+// Places to which one scene of an order can be moved.
 ghost use Rattle.std.specs.Prelude.{◌≡◌, ◌↔◌, ℕ, ◌+◌, ◌<◌, ◌≤◌, ◌^◌, None, length, slice_index, IfSome, IsTrue};
 ghost use Rattle.strip_mask.specs.Set.{LiesBelow};
 ghost use Rattle.strip_pay.specs.Pairs.{Precedes};
@@ -12,8 +12,8 @@ use crate::sides::Sides;
 use strip_film::{Film, MAX_COUNT, Path};
 use strip_mask::{Mask, sum_over};
 
-/// The first place that the scene at place `from` is better put at; none where no place is better. A turn
-/// for each scene of the path at most, with a few more for actors who come or go between two scenes.
+/// Finds the first place to which the scene at place `from` is better moved, or none. Time is linear in the path's
+/// length, plus the actors who come or go between two scenes.
 pub(crate) fn first_place(film: &Film, path: &Path, sides: &Sides, from: usize) -> Option<usize>
     requires complete { IsComplete film.now (path_data path.now) }
     requires sides { AreSides film.now (path_data path.now).scenes sides.now }
@@ -28,8 +28,8 @@ pub(crate) fn first_place(film: &Film, path: &Path, sides: &Sides, from: usize) 
     }
 }
 
-/// The first place before `from` that its scene is better put at. The scene is taken to the front, past one
-/// scene after the other, as long as no pair puts that one before it.
+/// Finds the first better place before `from`. The scene is moved to the front, past one scene after another, until a
+/// pair forbids it.
 fn earlier_place(film: &Film, path: &Path, sides: &Sides, from: usize) -> Option<usize>
     requires complete { IsComplete film.now (path_data path.now) }
     requires sides { AreSides film.now (path_data path.now).scenes sides.now }
@@ -57,8 +57,8 @@ fn earlier_place(film: &Film, path: &Path, sides: &Sides, from: usize) -> Option
     best
 }
 
-/// The first place behind `from` that its scene is better put at. The scene is taken to the end, past one
-/// scene after the other, as long as no pair puts it before that one.
+/// Finds the first better place behind `from`. The scene is moved to the end, past one scene after another, until a
+/// pair forbids it.
 fn later_place(film: &Film, path: &Path, sides: &Sides, from: usize) -> Option<usize>
     requires complete { IsComplete film.now (path_data path.now) }
     requires sides { AreSides film.now (path_data path.now).scenes sides.now }
@@ -87,7 +87,7 @@ fn later_place(film: &Film, path: &Path, sides: &Sides, from: usize) -> Option<u
     None
 }
 
-/// Whether a pair puts the first scene before the other.
+/// Returns whether a pair puts the first scene before the other.
 fn precedes(film: &Film, first: u32, then: u32) -> bool
     requires first { first < MAX_COUNT }
     requires then { then < MAX_COUNT }
@@ -96,8 +96,8 @@ fn precedes(film: &Film, first: u32, then: u32) -> bool
     film.before(then).has(first)
 }
 
-/// What an order costs when two scenes that are shot one after the other change places, where it cost
-/// `cost` with `first` before `second`; these work before and behind the two.
+/// Returns the cost of an order after two adjacent scenes are swapped. It costs `cost` with `first` before `second`.
+/// `before` and `behind` are the actors who work before and behind the two.
 fn turned(film: &Film, cost: u64, before: Mask, behind: Mask, first: u32, second: u32) -> u64
     requires first { first < length film.now.casts }
     requires second { second < length film.now.casts }
@@ -111,8 +111,8 @@ fn turned(film: &Film, cost: u64, before: Mask, behind: Mask, first: u32, second
         - turn_cost(film, before, behind, first, second)
 }
 
-/// What two scenes, shot one after the other, cost beyond what they cost in either order, where these work
-/// before and behind them. A turn for each actor who waits for that alone.
+/// Returns the part of two adjacent scenes' cost that depends on which comes first. `before` and `behind` are the
+/// actors who work before and behind the two. Time is linear in the number of actors who wait only for that reason.
 fn turn_cost(film: &Film, before: Mask, behind: Mask, first: u32, second: u32) -> u64
     requires first { first < length film.now.casts }
     requires second { second < length film.now.casts }
@@ -126,7 +126,7 @@ fn turn_cost(film: &Film, before: Mask, behind: Mask, first: u32, second: u32) -
     wait_cost(film, leaving, first) + wait_cost(film, coming, second)
 }
 
-/// What those of the actors cost who wait through the scene.
+/// Returns the pay for waiting of those actors of the set who wait through the scene.
 fn wait_cost(film: &Film, actors: Mask, scene: u32) -> u64
     requires scene { scene < length film.now.casts }
     requires actors { LiesBelow (length film.now.rates) actors.0 }

@@ -1,12 +1,12 @@
-// Who works before and behind each place of an order.
+// The actors who work before and behind each place of an order.
 ghost use Rattle.std.specs.Prelude.{◌≡◌, ℕ, ◌+◌, ◌<◌, ◌≤◌, All, length, take, drop, slice_index};
 ghost use Rattle.strip_start.specs.Sides.{AreSides, cast_along};
 
 use strip_film::{Film, MAX_COUNT};
 use strip_mask::Mask;
 
-/// For each place of an order, who works in the scenes before it and who in those behind it, as sets of
-/// actor numbers.
+/// For each place of an order, the actors who work in the scenes before it, and in those behind it, as sets of actor
+/// numbers.
 #[derive(Clone, Copy, Debug)]
 pub(crate) struct Sides {
     pub(crate) before: [u64; MAX_COUNT],
@@ -14,7 +14,7 @@ pub(crate) struct Sides {
 }
 
 impl Sides {
-    /// The sides of a list of at most 64 scenes. Two turns for each.
+    /// Makes the sides of a list of at most 64 scenes. Time is linear in their number.
     pub(crate) fn of(film: &Film, scenes: &[u8]) -> Sides
         requires known { All (λ scene. scene < length film.now.casts) scenes.now }
         requires few { length scenes.now ≤ MAX_COUNT }

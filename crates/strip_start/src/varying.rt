@@ -1,4 +1,4 @@
-// An order that is varied in search of a cheaper one, in several runs.
+// Variation of an order, in several runs of simulated annealing.
 ghost use Rattle.std.specs.Prelude.{◌≡◌, ◌≤◌, ◌⊎◌, ◌∷◌, All};
 ghost use Rattle.strip_film.specs.Path.{IsComplete};
 ghost use Rattle.strip_film.specs.Shown.{path_data};
@@ -9,14 +9,17 @@ use crate::cooling::{Cooling, TRIES_A_ROUND};
 use crate::draws::Draws;
 use strip_film::{Film, Path};
 
-/// How many runs there are at most.
+/// Maximum number of runs.
 pub(crate) const MAX_RUNS: usize = 16;
 
-/// Varies a path by small changes in search of a cheaper one, by simulated annealing. The `tries` changes are made in
-/// one run for each 100,000, at least one and at most 16. Each run begins with the given path and draws its changes
-/// from a stream of its own, which is the same for every film; it goes on in rounds of 100,000 tries. Answers the
-/// cheapest path that a run leads to, of the first run that finds one so cheap, and the given path if none is cheaper.
-/// Takes no memory, and for each try time with the number of scenes.
+/// Varies a path by simulated annealing in search of a cheaper one, with `tries` random changes.
+///
+/// There is one run for each 100,000 tries, at least one and at most 16. Each run begins with the given path, and draws
+/// its changes from its own stream, which is the same for every film. A single run cools evenly over its tries; several
+/// runs go in rounds of 100,000 tries.
+///
+/// Returns the cheapest path found, of the first run if several find one, or the given path if none is cheaper. It
+/// allocates no memory. Each try takes time linear in the number of scenes.
 pub fn vary(film: &Film, start: &Path, tries: u32) -> Path
     requires { IsComplete film.now (path_data start.now) }
     ensures complete { IsComplete film.now (path_data result) }
@@ -29,7 +32,7 @@ pub fn vary(film: &Film, start: &Path, tries: u32) -> Path
     cheapest(start, paths)
 }
 
-/// Makes the runs one after the other, one for each place.
+/// Makes the runs in turn, one for each place of `paths`.
 fn make_runs(film: &Film, start: &Path, tries: u32, paths: &mut [Path])
     requires { IsComplete film.now (path_data start.now) }
     ensures { All (λ path. IsRunFrom film.now (path_data start.now) tries (path_data path)) paths.new }
@@ -39,14 +42,14 @@ fn make_runs(film: &Film, start: &Path, tries: u32, paths: &mut [Path])
     }
 }
 
-/// How many runs so many tries are made in: as many as have a whole round each, but at least one.
+/// Returns the number of runs for `tries` tries: one for each whole round, at least 1 and at most 16.
 pub(crate) fn run_count(tries: u32) -> usize
     ensures { (1 ≤ result) × (result ≤ MAX_RUNS) }
 {
     ((tries / TRIES_A_ROUND) as usize).clamp(1, MAX_RUNS)
 }
 
-/// Makes the run of this number, 0 for the first, of those that so many tries are made in.
+/// Makes the run of this number, 0 for the first, if all runs together have `tries` tries.
 pub(crate) fn make_run(film: &Film, start: &Path, tries: u32, run: usize) -> Path
     requires { IsComplete film.now (path_data start.now) }
     ensures { IsRunFrom film.now (path_data start.now) tries (path_data result) }
@@ -59,8 +62,8 @@ pub(crate) fn make_run(film: &Film, start: &Path, tries: u32, run: usize) -> Pat
     }
 }
 
-/// Makes one of several runs, in rounds of 100,000 tries. Each round begins with the path that the round before leads
-/// to. The last round may be cut short; its slack falls as in a whole one, so that a longer run repeats this one first.
+/// Makes one of several runs, in rounds of 100,000 tries. Each round begins with the path of the round before. The last
+/// round may be shorter, but it cools as a whole one, so a longer run begins with the same changes.
 fn make_rounds(film: &Film, start: &Path, tries: u32, draws: &mut Draws) -> Path
     requires { IsComplete film.now (path_data start.now) }
     ensures { IsRunFrom film.now (path_data start.now) tries (path_data result) }
@@ -75,7 +78,7 @@ fn make_rounds(film: &Film, start: &Path, tries: u32, draws: &mut Draws) -> Path
     best
 }
 
-/// How many of the tries this run makes: an equal part, and one more in the first runs if that leaves a rest.
+/// Returns the run's number of tries: an equal share, and one more in the first runs if a remainder is left.
 fn share(tries: u32, run: usize) -> u32
     ensures { result ≤ tries }
 {
@@ -87,7 +90,7 @@ fn share(tries: u32, run: usize) -> u32
     }
 }
 
-/// The cheapest of the given path and those of the runs, the first of those that pay the same.
+/// Returns the cheapest of the given path and the runs' paths, or the first of them if several pay the same.
 pub(crate) fn cheapest(start: &Path, paths: &[Path]) -> Path
     ensures { IsCheapest (start.now ∷ paths.now) result }
 {
@@ -98,7 +101,7 @@ pub(crate) fn cheapest(start: &Path, paths: &[Path]) -> Path
     best
 }
 
-/// The path that pays less, `known` if they pay the same.
+/// Returns the path that pays less, or `known` if they pay the same.
 fn cheaper(found: &Path, known: &Path) -> Path
     ensures either { (result ≡ found.now) ⊎ (result ≡ known.now) }
     ensures no_dearer { ((path_data result).paid ≤ (path_data found.now).paid) × ((path_data result).paid ≤ (path_data known.now).paid) }

@@ -1,4 +1,4 @@
-// How the queues of a pool are filled.
+// Filling the queues of a pool.
 ghost use Rattle.std.specs.Prelude.{◌≡◌, ◌≤◌, ◌<◌, ℕ, false, [], ◌∷◌, None, replicate, IfOk, OnOk};
 ghost use Rattle.crossbeam_deque.specs.Handles.{worker_view};
 ghost use Rattle.strip_steal.specs.Rule.{first_share, full_weight, times};
@@ -11,9 +11,9 @@ use crate::seat::Owner;
 use std::alloc::Global;
 use strip_io::Memory;
 
-/// A queue for each of so many workers, 1 to 64, into which the numbers are put in turn: the number at the
-/// place `i` into the queue `i` modulo `workers`, and an end for each worker behind them. The numbers differ
-/// from each other. It takes as many steps as there are numbers and, for each worker, workers.
+/// Makes a queue for each of `workers` workers, 1 to 64, and deals the numbers in turn. The number at place `i` goes
+/// into queue `i` modulo `workers`. Each queue ends with one sentinel (end) for each worker. The numbers must differ
+/// from each other. Time is the number of numbers plus the square of `workers`. It fails only if memory runs out.
 pub fn pool(alloc: Global, workers: u32, numbers: &[u32]) -> Result<Pool, Memory>
     requires workers { (1 ≤ workers) × (workers ≤ 64) }
     requires once { (number : ℕ) → times number numbers.now ≤ 1 }
@@ -35,7 +35,7 @@ pub fn pool(alloc: Global, workers: u32, numbers: &[u32]) -> Result<Pool, Memory
     })
 }
 
-// The queue at this place, with its numbers and ends.
+// Makes the queue at this place, with its numbers and ends.
 fn filled(alloc: Global, numbers: &[u32], count: usize, place: usize) -> Result<Owner, Memory>
     requires count { (0 < count) × (count ≤ 64) }
     requires place { place < count }
@@ -48,7 +48,7 @@ fn filled(alloc: Global, numbers: &[u32], count: usize, place: usize) -> Result<
     Ok(owner)
 }
 
-// Puts every count-th of the numbers, from this place on.
+// Puts every `count`-th number, from this place on.
 fn put_numbers(owner: &mut Owner, numbers: &[u32], count: usize, place: usize) -> Result<(), Memory>
     requires count { (0 < count) × (count ≤ 64) }
     requires place { place < count }
@@ -63,7 +63,7 @@ fn put_numbers(owner: &mut Owner, numbers: &[u32], count: usize, place: usize) -
     Ok(())
 }
 
-// Puts so many ends.
+// Puts `count` ends.
 fn put_ends(owner: &mut Owner, count: usize) -> Result<(), Memory>
     requires weight { (worker_view owner.old).weight ≡ full_weight }
     requires still { (worker_view owner.old).ended ≡ false }
@@ -75,7 +75,7 @@ fn put_ends(owner: &mut Owner, count: usize) -> Result<(), Memory>
     Ok(())
 }
 
-// Puts an entry.
+// Puts one entry.
 fn put(owner: &mut Owner, entry: Option<u32>) -> Result<(), Memory>
     requires weight { (worker_view owner.old).weight ≡ full_weight }
     requires still { (worker_view owner.old).ended ≡ false }

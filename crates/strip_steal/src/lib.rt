@@ -1,4 +1,4 @@
-//! Queues of numbers that several workers take from, each from its own first and then from the others'.
+//! Work stealing: queues of numbers, from which each worker takes its own numbers first, and then those of the others.
 #![tactic(auto)]
 
 mod deal;

@@ -1,4 +1,4 @@
-// The queues of a pool, and how what was taken from them is gathered.
+// The queues of a pool, and gathering the numbers taken from them.
 ghost use Rattle.std.specs.Prelude.{◌≡◌, ◌<◌, ◌≤◌, ◌+◌, ℕ, suc, [], All, length, map, IfOk};
 ghost use Rattle.strip_steal.specs.Rule.{times};
 ghost use Rattle.crossbeam_deque.specs.Handles.{worker_deque, worker_view};
@@ -12,15 +12,15 @@ use crate::taker::{Taken, Taker};
 use std::alloc::Global;
 use strip_io::Memory;
 
-/// The owners' ends of the queues of a pool, and how many numbers were put into them. What takers took is
-/// gathered here.
+/// The owners' ends of the queues of a pool, and the count of numbers put into them. At the end it gathers the numbers
+/// that takers took.
 #[derive(Drop)]
 pub struct Pool {
     pub(crate) owners: Vec<Owner>,
     pub(crate) count: usize,
 }
 
-// A seat at this queue, with a weight of 1 of its owner's.
+// Makes a seat at this queue, with a weight of 1 from its owner.
 fn seat_at(owner: &mut Owner) -> Result<Seat, Memory>
     requires weight { 2 ≤ (worker_view owner.old).weight }
     ensures queue { worker_deque owner.new ≡ worker_deque owner.old }
@@ -37,7 +37,7 @@ fn seat_at(owner: &mut Owner) -> Result<Seat, Memory>
     })
 }
 
-// The owner takes in what was taken at a seat of its queue, and counts it.
+// Joins a seat of the owner's queue into the owner, and counts the numbers taken.
 fn join_at(owner: &mut Owner, seat: Seat)
     requires same { queue_of seat ≡ worker_deque owner.old }
     requires weight { 0 < (worker_view owner.old).weight }
@@ -56,8 +56,8 @@ fn join_at(owner: &mut Owner, seat: Seat)
 }
 
 impl Pool {
-    /// A further taker, whose own queue is the one at this place. All room that it needs is taken here: a
-    /// seat at each queue, and room for as many numbers as were put.
+    /// Makes a further taker, whose own queue is the one at this place. It allocates all memory of the taker, and fails
+    /// only if memory runs out: a seat at each queue, and room for all numbers.
     pub fn taker(&mut self, alloc: Global, place: u32) -> Result<Taker, Memory>
         requires pool { (rest : ℕ) × IsPool (suc (suc rest)) self.old }
         requires place { place < length self.old.owners.items }
@@ -83,11 +83,11 @@ impl Pool {
         })
     }
 
-    /// Takes in a taker of this pool, and answers what it was given, in its order. It needs no memory, and
-    /// takes a step or two at each queue.
+    /// Gathers a taker of this pool, and returns the numbers that it was given, in its order. It allocates no memory,
+    /// and takes one or two steps at each queue.
     ///
-    /// The numbers of all takers that were gathered are among those that were handed in, each at most once;
-    /// and each exactly once where all were gathered and one of them found all queues empty.
+    /// The numbers of all takers gathered are among the numbers dealt, each at most once. Each occurs exactly once if
+    /// all takers were gathered and one of them found all queues empty.
     pub fn gather(&mut self, taker: Taker) -> Vec<Taken>
         requires pool { (weight : ℕ) × IsPool weight self.old × (0 < weight) }
         requires taker { IsTaker taker }
@@ -104,7 +104,7 @@ impl Pool {
         taken
     }
 
-    // A seat at each queue.
+    // Makes a seat at each queue.
     fn seats(&mut self, alloc: Global) -> Result<Vec<Seat>, Memory>
         requires weight { All (λ share. 2 ≤ share.weight) (pool_shares self.old) }
         ensures count { self.new.count ≡ self.old.count }
@@ -122,7 +122,7 @@ impl Pool {
         Ok(seats)
     }
 
-    // Each queue takes in the seat at it.
+    // Joins each seat into the owner of its queue.
     fn take_in(&mut self, mut seats: Vec<Seat>)
         requires weight { All (λ share. 0 < share.weight) (pool_shares self.old) }
         requires other { All (λ share. 0 < share.weight) (map share_of seats.items) }

@@ -1,8 +1,8 @@
-// The rule of a queue, and the steps on it.
+// The invariant of a queue, and the kinds of steps on it.
 use crate::share::Share;
 use crossbeam_deque::protocol::{Join, Lesson, Outcome, Protocol, Split};
 
-/// What holds of the entries in a queue and of all that passes know, whatever steps were taken.
+/// The invariant of a queue's entries and of the knowledge of all passes, which every step keeps.
 pub struct Rule;
 
 impl Protocol<Option<u32>, Share> for Rule {
@@ -16,7 +16,7 @@ impl Protocol<Option<u32>, Share> for Rule {
     ghost guest = { spent_share };
 }
 
-/// An entry is put.
+/// The step that puts an entry.
 pub struct Put;
 
 impl Outcome<Option<u32>, Share> for Put {
@@ -25,7 +25,7 @@ impl Outcome<Option<u32>, Share> for Put {
     ghost then = { HasPut };
 }
 
-/// An entry is taken.
+/// The step that takes an entry.
 pub struct Take;
 
 impl Outcome<Option<u32>, Share> for Take {
@@ -34,7 +34,7 @@ impl Outcome<Option<u32>, Share> for Take {
     ghost then = { HasTakenOne };
 }
 
-/// A look that tells a pass of what was taken with it.
+/// The read by which a pass learns how often each number was taken with it.
 pub struct Count;
 
 impl Lesson<Option<u32>, Share> for Count {
@@ -43,7 +43,7 @@ impl Lesson<Option<u32>, Share> for Count {
     ghost fact = { λ share items. AreCounted share };
 }
 
-/// A pass gives a weight of 1 to a new one.
+/// The split of a pass: a new one gets a weight of 1.
 pub struct Cut;
 
 impl Split<Share> for Cut {
@@ -54,7 +54,7 @@ impl Split<Share> for Cut {
     ghost right = { split_off };
 }
 
-/// A pass takes in another.
+/// The join of a pass into another.
 pub struct Merge;
 
 impl Join<Share> for Merge {

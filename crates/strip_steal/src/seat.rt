@@ -7,10 +7,11 @@ use crate::share::Share;
 use crossbeam_deque::{Pass, Stealer, Worker};
 use std::alloc::Global;
 
-/// The end of a queue at which its entries are put: a number each, and then as many ends as there are takers.
+/// The owner's end of a queue, at which entries are put: numbers first, and then one sentinel (`None`, an end) for each
+/// taker.
 pub type Owner = Worker<Option<u32>, Global, Share, Rule>;
 
-/// A taker's end of a queue: a pass of it, and whether an end of the queue was taken, so that no number is left.
+/// A taker's end of a queue: a pass, and whether it took a sentinel. Taking one proves that no number is left.
 #[derive(Drop)]
 pub struct Seat {
     pub(crate) queue: Stealer<Option<u32>, Global, Share, Rule>,

@@ -1,10 +1,9 @@
-// What a pass of a queue knows.
+// The knowledge of a pass of a queue.
 use std::collections::LinkedList;
 
-/// What a pass knows of its queue, which exists in proofs alone: no value of it is made. Its weight is its
-/// share of the first pass; `put` are the entries that were put into the queue, numbers and then its ends;
-/// `taken` are the numbers that were taken with it, `ended` tells whether an end was, and `has_joined` whether
-/// it took in another pass.
+/// The knowledge of a pass of a queue. It exists in proofs only: no value of it is made. `weight` is its share of the
+/// first pass, and `put` the entries put into the queue, numbers and then ends. `taken` are the numbers taken with the
+/// pass, and `ended` says whether it took an end. `has_joined` says whether another pass was joined into it.
 pub struct Share {
     pub weight: u64,
     pub put: LinkedList<Option<u32>>,

@@ -1,4 +1,4 @@
-// What a taker does at one queue.
+// Taking from one queue.
 ghost use Rattle.std.specs.Prelude.{◌≡◌, ◌<◌, true, false, Some, None, MatchOption, IfNone};
 ghost use Rattle.strip_steal.specs.Seat.{queue_of, share_of};
 ghost use Rattle.strip_steal.specs.Steps.{HasTaken, IsClosed, with_taken};
@@ -10,8 +10,8 @@ use std::sync::Wait;
 use std::thread;
 
 impl Seat {
-    /// Takes the first number of the queue, or finds its end. It waits for the entry where another taker is
-    /// about to take one; an end is there for each taker.
+    /// Takes the first number of the queue, or returns none if it finds an end. It waits if another taker is about to
+    /// take the entry. There is an end for each taker, so every taker finds one.
     pub(crate) fn take<R: Wait>(&mut self, rt: &R) -> Option<u32>
         requires some_weight { 0 < (share_of self.old).weight }
         requires closed { IsClosed (share_of self.old).put }

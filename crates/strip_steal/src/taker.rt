@@ -1,4 +1,4 @@
-// A worker that takes from the queues of a pool.
+// Workers that take from the queues of a pool.
 ghost use Rattle.std.specs.Prelude.{◌≡◌, ◌≢◌, ◌<◌, ◌≤◌, ◌+◌, ◌++◌, ◌⊎◌, ℕ, true, [], ◌∷◌, length, vec_capacity, MatchOption};
 ghost use Rattle.strip_steal.specs.Rule.{times};
 ghost use Rattle.strip_steal.specs.Steps.{IsAsked};
@@ -7,15 +7,15 @@ ghost use Rattle.strip_steal.specs.Taker.{AreShares, IsTaker, GivesNumber, StayA
 use crate::seat::Seat;
 use std::sync::Wait;
 
-/// A number that a taker was given, and the number of the queue that it came from.
+/// A number given to a taker, and the number of the queue that it came from.
 #[derive(Clone, Copy, Debug, PartialEq, Eq)]
 pub struct Taken {
     pub number: u32,
     pub from: u32,
 }
 
-/// What a worker takes numbers by: a seat at each queue of a pool, which of them is its own, and what it was
-/// given so far. Nothing is put into the queues any more, so a queue that was found empty stays so.
+/// A worker's access to a pool: a seat at each queue, the place of its own queue, and the numbers given to it so far.
+/// Nothing is put into the queues any more, so a queue that was found empty stays empty.
 #[derive(Drop)]
 pub struct Taker {
     pub(crate) place: usize,
@@ -23,7 +23,7 @@ pub struct Taker {
     pub(crate) taken: Vec<Taken>,
 }
 
-// The place whose turn it is, so many turns behind the first.
+// Returns the place `turn` turns after the given one, among `count` places in a ring.
 fn place_in_turn(place: usize, turn: usize, count: usize) -> usize
     requires { (place < count) × (turn < count) }
     ensures within { result < count }
@@ -37,9 +37,9 @@ fn place_in_turn(place: usize, turn: usize, count: usize) -> usize
 }
 
 impl Taker {
-    /// The first number of the taker's own queue, or, where that was found empty, the first of another
-    /// queue, which are asked in turn; none where each queue was found empty. It needs no memory, and asks
-    /// each queue at most once. It may wait for another taker that is about to take from the same queue.
+    /// Takes the first number of the taker's own queue. If that queue was found empty, it asks the others in turn, and
+    /// returns none if all were. It allocates no memory, and asks each queue at most once. It may wait for another
+    /// taker that is about to take from the same queue.
     pub fn take<R: Wait>(&mut self, rt: &R) -> Option<Taken>
         requires taker { IsTaker self.old }
         ensures taker { IsTaker self.new }
@@ -67,7 +67,7 @@ impl Taker {
         None
     }
 
-    // Asks the queue at this place.
+    // Takes from the queue at this place.
     fn ask<R: Wait>(&mut self, rt: &R, from: usize) -> Option<u32>
         requires shares { AreShares 1 (taker_shares self.old) }
         requires within { from < length self.old.seats.items }
@@ -79,7 +79,7 @@ impl Taker {
         self.seats[from].take(rt)
     }
 
-    // Writes down what was given, for which there is room.
+    // Records a number given; there is room for it.
     fn note(&mut self, one: Taken)
         requires room { length self.old.taken.items < vec_capacity self.old.taken }
         ensures seats { self.new.seats ≡ self.old.seats }
@@ -90,7 +90,7 @@ impl Taker {
         let _ = self.taken.push(one);
     }
 
-    /// What this taker was given, in its order.
+    /// Returns the numbers given to this taker, in its order.
     pub fn taken(&self) -> &[Taken]
         ensures { result.now ≡ self.now.taken.items }
     {

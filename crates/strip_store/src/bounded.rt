@@ -1,7 +1,7 @@
-// Of which film and kind the bounds of a store are.
+// The film and kind to which the bounds of a store belong.
 use std::marker::Brand;
 
-/// Names a film and a kind of static bound, so that a lock's contents can be told of them.
+/// A type that names a film and a kind of static bound. It lets the invariant of a lock's contents refer to them.
 pub trait Bounded {
     ghost use Rattle.strip_kind.specs.declared.kind.Kind.{Kind};
     ghost use Rattle.strip_pay.specs.Film.{FilmData};

@@ -1,4 +1,4 @@
-// A part of the store.
+// A shard (drawer) of the store.
 ghost use Rattle.std.specs.Prelude.{◌≡◌, ◌-◌, ◌^◌, ◌<◌, ◌≤◌, ◌⊎◌, length, vec_len, IfSome};
 ghost use Rattle.strip_bound.specs.Bounds.{bound};
 ghost use Rattle.strip_store.specs.Entry.{IsEntry};
@@ -12,13 +12,13 @@ use strip_mask::Mask;
 
 const MULTIPLIER: u64 = 0xC2B2_AE3D_27D4_EB4F;
 
-/// How many drawers there are.
+/// Number of drawers.
 pub(crate) const DRAWERS: u64 = 64;
 
-/// How many hashes fall to each drawer.
+/// Number of hash values of each drawer.
 const HASHES: u64 = 1 << 58;
 
-/// A part of the store: a table in which each set has one place, and the last set that came there stands.
+/// A drawer: a direct-mapped cache, in which a set's place holds the set stored there last.
 #[derive(Drop)]
 pub(crate) struct Drawer<N: Bounded> {
     entries: Vec<Entry>,
@@ -39,7 +39,7 @@ impl<N: Bounded> Model for Drawer<N> {
 }
 
 impl<N: Bounded> Drawer<N> {
-    /// A drawer of 2^bits entries, 24 bytes each, that know nothing.
+    /// Makes a drawer of 2^bits entries, 24 bytes each, with the trivial bound 0. It fails only if memory runs out.
     pub(crate) fn new(alloc: Global, bits: u32) -> Result<Drawer<N>, Memory>
         requires { bits ≤ 15 }
     {
@@ -55,7 +55,7 @@ impl<N: Bounded> Drawer<N> {
         })
     }
 
-    /// What is kept of the set, where it is as much as is needed or the whole bound.
+    /// Returns the cached value of the set, if it is at least `need` or the whole bound.
     pub(crate) fn find(&self, set: Mask, need: u64) -> Option<u64>
         ensures most { IfSome result (λ value. value ≤ bound N.kind N.film set.0) }
         ensures reaches { IfSome result (λ value. (need ≤ value) ⊎ (value ≡ bound N.kind N.film set.0)) }
@@ -68,7 +68,7 @@ impl<N: Bounded> Drawer<N> {
         }
     }
 
-    /// Keeps an entry at the place of its set, where none stands there that says as much of the set.
+    /// Stores an entry at the place of its set, unless the entry there says at least as much of the same set.
     pub(crate) fn put(&mut self, entry: Entry)
         requires { IsEntry N.kind N.film entry }
     {
@@ -78,7 +78,7 @@ impl<N: Bounded> Drawer<N> {
         }
     }
 
-    /// The place of the set's entry.
+    /// Returns the place of the set's entry.
     fn place(&self, set: Mask) -> usize
         ensures { result < length self.now }
     {
@@ -86,15 +86,15 @@ impl<N: Bounded> Drawer<N> {
     }
 }
 
-/// The drawer of the set, by the top bits of its hash. The place in the drawer goes by those that follow.
+/// Returns the drawer of the set, by the top bits of its hash. The following bits give the place in the drawer.
 pub(crate) fn drawer_of(set: Mask) -> usize
     ensures { result < 64 }
 {
     (hash_of(set) / HASHES) as usize
 }
 
-/// The hash of a set, another one than that by which the memos of workers go, so that sets that have one
-/// place there seldom have one here.
+/// Returns the hash of a set. It differs from the hash of the memos, so that sets that collide there seldom collide
+/// here.
 fn hash_of(set: Mask) -> u64 {
     set.0.wrapping_mul(MULTIPLIER)
 }

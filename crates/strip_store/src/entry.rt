@@ -1,7 +1,7 @@
-// What is kept of a set.
+// Entries of the store.
 
-/// What is kept of a set: a number that is at most its static bound, in units of money, and whether it is
-/// the whole bound.
+/// A cached value of a set: a number that is at most its static bound, in units of money, and whether it is the whole
+/// bound.
 #[derive(Clone, Copy, Debug)]
 pub(crate) struct Entry {
     pub set: u64,
@@ -10,7 +10,7 @@ pub(crate) struct Entry {
 }
 
 impl Entry {
-    /// Whether this says no less of its set than the other entry, where that has the same set.
+    /// Returns whether this entry says at least as much as the other about the other's set.
     pub(crate) fn serves_for(&self, other: &Entry) -> bool {
         self.set == other.set && (self.is_whole || self.value > other.value)
     }

@@ -1,5 +1,5 @@
-//! A store of static bounds that the workers of a search share: what one of them asked for, all of them
-//! find. It lies in 64 drawers, each behind a lock, and no bound is worked out behind one. Only `reach` waits.
+//! A cache of static bounds that the workers of a search share (store). It has 64 shards (drawers), each behind a lock.
+//! Only `reach` waits for a lock, and no bound is computed while one is held.
 #![tactic(auto)]
 
 mod bounded;

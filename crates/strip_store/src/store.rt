@@ -1,4 +1,4 @@
-// The drawers, each behind its lock.
+// The shared cache of static bounds (store).
 ghost use Rattle.std.specs.Prelude.{◌≡◌, ◌≤◌, ◌⊎◌, true, vec_len};
 ghost use Rattle.strip_film.specs.Film.{LiesIn};
 ghost use Rattle.strip_bound.specs.Bounds.{bound};
@@ -15,8 +15,8 @@ use strip_io::Memory;
 use strip_kind::Kind;
 use strip_mask::Mask;
 
-/// A store of static bounds that workers share: 64 drawers, each behind its own lock. A set has one place,
-/// and the last set that came there stands.
+/// A store of static bounds that workers share: 64 drawers, each behind its own lock. A set's place holds the set
+/// stored there last.
 #[derive(Drop)]
 pub struct Store<N: Bounded> {
     drawers: Vec<Mutex<Drawer<N>>>,
@@ -24,9 +24,9 @@ pub struct Store<N: Bounded> {
 }
 
 impl<N: Bounded> Store<N> {
-    /// A store that knows nothing yet. It takes all the memory that it ever needs: for groups and arrivals
-    /// 2^20 entries of 24 bytes, some 25 MB, and at most one for each set where the film has few; for the
-    /// kinds that are cheap to ask for 64 entries, which stay as they are.
+    /// Makes an empty store. It allocates all memory of the store, and fails only if memory runs out. For groups and
+    /// arrivals it has 2^20 entries of 24 bytes, some 25 MB, or fewer if the film has few sets. For the cheap kinds it
+    /// has 64 entries, which are not used.
     pub fn new<F: Fn(u64, u64) -> u64>(
         alloc: Global,
         kept: &StoredBound<F>,
@@ -40,10 +40,10 @@ impl<N: Bounded> Store<N> {
         Ok(Store { drawers })
     }
 
-    /// A number that is at most the static bound of the set, in units of money, and at least `need` or the
-    /// bound: the one that is kept, or else one that is asked for and then kept for all workers. It waits
-    /// for the lock of the set's drawer, and asks while it has none. The bounds that are cheap to ask for
-    /// are asked for each time.
+    /// Returns a number that is at most the static bound of the set, in units of money, and at least `need` or the
+    /// bound. It returns the cached value, if that suffices, or computes a value and caches it for all workers. It
+    /// waits for the lock of the set's drawer, and holds no lock while it computes. Bounds of the cheap kinds are
+    /// computed each time.
     pub fn reach<R: Wait, F: Fn(u64, u64) -> u64>(
         &self,
         rt: &R,
@@ -72,7 +72,7 @@ impl<N: Bounded> Store<N> {
     }
 }
 
-/// What the stored bound answers of the set, asked for as much as is needed.
+/// Computes an entry of the set from the stored bound, up to `need`.
 fn asked<F: Fn(u64, u64) -> u64>(kept: &StoredBound<F>, q: Mask, need: u64) -> Entry
     requires keeps { Keeps (F.pre kept.now.f) (F.post kept.now.f) kept.now.kind kept.now.film.now }
     requires lies { LiesIn kept.now.film.now q.0 }
@@ -82,7 +82,7 @@ fn asked<F: Fn(u64, u64) -> u64>(kept: &StoredBound<F>, q: Mask, need: u64) -> E
 {
     let needed = match kept.kind() {
         Kind::Arrivals => need,
-        // The whole bound is answered whatever is asked for.
+        // These kinds always compute the whole bound.
         Kind::Plain | Kind::Pairs | Kind::Groups => u64::MAX,
     };
     let value = kept.reach(q, needed);
@@ -93,8 +93,8 @@ fn asked<F: Fn(u64, u64) -> u64>(kept: &StoredBound<F>, q: Mask, need: u64) -> E
     }
 }
 
-/// How many bits tell a set's place in its drawer: at most one entry for each set in all drawers together,
-/// and at least one a drawer.
+/// Returns the number of hash bits that give a set's place in its drawer. All drawers together have at most one entry
+/// for each set, but each has at least one.
 fn bits_of(kind: Kind, scenes: usize) -> u32
     ensures { result ≤ 14 }
 {
@@ -104,7 +104,7 @@ fn bits_of(kind: Kind, scenes: usize) -> u32
     scenes.saturating_sub(6).min(14) as u32
 }
 
-/// Whether the bound costs too little to be kept.
+/// Returns whether the bound is too cheap to be cached.
 fn is_cheap(kind: Kind) -> bool {
     match kind {
         Kind::Plain | Kind::Pairs => true,

@@ -1,5 +1,8 @@
-//! The table that the workers of a search share: sixteen stripes, each behind a lock, beside which stands
-//! what makes known the line of each of its entries. Only `Stripes::probe` and `note` wait.
+//! The transposition table that the workers of a search share: 16 shards (stripes), each behind a lock. Beside each
+//! stripe stands a ghost copy of a pass that knows the lines of its entries. Only `Stripes::probe` and `note` wait.
+//!
+//! A law (`laws`, `Shelf::keeps_true_bounds`) is a function that does nothing when it runs: its contract is a theorem
+//! that a caller obtains by calling it.
 #![tactic(auto)]
 
 pub mod laws;

@@ -1,7 +1,8 @@
-// Of which book the entries of a table are.
+// The book to which the entries of a table belong.
 use std::marker::Brand;
 
-/// Names a book by its words and their search, so that a lock's contents can be told of them.
+/// A type that names a book, by its words and their search. It lets the invariant of a lock's contents refer to the
+/// book.
 pub trait Named {
     ghost use Rattle.strip_book.specs.Pass.{TableData};
 

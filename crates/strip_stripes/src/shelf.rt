@@ -1,4 +1,4 @@
-// A stripe, and what makes its lines known.
+// A stripe with the knowledge of its lines.
 ghost use Rattle.std.specs.Prelude.{◌≡◌, ◌<◌, [], length, replicate, slice_set, IfOk};
 ghost use Rattle.strip_table.specs.Home.{bucket_of};
 ghost use Rattle.strip_table.specs.Bucket.{Puts, find_in};
@@ -17,7 +17,7 @@ use strip_io::Memory;
 use strip_table::Stripe;
 use strip_table::laws::the_entry_of_a_set_is_found;
 
-/// A stripe of the table, and a copy of a pass that knows the line of each of its entries, with a bound at
+/// A stripe of the table, and a copy of a pass's knowledge. The copy knows the line of each entry, with a bound at
 /// least as great.
 #[derive(Drop)]
 pub struct Shelf<N: Named> {
@@ -39,7 +39,8 @@ impl<N: Named> Model for Shelf<N> {
 }
 
 impl<N: Named> Shelf<N> {
-    /// A shelf of so many empty buckets, at least 1. It takes all the memory that the shelf ever needs.
+    /// Makes a shelf of `buckets` empty buckets, at least 1. It allocates all memory of the shelf, and fails only if
+    /// memory runs out.
     pub fn new(
         alloc: Global,
         book: &Book,
@@ -61,8 +62,8 @@ impl<N: Named> Shelf<N> {
         })
     }
 
-    /// Each entry is at most the cost of finishing its set, whenever a lock gives the shelf out. It does
-    /// nothing: a caller that needs this makes this call first.
+    /// A law: each entry is at most the cost of finishing its set, whenever the shelf is taken from its lock. The call
+    /// does nothing when it runs.
     pub fn keeps_true_bounds(&self)
         ensures { AreTrue N.table self.now }
     {
@@ -70,7 +71,7 @@ impl<N: Named> Shelf<N> {
         the_entries_of_a_shelf_are_true();
     }
 
-    /// The entry of the set, where its bucket has one, whose line the pass then knows. Its bound is true.
+    /// Looks up the set's entry, whose bound is a valid lower bound. If there is one, the pass then knows its line.
     pub fn probe(&mut self, book: &Book, pass: &mut BookPass, set: u64) -> Probe
         requires named { table_of book.now ≡ N.table }
         requires pass { IsPassOf book.now pass.old }
@@ -92,7 +93,7 @@ impl<N: Named> Shelf<N> {
         }
     }
 
-    /// Puts a line that the pass knows into the bucket of its set, and answers what that did.
+    /// Inserts a line that the pass knows into the bucket of its set, and returns the effect.
     pub fn note(&mut self, book: &Book, pass: &mut BookPass, line: &Known) -> Noted
         requires named { table_of book.now ≡ N.table }
         requires pass { IsPassOf book.now pass.old }

@@ -1,4 +1,4 @@
-// The stripes, each behind its lock.
+// The shared table: stripes behind locks.
 ghost use Rattle.std.specs.Prelude.{◌≡◌, ◌≤◌, vec_len};
 ghost use Rattle.strip_hand.specs.Hand.{Knows};
 ghost use Rattle.strip_book.specs.Pass.{IsPassOf, known, table_of};
@@ -13,7 +13,7 @@ use strip_film::{Known, Noted, Probe};
 use strip_io::Memory;
 use strip_table::{PLACES, STRIPES, stripe_of};
 
-/// The table that workers share: sixteen shelves, each behind its own lock.
+/// The table that workers share: 16 shelves, each behind its own lock.
 #[derive(Drop)]
 pub struct Stripes<N: Named> {
     shelves: Vec<Mutex<Shelf<N>>>,
@@ -21,8 +21,8 @@ pub struct Stripes<N: Named> {
 }
 
 impl<N: Named> Stripes<N> {
-    /// An empty table of so many entries, 64 to 4,194,304, in buckets of four. It takes all the memory that
-    /// the table ever needs, at most 24 bytes an entry.
+    /// Makes an empty table of `entries` entries, 64 to 4,194,304, in buckets of four. It allocates all memory of the
+    /// table, at most 24 bytes for each entry, and fails only if memory runs out.
     pub fn new(
         alloc: Global,
         book: &Book,
@@ -44,8 +44,8 @@ impl<N: Named> Stripes<N> {
         Ok(Stripes { shelves })
     }
 
-    /// Asks for an entry of the set, whose bound is at most the cost of finishing it. A line that it names the
-    /// pass then knows, with this set and a bound at least as great. It waits for the lock of the set's stripe.
+    /// Looks up the set's entry, whose bound is at most the cost of finishing the set. If there is one, the pass then
+    /// knows its line, with this set and a bound at least as great. It waits for the lock of the set's stripe.
     pub fn probe<R: Wait>(&self, rt: &R, book: &Book, pass: &mut BookPass, set: u64) -> Probe
         requires named { table_of book.now ≡ N.table }
         requires pass { IsPassOf book.now pass.old }
@@ -57,7 +57,8 @@ impl<N: Named> Stripes<N> {
         shelf.lock(rt).probe(book, pass, set)
     }
 
-    /// Notes a line that the pass knows, where others may find it. It waits for the lock of the set's stripe.
+    /// Inserts a line that the pass knows, so that others can find it, and returns the effect. It waits for the lock of
+    /// the set's stripe.
     pub fn note<R: Wait>(&self, rt: &R, book: &Book, pass: &mut BookPass, line: &Known) -> Noted
         requires named { table_of book.now ≡ N.table }
         requires pass { IsPassOf book.now pass.old }

@@ -1,4 +1,4 @@
-// The entries of a bucket, as a value.
+// Copies of a bucket's entries.
 ghost use Rattle.std.specs.Prelude.{◌≡◌, ◌==◌, ◌≤◌, length};
 ghost use Rattle.std.specs.List.{slice_get};
 ghost use Rattle.strip_table.specs.declared.slot.TheConstants.{PLACES};
@@ -6,7 +6,7 @@ ghost use Rattle.strip_table.specs.declared.slot.TheConstants.{PLACES};
 use crate::slot::{PLACES, Slot};
 use strip_film::Known;
 
-/// The entries that a bucket had when it was asked for: at most four, each of another set. It is a copy.
+/// A copy of a bucket's entries: at most four, each of a different set.
 #[derive(Clone, Copy, Debug)]
 pub struct Bucket {
     pub(crate) slot: Slot,
@@ -18,21 +18,21 @@ pub struct Bucket {
 impl Bucket {
     ghost use Rattle.strip_table.specs.Shown.{bucket_data};
 
-    /// How many entries there are.
+    /// Returns the number of entries.
     pub fn len(&self) -> usize
         ensures { result ≡ length (bucket_data self.now) }
     {
         self.count
     }
 
-    /// Whether there is none.
+    /// Returns whether there are no entries.
     pub fn is_empty(&self) -> bool
         ensures { result ≡ (length (bucket_data self.now) == 0) }
     {
         self.count == 0
     }
 
-    /// The entry at a place, the first at 0; none from `len` on.
+    /// Returns the entry at a place, counted from 0, or none from `len` on.
     pub fn get(&self, place: usize) -> Option<Known>
         ensures { result ≡ slice_get (bucket_data self.now) place }
     {

@@ -1,5 +1,8 @@
-//! A table that keeps for sets of scenes a bound on the cost of finishing them, and forgets where it is
-//! full.
+//! A transposition table, 4-way set-associative with replacement. For sets of remaining scenes it has a line that
+//! bounds the cost of finishing them. It has 16 shards (stripes); a stripe is a list of buckets of four entries.
+//!
+//! A law (`laws`, `Stripe::keeps_limits`) is a function that does nothing when it runs: its contract is a theorem that
+//! a caller obtains by calling it.
 #![tactic(auto)]
 
 mod bucket;

@@ -1,4 +1,4 @@
-// The places of a bucket, and what a known line does to them.
+// The entries of a bucket in memory, and the insertion (note) of a line.
 ghost use Rattle.std.specs.Prelude.{◌≡◌, ◌==◌, ℕ, ◌+◌, ◌<◌, ◌≤◌, [], ◌∷◌, ◌++◌, length, slice_index, slice_set, take};
 ghost use Rattle.std.specs.List.{position, remove};
 ghost use Rattle.strip_mask.specs.Set.{size};
@@ -9,17 +9,17 @@ use std::simd::prelude::*;
 use strip_film::{Known, Noted};
 use strip_mask::Mask;
 
-/// How many entries a bucket has at most.
+/// Maximum number of entries of a bucket.
 pub const PLACES: usize = 4;
 
-/// The sets of a bucket's entries, and their bounds. What stands behind the entries counts for nothing.
+/// The sets of a bucket's entries, and their bounds. Values behind the last entry have no meaning.
 #[derive(Clone, Copy, Debug)]
 pub(crate) struct Slot {
     pub(crate) sets: [u64; PLACES],
     pub(crate) bounds: [u64; PLACES],
 }
 
-/// The place of the set among the first `count`.
+/// Returns the place of the set among the first `count` entries.
 pub(crate) fn place_of(sets: &[u64; PLACES], count: u8, set: u64) -> Option<usize>
     requires { count ≤ PLACES }
     ensures { result ≡ position (λ other. other == set) (take count sets.now) }
@@ -38,7 +38,7 @@ pub(crate) fn place_of(sets: &[u64; PLACES], count: u8, set: u64) -> Option<usiz
     }
 }
 
-/// The place of the set with the fewest scenes, the first of those that have as few.
+/// Returns the place of the set with the fewest scenes, or the first of them.
 fn fewest(sets: &[u64; PLACES]) -> usize
     ensures within { result < PLACES }
     ensures fewest { (place : ℕ) → place < PLACES
@@ -55,7 +55,7 @@ fn fewest(sets: &[u64; PLACES]) -> usize
     fewest
 }
 
-/// Writes the known line at a place.
+/// Writes the line at a place.
 fn write(slot: &mut Slot, lines: &mut [u32; PLACES], place: usize, known: &Known)
     requires { place < PLACES }
     ensures { entries_of slot.new.sets slot.new.bounds lines.new
@@ -66,7 +66,7 @@ fn write(slot: &mut Slot, lines: &mut [u32; PLACES], place: usize, known: &Known
     lines[place] = known.line;
 }
 
-/// Takes out what stands at a place, closes up what stands behind it, and puts `last` behind that.
+/// Removes the value at a place, moves the later ones down, and puts `last` at the end.
 fn close_up<T: Copy>(list: &mut [T; PLACES], place: usize, last: T)
     requires { place < PLACES }
     ensures { list.new ≡ remove list.old place ++ last ∷ [] }
@@ -77,7 +77,7 @@ fn close_up<T: Copy>(list: &mut [T; PLACES], place: usize, last: T)
     list[PLACES - 1] = last;
 }
 
-/// The entry of the set at this place, where its bound is less than the known one, becomes that.
+/// Replaces the set's entry at this place by the line, if the line's bound is greater.
 fn raise(
     slot: &mut Slot,
     lines: &mut [u32; PLACES],
@@ -97,7 +97,7 @@ fn raise(
     Noted::Raised
 }
 
-/// The entry with the fewest scenes of a full bucket leaves for the known one.
+/// Replaces the entry with the fewest scenes of a full bucket by the line.
 fn evict(slot: &mut Slot, lines: &mut [u32; PLACES], known: &Known) -> Noted
     requires { position (λ set. set == known.now.set) slot.old.sets ≡ None }
     ensures { Puts (used slot.old lines.old PLACES) known.now (used slot.new lines.new PLACES) result }
@@ -113,7 +113,7 @@ fn evict(slot: &mut Slot, lines: &mut [u32; PLACES], known: &Known) -> Noted
     left
 }
 
-/// What a known line does to the bucket of these places, the first `count` of which are used.
+/// Inserts a line into the bucket, whose first `count` places are used.
 pub(crate) fn put_in(
     slot: &mut Slot,
     lines: &mut [u32; PLACES],

@@ -1,4 +1,4 @@
-// A stripe of the table.
+// Stripes (shards) of the transposition table.
 ghost use Rattle.std.specs.Prelude.{◌≡◌, ℕ, ◌<◌, [], length, replicate, slice_set, IfOk};
 ghost use Rattle.strip_table.specs.Home.{bucket_of};
 ghost use Rattle.strip_table.specs.Bucket.{Puts, find_in};
@@ -12,11 +12,11 @@ use std::marker::Model;
 use strip_film::{Known, Noted};
 use strip_io::Memory;
 
-/// A list of buckets, each of which has at most four entries of sets that belong to it. Each call but `new`
-/// takes the same short time, and no memory.
+/// A stripe: a list of buckets, each with at most four entries of sets that belong to it. Every method but `new` takes
+/// constant time and allocates no memory.
 #[derive(Debug, Drop)]
 pub struct Stripe {
-    // By bucket. The sets and bounds, which are asked for most, stand together.
+    // Indexed by bucket. Sets and bounds, which lookups read most, lie together.
     slots: Vec<Slot>,
     lines: Vec<[u32; PLACES]>,
     counts: Vec<u8>,
@@ -37,8 +37,8 @@ impl Model for Stripe {
 impl Stripe {
     ghost use Rattle.strip_table.specs.Shown.{bucket_data};
 
-    /// A stripe of so many empty buckets, at least 1. It takes all the memory that the stripe ever needs, 81
-    /// bytes a bucket, and fails only where that runs out.
+    /// Makes a stripe of `buckets` empty buckets, at least 1. It allocates all memory of the stripe, 81 bytes for each
+    /// bucket, and fails only if memory runs out.
     pub fn new(alloc: Global, buckets: u32) -> Result<Stripe, Memory>
         requires { 0 < buckets }
         ensures { IfOk result (λ stripe. stripe ≡ replicate buckets []) }
@@ -54,21 +54,21 @@ impl Stripe {
         })
     }
 
-    /// What every stripe keeps. It does nothing: a caller that needs it makes this call first.
+    /// A law: every stripe is valid. The call does nothing when it runs.
     pub fn keeps_limits(&self)
         ensures { IsStripe self.now }
     {
         let _ = &self.slots;
     }
 
-    /// How many buckets there are.
+    /// Returns the number of buckets.
     pub fn buckets(&self) -> u32
         ensures { result ≡ length self.now }
     {
         self.slots.len() as u32
     }
 
-    /// The entry of the set, if there is one.
+    /// Looks up the entry of the set (probe).
     pub fn find(&self, set: u64) -> Option<Known>
         ensures { result ≡ find_in (home self.now set) set }
     {
@@ -83,10 +83,9 @@ impl Stripe {
         })
     }
 
-    /// Notes a known line in the bucket of its set, and answers what that did: the entry of the set stays
-    /// where its bound is as great, and else becomes the new line; where there is none, the new line comes
-    /// behind the entries, and in a full bucket that with the fewest scenes, the first of equals, leaves for
-    /// it.
+    /// Inserts a line into the bucket of its set (note), and returns the effect. The set's entry stays if its bound is
+    /// at least as great; else the line replaces it. A new set is appended. In a full bucket it replaces the entry with
+    /// the fewest scenes, or the first of them.
     pub fn put(&mut self, known: &Known) -> Noted
         ensures puts { Puts (home self.old known.now.set) known.now (home self.new known.now.set) result }
         ensures others { self.new ≡ slice_set self.old (bucket_of known.now.set (length self.old))
@@ -101,7 +100,7 @@ impl Stripe {
         )
     }
 
-    /// The entries of the bucket of this number, which is below that of the buckets, as they stand now.
+    /// Returns a copy of the entries of bucket `bucket`, which must be below the number of buckets.
     pub fn entries(&self, bucket: u32) -> Bucket
         requires { bucket < length self.now }
         ensures { bucket_data result ≡ bucket_at self.now bucket }
@@ -114,7 +113,7 @@ impl Stripe {
         }
     }
 
-    /// The number of the bucket that the set belongs to.
+    /// Returns the number of the set's bucket.
     fn home(&self, set: u64) -> usize
         ensures bucket { result ≡ bucket_of set (length self.now) }
         ensures below { result < length self.now }

@@ -1,4 +1,4 @@
-// Which events may come.
+// The check whether an event is allowed.
 ghost use Rattle.std.specs.Prelude.{◌≡◌, ◌≢◌, ◌↔◌, ℕ, ◌+◌, ◌<◌, ◌≤◌, true, length, map, slice_index_or, IsTrue, Some};
 ghost use Rattle.std.specs.Option.{option_map};
 ghost use Rattle.strip_mask.specs.Set.{has, without};
@@ -29,9 +29,8 @@ use strip_mask::Mask;
 use strip_rule::open_firsts;
 
 impl World {
-    /// Whether the event may come now: its worker is one of the world's, and what it does is justified. A
-    /// path is walked anew, and a bound takes a turn for each line with each open first of its set. It takes
-    /// no memory.
+    /// Returns whether the event is allowed: its worker exists, and its effect is justified. A path is checked from its
+    /// start. For a bound it goes over the lines for each open first of the set. It allocates no memory.
     pub fn allows<F: Fn(u64, u64) -> u64>(&self, kept: &StoredBound<F>, event: &Event) -> bool
         requires sound { IsSound self.now }
         requires keeps { Keeps (F.pre kept.now.f) (F.post kept.now.f) kept.now.kind kept.now.film.now }
@@ -41,14 +40,14 @@ impl World {
         self.has_worker(actor_of(event)) && self.is_fitting(kept, event)
     }
 
-    /// Whether a worker has this number.
+    /// Returns whether worker `who` exists.
     fn has_worker(&self, who: u32) -> bool
         ensures { IsTrue result ↔ (who < length self.now.workers) }
     {
         (who as usize) < self.workers.len()
     }
 
-    /// Whether the event of one of the workers may come now.
+    /// Returns whether the event of an existing worker is allowed.
     fn is_fitting<F: Fn(u64, u64) -> u64>(&self, kept: &StoredBound<F>, event: &Event) -> bool
         requires sound { IsSound self.now }
         requires keeps { Keeps (F.pre kept.now.f) (F.post kept.now.f) kept.now.kind kept.now.film.now }
@@ -66,7 +65,7 @@ impl World {
         }
     }
 
-    /// Whether the worker may enlist the path in the part.
+    /// Returns whether the worker may enlist the path in the part.
     fn may_enlist<F: Fn(u64, u64) -> u64>(
         &self,
         kept: &StoredBound<F>,
@@ -89,7 +88,7 @@ impl World {
             && (part == 0 || lets_through(worker.asked, path, worker.told))
     }
 
-    /// Whether the worker claimed the part, and the path lies in it.
+    /// Returns whether the worker claimed the part, and the path lies in it.
     fn is_in_part_of(&self, who: u32, part: u32, path: &Path) -> bool
         requires { IsSound self.now }
         ensures { IsTrue result ↔ ((part < length self.now.parts) × ((part_at self.now part).claimer ≡ Some who)
@@ -104,8 +103,8 @@ impl World {
         }
     }
 
-    /// Whether the path comes after the last one of the part, if there is one. For each scene that they
-    /// begin with alike a comparison, and two ranks.
+    /// Returns whether the path comes after the part's last path, if there is one. It compares the scenes that both
+    /// begin with, and two ranks.
     fn comes_after<F: Fn(u64, u64) -> u64>(
         &self,
         kept: &StoredBound<F>,
@@ -126,7 +125,7 @@ impl World {
         }
     }
 
-    /// Whether the path with the static bound of what remains is below a cost.
+    /// Returns whether the path's pay plus the static bound of the rest is below a cost.
     fn is_below<F: Fn(u64, u64) -> u64>(
         &self,
         kept: &StoredBound<F>,
@@ -142,7 +141,7 @@ impl World {
         self.bound(kept, path.rest()) < cost.saturating_sub(path.paid())
     }
 
-    /// Whether the line may be raised to the bound.
+    /// Returns whether the line may be raised to the bound.
     fn may_raise<F: Fn(u64, u64) -> u64>(
         &self,
         kept: &StoredBound<F>,
@@ -160,8 +159,8 @@ impl World {
         }
     }
 
-    /// Whether the bound is justified for the set by the lines: the static one reaches it, or each open
-    /// first's step with what is known of the rest does.
+    /// Returns whether the lines justify the bound of the set. Its static bound must reach it, or the step plus the
+    /// bound known of the rest for each open first.
     fn is_justified<F: Fn(u64, u64) -> u64>(
         &self,
         kept: &StoredBound<F>,
@@ -178,8 +177,8 @@ impl World {
             || !set.is_empty() && self.each_first_reaches(kept, set, bound)
     }
 
-    /// Whether each open first's step with what is known of the rest reaches the bound. For each open first
-    /// a step, a static bound and a turn for each line.
+    /// Returns whether the step plus the bound known of the rest reaches `bound` for each open first. For each first it
+    /// takes a step cost, a static bound and a pass over the lines.
     fn each_first_reaches<F: Fn(u64, u64) -> u64>(
         &self,
         kept: &StoredBound<F>,
@@ -203,8 +202,8 @@ impl World {
         true
     }
 
-    /// What is known of the set: the greatest of its static bound and the bounds of the lines with this set,
-    /// in units of money. One turn for each line.
+    /// Returns the bound known of the set: the greatest of its static bound and its lines' bounds, in units of money.
+    /// Time is linear in the number of lines.
     pub fn known<F: Fn(u64, u64) -> u64>(&self, kept: &StoredBound<F>, set: Mask) -> u64
         requires keeps { Keeps (F.pre kept.now.f) (F.post kept.now.f) kept.now.kind kept.now.film.now }
         requires search { GoesBy kept.now.kind kept.now.film.now self.now.search }
@@ -220,7 +219,7 @@ impl World {
         greatest
     }
 
-    /// The static bound of the set.
+    /// Returns the static bound of the set.
     pub(crate) fn bound<F: Fn(u64, u64) -> u64>(&self, kept: &StoredBound<F>, set: Mask) -> u64
         requires keeps { Keeps (F.pre kept.now.f) (F.post kept.now.f) kept.now.kind kept.now.film.now }
         requires search { GoesBy kept.now.kind kept.now.film.now self.now.search }
@@ -230,7 +229,8 @@ impl World {
         kept.at(set)
     }
 
-    /// Whether the table may be told of the known line.
+    /// Returns whether the line may be inserted into the table: its bound is at most that of the recorded line with its
+    /// number and set.
     fn may_note(&self, known: &Known) -> bool
         ensures { IsTrue result ↔ Knows self.now.lines known.now }
     {
@@ -241,7 +241,7 @@ impl World {
     }
 }
 
-/// The worker of an event.
+/// Returns the worker of an event.
 fn actor_of(event: &Event) -> u32
     ensures { result ≡ actor_of event.now }
 {
@@ -256,7 +256,7 @@ fn actor_of(event: &Event) -> u32
     }
 }
 
-/// Whether the set is one of scenes of the film.
+/// Returns whether the set is a set of the film's scenes.
 fn lies_in_film(film: &Film, set: Mask) -> bool
     ensures { IsTrue result ↔ LiesIn film.now set.0 }
 {
@@ -264,14 +264,15 @@ fn lies_in_film(film: &Film, set: Mask) -> bool
     set.lies_below(film.scenes() as u32)
 }
 
-/// How many scenes a task has.
+/// Returns the number of scenes of a task.
 fn depth_of(tasks: &[Path]) -> usize
     ensures { result ≡ length (slice_index_or (map path_data tasks.now) 0 no_task).scenes }
 {
     tasks.first().map_or(0, |task| task.scenes().len())
 }
 
-/// Whether the path lies in the part: it is shorter than the tasks, or begins with the part's task.
+/// Returns whether the path lies in the part: in part 0 if it is shorter than the tasks, in others if it begins with
+/// the part's task.
 fn lies_in(depth: usize, tasks: &[Path], part: u32, path: &Path) -> bool
     requires { part ≤ length tasks.now }
     ensures { result ≡ lies_in depth (map path_data tasks.now) part (path_data path.now) }
@@ -282,7 +283,7 @@ fn lies_in(depth: usize, tasks: &[Path], part: u32, path: &Path) -> bool
     path.scenes().starts_with(tasks[part as usize - 1].scenes())
 }
 
-/// Whether the last probe was of what remains after the path, and doesn't rule the path out.
+/// Returns whether the last probe asked for the set that the path leaves, and its answer does not rule the path out.
 fn lets_through(asked: Option<Asked>, path: &Path, told: u64) -> bool
     ensures { IsTrue result ↔ LetsThrough (option_map probe_data asked) (path_data path.now) told }
 {
@@ -292,7 +293,7 @@ fn lets_through(asked: Option<Asked>, path: &Path, told: u64) -> bool
     }
 }
 
-/// Whether the answer to a probe doesn't rule the path out.
+/// Returns whether the answer to a probe leaves the path below the cost `told`.
 fn lets(answer: Probe, path: &Path, told: u64) -> bool
     ensures { IsTrue result ↔ Lets answer (path_data path.now) told }
 {

@@ -1,4 +1,4 @@
-// What a worker does to the world, one event each.
+// The effects of the seven events.
 ghost use Rattle.std.specs.Prelude.{◌≡◌, ◌<◌, ◌^◌, [], ◌∷◌, ◌++◌, length};
 ghost use Rattle.strip_film.specs.Shown.{path_data};
 ghost use Rattle.strip_bound.specs.Bounds.{bound as static_bound};
@@ -12,7 +12,7 @@ use strip_mask::Mask;
 use strip_table::stripe_of;
 
 impl World {
-    /// Tells worker `who` the least cost so far.
+    /// Tells worker `who` the least cost (look).
     pub(crate) fn look_as(&mut self, who: u32) -> u64
         requires { who < length self.old.workers }
         ensures world { self.new ≡ looked self.old who }
@@ -22,7 +22,7 @@ impl World {
         self.least
     }
 
-    /// Offers a complete path, which worker `who` keeps where it is its best, and tells it the least cost.
+    /// Offers a complete path, which worker `who` keeps if it is its best, and tells it the least cost.
     pub(crate) fn offer_as(&mut self, who: u32, path: &Path) -> u64
         requires { who < length self.old.workers }
         ensures world { self.new ≡ offered self.old who (path_data path.now) }
@@ -33,7 +33,7 @@ impl World {
         self.least
     }
 
-    /// Makes the next task, or the front, that of worker `who`, where one is left.
+    /// Gives the next part to worker `who`, if one is left. Part 0 is the front; the others are tasks.
     pub(crate) fn claim_as(&mut self, who: u32) -> Option<u32>
         requires { length self.old.parts < 2 ^ 32 }
         ensures world { self.new ≡ claimed self.old who }
@@ -48,8 +48,8 @@ impl World {
         Some(task)
     }
 
-    /// Enlists a path in a task: a line of what remains after it with `bound`, its static bound, unless
-    /// there are as many lines as there may be.
+    /// Enlists a path in a part: makes a line of the remaining set with its static bound `bound`, unless the line
+    /// budget is used up.
     pub(crate) fn enlist_as(&mut self, task: u32, path: &Path, bound: u64) -> Listed
         requires sound { IsSound self.old }
         requires task { task < length self.old.parts }
@@ -66,7 +66,7 @@ impl World {
         Listed::Line(lines)
     }
 
-    /// Raises the bound of a line to this one, where that is greater.
+    /// Raises a line's bound to `bound`, if that is greater.
     pub(crate) fn raise_as(&mut self, line: u32, bound: u64)
         requires { line < length self.old.lines }
         ensures { self.new ≡ raised_in self.old line bound }
@@ -75,7 +75,7 @@ impl World {
         line.bound = line.bound.max(bound);
     }
 
-    /// Asks the table for the entry of a set.
+    /// Looks up a set in the table for worker `who` (probe).
     pub(crate) fn probe_as(&mut self, who: u32, set: Mask) -> Probe
         requires sound { IsSound self.old }
         requires who { who < length self.old.workers }
@@ -87,7 +87,7 @@ impl World {
         answer
     }
 
-    /// Puts a known line into the table.
+    /// Inserts a known line into the table for worker `who` (note).
     pub(crate) fn note_as(&mut self, who: u32, known: &Known) -> Noted
         requires sound { IsSound self.old }
         requires who { who < length self.old.workers }
@@ -97,7 +97,7 @@ impl World {
         self.stripes[stripe_of(known.set) as usize].put(known)
     }
 
-    /// What the table has of a set.
+    /// Returns the table's entry of a set.
     fn ask(&self, set: Mask) -> Probe
         requires { IsSound self.now }
         ensures { result ≡ found self.now set.0 }
@@ -108,7 +108,7 @@ impl World {
         }
     }
 
-    /// Adds a line to the room that is left for it.
+    /// Appends a line, for which room is reserved.
     fn push_line(&mut self, set: Mask, bound: u64)
         requires { length self.old.lines < self.old.search.cap }
         ensures { self.new ≡ record self.old { lines = self.old.lines ++ record { set = set.0; bound = bound } ∷ [] } }

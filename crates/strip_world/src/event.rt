@@ -1,10 +1,16 @@
-// What workers do to the world, and what they are replied.
+// Events, replies and limits.
 
 use strip_film::{Known, Listed, Noted, Path, Probe};
 
-/// One step of worker `who`: to look at the least cost, to offer a complete path, to claim the next task,
-/// to enlist a path in a task, to raise the bound of a line, to probe the table for a set, and to note a
-/// known line in it.
+/// An event: one action of worker `who` on the world:
+///
+/// - `Look`: asks for the least cost;
+/// - `Offer`: offers a complete path;
+/// - `Claim`: claims the next part;
+/// - `Enlist`: enlists a path in a part, which makes a line;
+/// - `Raise`: raises the bound of a line;
+/// - `Probe`: looks up a set in the table;
+/// - `Note`: inserts a known line into the table.
 #[derive(Clone, Copy, Debug)]
 pub enum Event {
     Look { who: u32 },
@@ -16,8 +22,8 @@ pub enum Event {
     Note { who: u32, known: Known },
 }
 
-/// What a step is replied: to a look and an offer the least cost, in units of money; to a claim the task,
-/// if one was left; to an enlistment the new line, or that there are as many as may be.
+/// The reply to an event. Look and offer get the least cost, in units of money. A claim gets the part, if one was left.
+/// Enlist gets the new line, or `Spent` if the line budget is used up. Probe and note get the table's answer.
 #[derive(Clone, Copy, Debug, PartialEq, Eq)]
 pub enum Reply {
     Least(u64),
@@ -28,8 +34,8 @@ pub enum Reply {
     Noted(Noted),
 }
 
-/// How many workers there are, at most 64, how many lines the book holds at most, at most 16,777,216, and
-/// how many entries the table has, 64 to 4,194,304.
+/// The limits of a world: the number of workers, at most 64, the line budget `cap`, at most 16,777,216, and the number
+/// of table entries, 64 to 4,194,304.
 #[derive(Clone, Copy, Debug, PartialEq, Eq)]
 pub struct Limits {
     pub workers: u32,

@@ -1,4 +1,4 @@
-// A world as the hand of its worker 0.
+// The world as the hand of its worker 0.
 ghost use Rattle.std.specs.Prelude.{◌≡◌, ◌≤◌, ℕ, Ok, length};
 ghost use Rattle.strip_film.specs.declared.shared.Listed.{Listed};
 ghost use Rattle.strip_film.specs.declared.shared.Noted.{Noted};
@@ -20,8 +20,7 @@ use strip_io::Memory;
 use strip_mask::Mask;
 use strip_table::laws::the_entry_of_a_set_is_found;
 
-/// Each call is the event of the same name by worker 0. It takes no memory, and but for a search of the
-/// table's bucket, the same short time always.
+/// Each call is the event of the same name by worker 0. It allocates no memory and takes constant time.
 impl Hand for World {
     ghost shows = { λ w. hand_data w };
 

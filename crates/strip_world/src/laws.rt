@@ -1,4 +1,4 @@
-//! Laws of the definitions. Each function does nothing: its contract is the law.
+//! Laws of the world: functions that do nothing when they run but call other laws, with theorems as contracts.
 ghost use Rattle.std.specs.Prelude.{◌≡◌, ℕ, ◌+◌, ◌<◌, ◌≤◌, ◌==◌, List, length, count_by, Contains, All};
 ghost use Rattle.strip_kind.specs.declared.kind.Kind.{Kind};
 ghost use Rattle.strip_pay.specs.Film.{FilmData};
@@ -22,7 +22,7 @@ ghost use Rattle.strip_world.specs.World.{WorldData, stripe_at};
 
 use strip_lines::laws::the_rules_are_true;
 
-/// A search opens with a sound world, and every step of an allowed event keeps it sound.
+/// A search begins with a sound world, and every allowed event keeps it sound.
 pub fn steps_keep_worlds_sound()
     ensures opened { (film : FilmData) (kind : Kind) (start : PathData) (tasks : List PathData) (limits : Limits)
         → IsFilm film
@@ -32,8 +32,8 @@ pub fn steps_keep_worlds_sound()
         → Steps world event after reply → IsSound after }
 {}
 
-/// In a sound world each line and each entry is a true bound on the cost of finishing its set, and no
-/// order pays less than the optimum, which is at most the least cost.
+/// In a sound world every line and every table entry is a valid lower bound of the cost of finishing its set. The
+/// optimum is at most the least cost.
 pub fn a_sound_world_is_true()
     ensures lines { (world : WorldData) → IsSound world
         → All (λ line. IsAtMostFinish world.search.film line.set line.bound) world.lines }
@@ -46,8 +46,8 @@ pub fn a_sound_world_is_true()
     the_rules_are_true();
 }
 
-/// In a sound world the lines are at most as many as the candidates of the start, in all and of each set;
-/// and where a path may be enlisted, there are fewer.
+/// In a sound world the lines are at most as many as the candidates below the start order's cost, in total and for each
+/// set. If a path may be enlisted, they are fewer.
 pub fn sound_worlds_have_few_lines()
     ensures most { (world : WorldData) → IsSound world
         → length world.lines ≤ candidate_count (search_rules world.search) world.search.start }
@@ -59,8 +59,8 @@ pub fn sound_worlds_have_few_lines()
         ≤ candidate_count (search_rules world.search) world.search.start }
 {}
 
-/// The least cost never rises, a line's set never changes and its bound never falls, and what the search
-/// goes by stays.
+/// The least cost never rises. A line's set never changes, and its bound never falls. The data of the search stay as
+/// they are.
 pub fn what_was_seen_stays_true()
     ensures least { (world after : WorldData) (event : Event) (reply : Reply) → Steps world event after reply
         → after.least ≤ world.least }

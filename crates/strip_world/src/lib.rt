@@ -1,4 +1,8 @@
-//! The core of a search: a world of lines, costs and entries that stays sound under every list of events.
+//! The whole state of a search by one worker (world), and its seven events. Every list of allowed events keeps the
+//! world sound: all lines and table entries are valid lower bounds, and the least cost is at least the optimum.
+//!
+//! A law (`laws`) is a function that does nothing when it runs: its contract is a theorem that a caller obtains by
+//! calling it.
 #![tactic(auto)]
 
 mod allowed;

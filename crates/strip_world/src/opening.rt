@@ -1,4 +1,4 @@
-// The world that a search opens with.
+// Making the world of a search.
 ghost use Rattle.std.specs.Prelude.{◌≡◌, ◌<◌, IfOk, [], map, replicate};
 ghost use Rattle.strip_film.specs.Path.{IsComplete};
 ghost use Rattle.strip_film.specs.Shown.{path_data};
@@ -19,9 +19,9 @@ use strip_kind::Kind;
 use strip_table::{STRIPES, Stripe};
 
 impl World {
-    /// The world that a search of the film with bounds of this kind opens with: its start path, which is
-    /// complete, its tasks, paths of as many scenes each, and its limits. It takes
-    /// all the memory that the world ever needs, and fails only where that runs out.
+    /// Makes the world of a search of the film with bounds of this kind. It gets the start path, which is complete, the
+    /// tasks, which have equal numbers of scenes, and the limits. It allocates all memory of the world, and fails only
+    /// if memory runs out.
     pub fn new(
         alloc: Global,
         film: &Film,
@@ -58,7 +58,7 @@ impl World {
     }
 }
 
-/// So many stripes of empty buckets.
+/// Makes 16 stripes of `buckets` empty buckets.
 fn empty_stripes(alloc: Global, buckets: u32) -> Result<Vec<Stripe>, Memory>
     requires { 0 < buckets }
     ensures { IfOk result (λ stripes. stripes.items ≡ replicate 16 (replicate buckets [])) }
@@ -70,7 +70,7 @@ fn empty_stripes(alloc: Global, buckets: u32) -> Result<Vec<Stripe>, Memory>
     Ok(stripes)
 }
 
-/// So many parts that nobody claimed.
+/// Makes `count` unclaimed parts.
 fn free_parts(alloc: Global, count: usize) -> Result<Vec<Part>, AllocError>
     ensures { IfOk result (λ parts. map part_data parts.items ≡ replicate count no_part) }
 {
@@ -78,7 +78,7 @@ fn free_parts(alloc: Global, count: usize) -> Result<Vec<Part>, AllocError>
     Ok(parts)
 }
 
-/// So many workers that did nothing.
+/// Makes `count` workers without events.
 fn idle_workers(alloc: Global, start: &Path, count: usize) -> Result<Vec<Worker>, AllocError>
     ensures { IfOk result (λ workers. map worker_data workers.items
         ≡ replicate count (idle_worker (path_data start.now))) }

@@ -1,4 +1,4 @@
-// Whether a path is one of a film, and which of two comes first.
+// Checks of a path, and the order of two paths.
 ghost use Rattle.std.specs.Prelude.{◌≡◌, ◌↔◌, ◌<◌, true, IsTrue, IfSome, IfNone};
 ghost use Rattle.strip_mask.specs.Set.{has};
 ghost use Rattle.strip_film.specs.Film.{LiesIn, all_scenes};
@@ -16,15 +16,15 @@ use strip_film::{Film, Path, ready};
 use strip_mask::Mask;
 use strip_rule::open_firsts;
 
-/// Whether the path is a complete one of the film. The time of `is_path`.
+/// Returns whether the path is a complete path of the film. It takes the time of `is_path`.
 pub(crate) fn is_complete(film: &Film, path: &Path) -> bool
     ensures { IsTrue result ↔ IsComplete film.now (path_data path.now) }
 {
     is_path(film, path) && path.rest().is_empty()
 }
 
-/// Whether the path is one of the film, along open firsts. The time of `is_path`, and of `open_firsts` for
-/// each scene of it.
+/// Returns whether the path is an open path of the film. It takes the time of `is_path`, and that of `open_firsts` for
+/// each scene.
 pub(crate) fn is_open(film: &Film, path: &Path) -> bool
     ensures { IsTrue result ↔ (IsPath film.now (path_data path.now)
         × AreFirsts (open_firsts film.now) (all_scenes film.now) (path_data path.now).scenes) }
@@ -32,7 +32,8 @@ pub(crate) fn is_open(film: &Film, path: &Path) -> bool
     is_path(film, path) && are_open(film, path.scenes())
 }
 
-/// Whether the path is one of the film: its scenes are walked anew. The time of `Path::extend` for each.
+/// Returns whether the path is a path of the film, by making it again from its scenes. It takes the time of
+/// `Path::extend` for each scene.
 fn is_path(film: &Film, path: &Path) -> bool
     ensures { IsTrue result ↔ IsPath film.now (path_data path.now) }
 {
@@ -42,7 +43,7 @@ fn is_path(film: &Film, path: &Path) -> bool
     }
 }
 
-/// The path of the film along the scenes, where each is ready in its turn.
+/// Returns the path of the film along the scenes, or none if some scene is not ready in its turn.
 fn path_along(film: &Film, scenes: &[u8]) -> Option<Path>
     ensures path { IfSome result (λ path. IsPath film.now (path_data path) × ((path_data path).scenes ≡ scenes.now)) }
     ensures none { IfNone result (¬ Remained film.now (all_scenes film.now) scenes.now) }
@@ -58,7 +59,7 @@ fn path_along(film: &Film, scenes: &[u8]) -> Option<Path>
     Some(path)
 }
 
-/// Whether each of the scenes is an open first of what remains in its turn.
+/// Returns whether each scene is an open first of the set that remains in its turn.
 fn are_open(film: &Film, scenes: &[u8]) -> bool
     ensures { IsTrue result ↔ AreFirsts (open_firsts film.now) (all_scenes film.now) scenes.now }
 {
@@ -73,7 +74,7 @@ fn are_open(film: &Film, scenes: &[u8]) -> bool
     true
 }
 
-/// Whether the set has the scene, whatever number it is.
+/// Returns whether the set has the scene, which may be any number.
 fn is_in(set: Mask, scene: u8) -> bool
     ensures member { result ≡ has set.0 scene }
     ensures below { IsTrue result → scene < 64 }
@@ -81,8 +82,8 @@ fn is_in(set: Mask, scene: u8) -> bool
     scene < 64 && set.has(scene as u32)
 }
 
-/// Whether the first of two lists of scenes comes before the second, both shot from the set. A turn for
-/// each scene that they begin with alike, and two ranks.
+/// Returns whether the first list of scenes comes before the second in the order of the search, if both are shot from
+/// the set. It compares the scenes that both begin with, and two ranks.
 pub(crate) fn is_earlier<F: Fn(u64, u64) -> u64>(
     kept: &StoredBound<F>,
     set: Mask,
@@ -108,7 +109,7 @@ pub(crate) fn is_earlier<F: Fn(u64, u64) -> u64>(
     is_sooner(kept, set, *one as u32, *other as u32)
 }
 
-/// Whether scene `s` of the set goes before scene `t`: by rank, of equal ranks by number.
+/// Returns whether scene `s` of the set comes before scene `t`: by rank, or by number at equal ranks.
 fn is_sooner<F: Fn(u64, u64) -> u64>(kept: &StoredBound<F>, set: Mask, s: u32, t: u32) -> bool
     requires keeps { Keeps (F.pre kept.now.f) (F.post kept.now.f) kept.now.kind kept.now.film.now }
     requires lies { LiesIn kept.now.film.now set.0 }

@@ -1,4 +1,4 @@
-// A list of events.
+// Running a list of events.
 ghost use Rattle.std.specs.Prelude.{◌≡◌, ℕ, ◌<◌, ◌≤◌, length, Contains};
 ghost use Rattle.strip_pay.specs.Pay.{IsOptimum};
 ghost use Rattle.strip_film.specs.declared.shared.Known.{Known};
@@ -16,9 +16,8 @@ use crate::world::World;
 use strip_bound::StoredBound;
 
 impl World {
-    /// Takes the steps of the events, one after the other, up to the first that isn't allowed when it comes,
-    /// and answers how many it took. Whatever they are, each entry of the table is then a true bound, and
-    /// the least cost is no less than the optimum.
+    /// Applies the events in turn, up to the first that is not allowed, and returns the number applied. For any list,
+    /// each table entry is then a valid lower bound, and the least cost is at least the optimum.
     pub fn run<F: Fn(u64, u64) -> u64>(&mut self, kept: &StoredBound<F>, events: &[Event]) -> usize
         requires sound { IsSound self.old }
         requires keeps { Keeps (F.pre kept.now.f) (F.post kept.now.f) kept.now.kind kept.now.film.now }

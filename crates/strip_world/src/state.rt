@@ -1,4 +1,4 @@
-// The parts of a world that change.
+// Parts and workers of a world.
 ghost use Rattle.std.specs.Prelude.{◌≡◌, ◌+◌, ◌-◌, ◌^◌, ◌<◌, nat_lt, if◌then◌else◌, None, Some};
 ghost use Rattle.strip_film.specs.Shown.{path_data};
 ghost use Rattle.strip_world.specs.Shown.{part_data, worker_data};
@@ -7,7 +7,7 @@ ghost use Rattle.strip_world.specs.World.{no_part};
 
 use strip_film::{Known, Path, Probe};
 
-/// The front, or a task: who claimed it, the last path that was enlisted in it, and how many were.
+/// A part (the front or a task): its claimer, the last path enlisted in it, and the number of paths enlisted.
 #[derive(Clone, Copy, Debug)]
 pub(crate) struct Part {
     pub(crate) claimer: Option<u32>,
@@ -16,7 +16,7 @@ pub(crate) struct Part {
 }
 
 impl Part {
-    /// A part that nobody claimed.
+    /// Makes an unclaimed part.
     pub(crate) fn free() -> Part
         ensures { part_data result ≡ no_part }
     {
@@ -27,7 +27,7 @@ impl Part {
         }
     }
 
-    /// Makes a path the last one, and one more is counted.
+    /// Makes `path` the last path, and counts it.
     pub(crate) fn enlist(&mut self, path: &Path)
         requires { self.old.number < 2 ^ 32 - 1 }
         ensures { part_data self.new ≡ record (part_data self.old) {
@@ -41,15 +41,15 @@ impl Part {
     }
 }
 
-/// A probe: the set that was asked for, and the answer.
+/// A probe: the set looked up, and the answer.
 #[derive(Clone, Copy, Debug)]
 pub(crate) struct Asked {
     pub(crate) set: u64,
     pub(crate) answer: Probe,
 }
 
-/// A worker: the least cost that it was last told, in units of money, the best path that it offered, its
-/// last probe and its last note.
+/// A worker: the least cost that it was last told, in units of money, its best path offered, its last probe and its
+/// last note.
 #[derive(Clone, Copy, Debug)]
 pub(crate) struct Worker {
     pub(crate) told: u64,
@@ -59,7 +59,7 @@ pub(crate) struct Worker {
 }
 
 impl Worker {
-    /// A worker that was told the start path and did nothing.
+    /// Makes a worker without events. It was told the start path's cost.
     pub(crate) fn of(start: &Path) -> Worker
         ensures { worker_data result ≡ idle_worker (path_data start.now) }
     {
@@ -71,7 +71,7 @@ impl Worker {
         }
     }
 
-    /// Tells it the least cost, and keeps a path where that is its best.
+    /// Tells the worker the least cost, and keeps the path if it is the worker's best.
     pub(crate) fn keep(&mut self, path: &Path, least: u64)
         ensures { worker_data self.new ≡ record (worker_data self.old) {
           told = least;

@@ -1,4 +1,4 @@
-// One step of the world.
+// Applying one event.
 ghost use Rattle.strip_bound.specs.StoredBound.{Keeps};
 ghost use Rattle.strip_hand.specs.Search.{GoesBy};
 ghost use Rattle.strip_world.specs.Allowed.{IsAllowed};
@@ -12,8 +12,8 @@ use strip_bound::StoredBound;
 use strip_mask::Mask;
 
 impl World {
-    /// Takes the step of an event that is allowed, and replies. It takes no memory, and but for the
-    /// static bound of a path that is enlisted, the same short time always.
+    /// Applies an allowed event, and returns the reply. It allocates no memory. It takes constant time, and that of the
+    /// static bound for an enlisted path.
     pub fn step<F: Fn(u64, u64) -> u64>(&mut self, kept: &StoredBound<F>, event: &Event) -> Reply
         requires sound { IsSound self.old }
         requires keeps { Keeps (F.pre kept.now.f) (F.post kept.now.f) kept.now.kind kept.now.film.now }

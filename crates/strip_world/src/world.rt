@@ -1,4 +1,4 @@
-// The one state that all workers of a search act on.
+// The state of a search.
 ghost use Rattle.std.specs.Prelude.{◌≡◌, ℕ, ◌<◌, IfOk, length, map};
 ghost use Rattle.strip_mask.specs.Set.{has};
 ghost use Rattle.strip_table.specs.Shown.{bucket_data};
@@ -12,9 +12,9 @@ use strip_film::{Film, Line, Path};
 use strip_kind::Kind;
 use strip_table::{Bucket, Stripe};
 
-/// The world of a search: the least cost so far, the lines, the entries of the table, who claimed which
-/// task, and what each worker was told, offered, probed and noted. It takes all its memory when it is
-/// made: 16 bytes a line and at most 24 an entry.
+/// The world of a search: the least cost, the lines, the table, and each part's claimer. For each worker it has the
+/// cost last told, the best path offered, and the last probe and note. It allocates all its memory when it is made: 16
+/// bytes for each line and at most 24 for each entry.
 #[derive(Drop)]
 pub struct World {
     pub(crate) film: Film,
@@ -54,28 +54,28 @@ impl Model for World {
 }
 
 impl World {
-    /// The least cost so far, in units of money.
+    /// Returns the least cost so far, in units of money.
     pub fn least(&self) -> u64
         ensures { result ≡ self.now.least }
     {
         self.least
     }
 
-    /// The lines, in the order in which they were enlisted.
+    /// Returns the lines, in the order in which they were enlisted.
     pub fn lines(&self) -> &[Line]
         ensures { result.now ≡ self.now.lines }
     {
         &self.lines
     }
 
-    /// Moves the lines out. It takes no memory.
+    /// Returns the lines by moving them. It allocates no memory.
     pub fn into_lines(self) -> Vec<Line>
         ensures { result.items ≡ self.lines }
     {
         self.lines
     }
 
-    /// The entries of a bucket of a stripe, each below their number.
+    /// Returns a copy of the entries of a bucket of a stripe. Both numbers must be in range.
     pub fn entries(&self, stripe: u32, bucket: u32) -> Bucket
         requires stripe { stripe < length self.now.stripes }
         requires bucket { bucket < length (stripe_at self.now stripe) }
@@ -84,7 +84,7 @@ impl World {
         self.stripes[stripe as usize].entries(bucket)
     }
 
-    /// The best path that a worker, below their number, offered, or the start path.
+    /// Returns the best path that worker `who` offered, or the start path.
     pub fn best(&self, who: u32) -> &Path
         requires { who < length self.now.workers }
         ensures { path_data result.now ≡ (worker_at self.now who).best }
