@@ -1,4 +1,4 @@
-// An answer, and the row of what a fault tells.
+// Answers, and rows of faults.
 ghost use Rattle.std.specs.Prelude.{◌≡◌, IfOk, map, string_bytes};
 ghost use Rattle.strip_text.specs.Rows.{csv_row};
 ghost use Rattle.strip_text.specs.Told.{told_data};
@@ -13,20 +13,19 @@ use strip_film::Line;
 use strip_io::Memory;
 use strip_text::{Text, Told};
 
-/// The status to end with and what to print before: a text, and behind it the rows of lines, which are
-/// written while they are formatted.
+/// An exit status and the output: a text, followed by line rows, which are formatted while they are written.
 #[derive(Debug, Drop)]
 pub struct Answer {
-    /// How the run is to end.
+    /// The exit status.
     pub status: Status,
-    /// What is printed first.
+    /// The text that is printed first.
     pub text: Vec<u8>,
-    /// Whose line rows follow.
+    /// The lines whose rows follow the text.
     pub lines: Vec<Line>,
 }
 
 impl Answer {
-    /// The answer that ends with this status and prints the `error` row of what a fault tells.
+    /// Makes the answer with this status and the `error` row of a fault.
     pub fn error(alloc: Global, status: Status, told: Told<'_>) -> Result<Answer, Memory>
         ensures status { IfOk result (λ answer. answer.status ≡ status) }
         ensures row { IfOk result (λ answer. answer_text answer ≡ error_row (told_data told.entry)) }
@@ -40,7 +39,7 @@ impl Answer {
         })
     }
 
-    /// The answer to words that name no job.
+    /// Makes the answer to words that name no job.
     pub fn no_job(alloc: Global) -> Result<Answer, Memory>
         ensures status { IfOk result (λ answer. answer.status ≡ NoJob) }
         ensures row { IfOk result (λ answer. answer_text answer ≡ error_row no_job_told) }
@@ -49,8 +48,8 @@ impl Answer {
     }
 }
 
-/// The row that begins with this word and has what a fault tells: its name and its two numbers, each
-/// an empty field where the fault has none, and behind them the names that it lists.
+/// Returns the row of a fault: this word, the fault's name, its two numbers, and the names that it lists. A missing
+/// number is an empty field.
 pub fn told_row(alloc: Global, word: &'static [u8], told: Told<'_>) -> Result<Vec<u8>, Memory>
     ensures { IfOk result (λ text. text.items ≡ told_row word.now (told_data told.entry)) }
 {
@@ -67,7 +66,7 @@ pub fn told_row(alloc: Global, word: &'static [u8], told: Told<'_>) -> Result<Ve
     row_of(alloc, &fields)
 }
 
-/// The text that is a row of these fields.
+/// Returns the text of a row with these fields.
 fn row_of(alloc: Global, fields: &[&[u8]]) -> Result<Vec<u8>, Memory>
     ensures { IfOk result (λ text. text.items ≡ csv_row (map (λ field. field.now) fields.now)) }
 {

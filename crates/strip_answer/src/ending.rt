@@ -1,4 +1,4 @@
-// How a run ends, once it is known what is due.
+// The end of a run.
 ghost use Rattle.std.specs.Prelude.{◌≡◌, ◌≤◌, Ok, Err, OnOk, OnErr};
 ghost use Rattle.strip_io.specs.Counts.{Rose};
 ghost use Rattle.strip_io.specs.Sink.{Took, TookFront};
@@ -10,7 +10,7 @@ use strip_io::laws::texts_are_taken_in_parts;
 use strip_io::{Failed, Memory, Sink, send};
 use strip_proof::send_lines;
 
-/// Why there is no answer.
+/// A reason why there is no answer.
 #[derive(Clone, Copy, Debug, PartialEq, Eq)]
 pub enum Stop {
     /// A read failed.
@@ -27,8 +27,8 @@ impl From<Memory> for Stop {
     }
 }
 
-/// Writes the answer's text and gives its status, or that of what kept it from being given: no byte
-/// is written where there is no answer. It takes no memory.
+/// Writes the answer's text, and returns its status. If there is no answer or a write fails, it returns the status of
+/// that fault. Without an answer it writes no byte. It takes no memory.
 pub fn finish<S: Sink>(out: &mut S, answer: &Result<Answer, Stop>) -> Status
     ensures ends { IsEnd answer.now (S.state out.old).taken (S.state out.new).taken (S.state out.old).faults
         (S.state out.new).faults result }
@@ -44,7 +44,7 @@ pub fn finish<S: Sink>(out: &mut S, answer: &Result<Answer, Stop>) -> Status
     }
 }
 
-/// Writes the answer's text, and behind it the rows of its lines.
+/// Writes the answer's text, then the rows of its lines.
 fn print<S: Sink>(out: &mut S, answer: &Answer) -> Result<(), Failed>
     ensures ok { OnOk result (Took (S.state out.old).taken (S.state out.new).taken (answer_text answer.now)) }
     ensures cause { OnErr result (Rose (S.state out.old).faults (S.state out.new).faults) }

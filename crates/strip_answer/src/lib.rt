@@ -1,5 +1,6 @@
-//! What a program answers: a status, a text to print, and the row of what a fault tells. It knows
-//! no command, so that any program of this repository can end by it.
+//! The answer of a program: an exit status, a text to print, or the row of a fault. It depends on no command, so any
+//! program of this repository can end with it. A law is a function that does nothing when it runs: its contract is a
+//! theorem that a caller obtains by calling it.
 #![tactic(auto)]
 
 mod answer;

@@ -1,14 +1,14 @@
 // Exit statuses.
 ghost use Rattle.std.specs.Prelude.{◌≡◌};
 
-/// How a run ends, by the exit status.
+/// The end of a run, by its exit status.
 #[derive(Clone, Copy, Debug, PartialEq, Eq)]
 pub enum Status {
-    /// What the words ask for was done, and all that is claimed of it holds.
+    /// The job was done, and all its claims hold.
     Done = 0,
     /// The words name no job.
     NoJob = 2,
-    /// The search ended before the bound met the cost.
+    /// The search ended before the bound reached the cost.
     Bounded = 3,
     /// The plan isn't accepted.
     NotAccepted = 4,
@@ -27,7 +27,7 @@ pub enum Status {
 impl Status {
     ghost use Rattle.strip_answer.specs.Status.{code_of};
 
-    /// The exit status as a number.
+    /// Returns the exit status as a number.
     pub fn code(self) -> u8
         ensures { result ≡ code_of self }
     {

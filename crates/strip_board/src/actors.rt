@@ -14,16 +14,16 @@ use strip_mask::Mask;
 use strip_model::Instance;
 use strip_reports::{crews, hold_days, work_days};
 
-/// What the days of an actor, or of all, come to.
+/// Days and pay of one actor, or of all.
 #[derive(Clone, Copy)]
 struct Earned {
-    /// How many days he works on.
+    /// Number of days of work.
     worked: u64,
-    /// What he gets for them, in units of money.
+    /// The pay for the days of work, in units of money.
     work_pay: u64,
-    /// How many days he is held on.
+    /// Number of days on which he is held.
     held: u64,
-    /// What he gets for them.
+    /// The pay for the days on which he is held, in units of money.
     hold_pay: u64,
 }
 
@@ -61,7 +61,7 @@ fn push_table(
     end_table(page)
 }
 
-/// Begins the table with the heads of its columns.
+/// Begins the table with its column heads.
 fn push_heads(alloc: Global, page: &mut Vec<u8>) -> Result<(), Memory>
     ensures { OnOk result (page.new.items ≡ page.old.items ++ begin_text actor_heads) }
 {
@@ -83,7 +83,7 @@ fn push_heads(alloc: Global, page: &mut Vec<u8>) -> Result<(), Memory>
     )
 }
 
-/// Appends the rows of the actors, and answers what their days come to together.
+/// Appends the rows of the actors, and returns their total.
 fn push_rows(
     alloc: Global,
     page: &mut Vec<u8>,
@@ -110,7 +110,7 @@ fn push_rows(
     Ok(total)
 }
 
-/// What the actor's days come to.
+/// Returns the actor's days and pay.
 fn earned_by(inst: &Instance, crews: &[u64], actor: usize) -> Earned
     requires few { length crews.now ≤ 19800 }
     requires actor { actor < length inst.now.actors }
@@ -180,7 +180,7 @@ fn push_actor(
     )
 }
 
-/// Appends the row of what all actors get.
+/// Appends the row of the total.
 fn push_total(alloc: Global, page: &mut Vec<u8>, total: Earned) -> Result<(), Memory>
     requires { total.work_pay + total.hold_pay ≤ 64 * (19800 * 2_000_000_000) }
     ensures { OnOk result (page.new.items ≡ page.old.items ++ row_text (total_cells total)) }
@@ -203,7 +203,7 @@ fn push_total(alloc: Global, page: &mut Vec<u8>, total: Earned) -> Result<(), Me
     )
 }
 
-/// The first day on which the actor works, counted from 1; 0 if he works on none.
+/// Returns the first day on which the actor works, counted from 1, or 0 if he never works.
 fn first_day(crews: &[u64], actor: u32) -> u64
     requires few { length crews.now ≤ 19800 }
     requires actor { actor < 64 }
@@ -215,7 +215,7 @@ fn first_day(crews: &[u64], actor: u32) -> u64
     }
 }
 
-/// The last day on which the actor works, counted from 1; 0 if he works on none.
+/// Returns the last day on which the actor works, counted from 1, or 0 if he never works.
 fn last_day(crews: &[u64], actor: u32) -> u64
     requires few { length crews.now ≤ 19800 }
     requires actor { actor < 64 }
@@ -227,7 +227,7 @@ fn last_day(crews: &[u64], actor: u32) -> u64
     }
 }
 
-/// How many days there are before the first on which the actor works.
+/// Returns the number of days before the first on which the actor works.
 fn place_from_front(crews: &[u64], actor: u32) -> Option<usize>
     requires { actor < 64 }
     ensures place { result ≡ position (λ crew. has crew actor) crews.now }
@@ -236,7 +236,7 @@ fn place_from_front(crews: &[u64], actor: u32) -> Option<usize>
     crews.iter().position(|crew| Mask(*crew).has(actor))
 }
 
-/// How many days there are behind the last on which the actor works.
+/// Returns the number of days after the last on which the actor works.
 fn place_from_end(crews: &[u64], actor: u32) -> Option<usize>
     requires { actor < 64 }
     ensures place { result ≡ position (λ crew. has crew actor) (reverse crews.now) }

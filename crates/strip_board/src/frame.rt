@@ -4,7 +4,7 @@ ghost use Rattle.strip_board.specs.Frame.{lines_text, page_end, page_head};
 
 use strip_io::Memory;
 
-// The hash is that of the style's text.
+// The hash in the security policy is the hash of the style's text.
 const HEAD: [&[u8]; 26] = [
     b"<!DOCTYPE html>",
     b"<html lang=\"en\">",
@@ -36,14 +36,14 @@ const HEAD: [&[u8]; 26] = [
 
 const END: [&[u8]; 2] = [b"</body>", b"</html>"];
 
-/// Appends what a page has before its first sentence.
+/// Appends the lines before the first sentence of a page.
 pub(crate) fn push_head(page: &mut Vec<u8>) -> Result<(), Memory>
     ensures { OnOk result (page.new.items ≡ page.old.items ++ page_head) }
 {
     push_lines(page, &HEAD)
 }
 
-/// Appends what a page has behind its last table.
+/// Appends the lines after the last table of a page.
 pub(crate) fn push_end(page: &mut Vec<u8>) -> Result<(), Memory>
     ensures { OnOk result (page.new.items ≡ page.old.items ++ page_end) }
 {

@@ -10,11 +10,11 @@ use strip_io::Memory;
 /// A cell of a table.
 #[derive(Clone, Copy)]
 pub(crate) enum Cell<'n> {
-    /// Fixed words.
+    /// A fixed word.
     Word(&'static [u8]),
     /// A name.
     Name(&'n [u8]),
-    /// A name that heads a narrow column.
+    /// A name at the head of a narrow column.
     Upright(&'n [u8]),
     Number(u64),
     /// The actor works.
@@ -38,7 +38,7 @@ pub(crate) fn begin_table(
     Ok(())
 }
 
-/// Ends the rows of a table, behind which its totals stand.
+/// Ends the rows of a table, before its totals.
 pub(crate) fn begin_totals(page: &mut Vec<u8>) -> Result<(), Memory>
     ensures { OnOk result (page.new.items ≡ page.old.items ++ totals_tag) }
 {
@@ -93,7 +93,7 @@ fn push_head(page: &mut Vec<u8>, tag: &[u8], name: &[u8]) -> Result<(), Memory>
     Ok(())
 }
 
-/// Appends a name, whose direction of writing changes nothing outside it.
+/// Appends a name in an element that isolates its writing direction.
 pub(crate) fn push_name(page: &mut Vec<u8>, name: &[u8]) -> Result<(), Memory>
     ensures { OnOk result (page.new.items ≡ page.old.items ++ isolated name.now) }
 {
@@ -103,7 +103,7 @@ pub(crate) fn push_name(page: &mut Vec<u8>, name: &[u8]) -> Result<(), Memory>
     Ok(())
 }
 
-/// Appends a name with its characters of markup as entities.
+/// Appends a name with its markup characters as entities.
 fn push_escaped(page: &mut Vec<u8>, name: &[u8]) -> Result<(), Memory>
     ensures { OnOk result (page.new.items ≡ page.old.items ++ escaped name.now) }
 {
@@ -127,7 +127,7 @@ fn push_byte(page: &mut Vec<u8>, byte: u8) -> Result<(), Memory>
     Ok(())
 }
 
-/// Appends the pieces, one after the other.
+/// Appends the pieces in turn.
 pub(crate) fn push_all(page: &mut Vec<u8>, pieces: &[&[u8]]) -> Result<(), Memory>
     ensures { OnOk result (page.new.items ≡ page.old.items ++ flat_map (λ piece. piece.now) pieces.now) }
 {

@@ -1,4 +1,4 @@
-//! Laws of the definitions. Each function does nothing: its contract is the law.
+//! Laws of the definitions: functions that do nothing when they run, each with a theorem as its contract.
 ghost use Rattle.std.specs.Prelude.{◌≡◌, ◌↔◌, ℕ, ◌+◌, ◌<◌, ◌≤◌, true, List, All, drop, length, slice_index, take};
 ghost use Rattle.strip_pay.specs.declared.pair.Pair.{Pair};
 ghost use Rattle.strip_pay.specs.Order.{IsOrder, KeepsPair};
@@ -13,8 +13,8 @@ ghost use Rattle.strip_board.specs.Board.{breaks};
 ghost use Rattle.strip_board.specs.Html.{escaped};
 ghost use Rattle.strip_board.specs.Shown.{BeginsEntity, IsNoMarkup, shown};
 
-/// A name in a page begins and ends no tag and no value of an attribute: none of the bytes of its text is one of
-/// `<`, `>`, `"` and `'`, and each `&` begins an entity. The page shows the name itself, so different names look different.
+/// A name in a page can't begin or end a tag or an attribute's value: its text has none of the bytes `<`, `>`, `"` and
+/// `'`, and each `&` begins an entity. The page shows the name itself, so different names look different.
 pub fn names_are_text_alone()
     ensures markup { (name : List ℕ) → All IsNoMarkup (escaped name) }
     ensures entities { (name : List ℕ) (place : ℕ) → slice_index (escaped name) place ≡ 38
@@ -22,7 +22,7 @@ pub fn names_are_text_alone()
     ensures shown { (name : List ℕ) → shown (escaped name) ≡ name }
 {}
 
-/// The totals of both tables are what the order pays.
+/// The totals of both tables equal the pay of the order.
 pub fn both_totals_are_the_pay()
     ensures scenes { (inst : InstanceData) (order : List ℕ) → total_pay (film_of inst) order ≡ pay_of (film_of inst) order }
     ensures actors { (inst : InstanceData) (order : List ℕ) → IsInstance inst → IsOrder (length inst.scenes) order
@@ -30,7 +30,7 @@ pub fn both_totals_are_the_pay()
         + (earned_by_all (film_of inst) (crews_of (film_of inst) order)).hold_pay ≡ pay_of (film_of inst) order }
 {}
 
-/// The marks of a scene are those of each of its days in the Day Out of Days report.
+/// The marks of a scene agree with the Day Out of Days report on each of its days.
 pub fn marks_are_those_of_the_days()
     ensures works { (inst : InstanceData) (order : List ℕ) (place day actor : ℕ) → IsInstance inst
         → IsOrder (length inst.scenes) order → place < length order

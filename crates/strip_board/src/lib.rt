@@ -1,5 +1,6 @@
-//! The board of an order: one HTML page with the shooting order, who works and who is held in each scene, and what
-//! each actor gets.
+//! The board of an order: an HTML page with the shooting order, the actors who work and who are held in each scene, and
+//! each actor's pay. A law is a function that does nothing when it runs: its contract is a theorem that a caller
+//! obtains by calling it.
 #![tactic(auto)]
 
 mod actors;

@@ -16,7 +16,7 @@ use strip_mask::Mask;
 use strip_model::Instance;
 use strip_reports::{cast_of, days_of, figures_at, held_at};
 
-/// How many actors a table has at most.
+/// The greatest number of actors in a table.
 const COLUMNS: usize = 24;
 
 /// Appends the tables.
@@ -56,7 +56,7 @@ fn push_table(
     end_table(page)
 }
 
-/// Begins the table with the heads of its columns.
+/// Begins the table with its column heads.
 fn push_heads(
     alloc: Global,
     page: &mut Vec<u8>,
@@ -157,7 +157,7 @@ fn push_scene(
     push_row(alloc, page, &cells)
 }
 
-/// Appends what the actors of the table do in the scene at this place.
+/// Appends the marks of the table's actors for the scene at this place.
 fn push_marks(
     cells: &mut Vec<Cell<'_>>,
     inst: &Instance,
@@ -179,7 +179,7 @@ fn push_marks(
     Ok(())
 }
 
-/// What the actor does if these work and these are held.
+/// Returns the actor's mark, if these actors work and these are held.
 fn mark<'n>(works: Mask, held: Mask, actor: u32) -> Cell<'n>
     requires { actor < 64 }
     ensures { cell_data result ≡ mark_of (has works.0 actor) (has held.0 actor) }
@@ -211,7 +211,7 @@ fn push_sums<'n>(
     Ok(())
 }
 
-/// Appends the row of the totals, all days and what the order pays, if the table is the last one.
+/// Appends the row of totals, the number of days and the pay of the order, if the table is the last one.
 fn push_total(
     alloc: Global,
     page: &mut Vec<u8>,
@@ -242,7 +242,7 @@ fn push_total(
     push_row(alloc, page, &cells)
 }
 
-/// How many actors the table has that begins with this one.
+/// Returns the number of actors in the table that begins with this actor.
 fn width(inst: &Instance, start: usize) -> usize
     requires { start ≤ length inst.now.actors }
     ensures width { result ≡ min 24 (length inst.now.actors - start) }
@@ -251,7 +251,7 @@ fn width(inst: &Instance, start: usize) -> usize
     (inst.actors().len() - start).min(COLUMNS)
 }
 
-/// Whether the table that begins with this actor is the last one, which has the sums.
+/// Tells whether the table that begins with this actor is the last one, which has the totals.
 fn is_last(inst: &Instance, start: usize) -> bool
     requires { start ≤ length inst.now.actors }
     ensures { result ≡ is_last (length inst.now.actors) start }

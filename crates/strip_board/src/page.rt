@@ -13,9 +13,9 @@ use strip_io::Memory;
 use strip_model::Instance;
 use strip_proof::Plan;
 
-/// The page of the plan's order: what it costs and what the plan claims, a warning for each pair that the order
-/// breaks, a row for each scene, and one for each actor. It fails only if memory runs out, and takes time and memory with
-/// the size of the page.
+/// Returns the HTML page of the plan's order. It has the order's cost and the plan's claim, and a warning for each
+/// broken pair. Tables have a row for each scene and for each actor. It fails only if memory runs out, and takes time
+/// and memory in proportion to the size of the page.
 pub fn board(alloc: Global, inst: &Instance, plan: &Plan) -> Result<Vec<u8>, Memory>
     requires { IsOrder (length inst.now.scenes) plan.now.order.items }
     ensures { IfOk result (λ page. page.items ≡ board_text inst.now (plan_data plan.now)) }

@@ -1,4 +1,4 @@
-// What an order costs and what its plan claims, and the pairs that it breaks.
+// The sentence on the order and its plan, and the warnings of broken pairs.
 ghost use Rattle.std.specs.Prelude.{◌≡◌, ◌++◌, ◌<◌, length, OnOk};
 ghost use Rattle.strip_pay.specs.Pairs.{IsKnownPair};
 ghost use Rattle.strip_pay.specs.Order.{IsOrder};
@@ -17,7 +17,7 @@ use strip_proof::{Plan, status_word};
 use strip_reports::laws::the_total_of_the_sheet_is_the_pay;
 use strip_reports::{days_of, figures_at};
 
-/// Appends the sentence on the order and its plan.
+/// Appends the sentence on the order's cost and the plan's claim.
 pub(crate) fn push_summary(
     alloc: Global,
     page: &mut Vec<u8>,
@@ -52,7 +52,8 @@ pub(crate) fn push_summary(
     )
 }
 
-/// What the order pays, in units of money. One turn for each two scenes and for each scene and actor.
+/// Returns the pay of the order, in units of money. It takes a turn for each pair of scenes, and for each scene and
+/// actor.
 pub(crate) fn pay_of(inst: &Instance, order: &[u16]) -> u64
     requires { IsOrder (length inst.now.scenes) order.now }
     ensures { result ≡ pay_of (film_of inst.now) order.now }
@@ -82,7 +83,7 @@ pub(crate) fn push_warnings(
     Ok(())
 }
 
-/// Whether the pair's first scene stands behind the other.
+/// Tells whether the pair's first scene comes after its second.
 fn breaks(order: &[u16], pair: &Pair) -> bool
     ensures { result ≡ breaks order.now pair.now }
 {

@@ -1,10 +1,10 @@
-// The parts of a case file: what stands before its cases, each case, and in a case each file and step.
+// The parts of a case file: the lines before its cases, each case, and in a case each file and step.
 ghost use Rattle.std.specs.Prelude.{◌≡◌, ◌≤◌, length, take};
 ghost use Rattle.strip_cases.specs.CaseRows.{case_lines};
 
 use crate::lines::{Head, Line};
 
-/// How many lines stand before the next case.
+/// Returns the number of lines before the next case.
 pub(crate) fn before_case(lines: &[Line]) -> usize
     ensures within { result ≤ length lines.now }
     ensures none { case_lines (take result lines.now) ≡ 0 }
@@ -17,7 +17,7 @@ pub(crate) fn before_case(lines: &[Line]) -> usize
     lines.len()
 }
 
-/// How many lines stand before the next file or step.
+/// Returns the number of lines before the next file or step.
 pub(crate) fn before_action(lines: &[Line]) -> usize
     ensures { result ≤ length lines.now }
 {
@@ -27,7 +27,7 @@ pub(crate) fn before_action(lines: &[Line]) -> usize
         .unwrap_or(lines.len())
 }
 
-/// How many lines at the front give a name several values.
+/// Returns the number of lines at the front that give a name several values.
 pub(crate) fn of_each(lines: &[Line]) -> usize
     ensures { result ≤ length lines.now }
 {

@@ -1,6 +1,6 @@
-// What a case file tells.
+// The content of a case file.
 
-/// The files that all cases of a case file have, and its cases in their order.
+/// The files that all cases of a case file share, and its cases in their order.
 #[derive(Drop)]
 pub struct Cases {
     pub shared: Vec<Given>,
@@ -20,7 +20,7 @@ pub enum Action {
     Run(Step),
 }
 
-/// A file by its name, from here on: rows, and what stands round them.
+/// A file that is available from here on: its name, its rows, and the file that they are added to.
 #[derive(Drop)]
 pub struct Given {
     pub name: String,
@@ -28,18 +28,18 @@ pub struct Given {
     pub text: Vec<u8>,
 }
 
-/// What the rows of a given file are added to.
+/// The file that the rows of a given file are added to.
 #[derive(Drop)]
 pub enum Base {
     /// The rows are the whole file.
     None,
-    /// The rows stand behind those of this file.
+    /// The rows come after those of this file.
     Behind(String),
-    /// The rows stand in this file, in place of the row of this number, counted from 1.
+    /// The rows replace the row of this number, counted from 1, in this file.
     Within(String, u64),
 }
 
-/// A file at hand in a case.
+/// A file that is available in a case.
 #[derive(Drop)]
 pub struct Held {
     pub name: String,
@@ -52,39 +52,39 @@ pub enum Program {
     Stripcheck,
 }
 
-/// A run of a program, and what is wanted of it.
+/// A run of a program, and its expected results.
 #[derive(Drop)]
 pub struct Step {
     pub program: Program,
     pub words: Vec<String>,
     /// The numbers of the reads that fail, counted from 1.
     pub failing_reads: Vec<u64>,
-    /// How many bytes a read gives at most.
+    /// The greatest number of bytes that a read returns.
     pub read_piece: u64,
     /// The numbers of the writes that fail, counted from 1.
     pub failing_writes: Vec<u64>,
-    /// How many bytes a write takes at most.
+    /// The greatest number of bytes that a write takes.
     pub piece: u64,
-    /// How many bytes the output takes in all.
+    /// The greatest number of bytes that the output takes in all.
     pub room: u64,
     pub wanted: Wanted,
-    /// The name under which what is printed is a file of the later steps.
+    /// The name of a file for later steps that the output is kept in.
     pub keep: Option<String>,
 }
 
-/// What is wanted of a step.
+/// The expected results of a step.
 #[derive(Drop)]
 pub struct Wanted {
-    /// It ends with one of these.
+    /// It ends with one of these statuses.
     pub statuses: Vec<u8>,
-    /// It prints exactly this; none where anything may be printed.
+    /// It prints exactly this; none if it may print anything.
     pub text: Option<Vec<u8>>,
-    /// It prints these rows among others.
+    /// It prints these rows, among others.
     pub rows: Vec<Vec<u8>>,
     pub numbers: Vec<NumberWanted>,
 }
 
-/// The number of a printed row `NAME,NUMBER` compared with another.
+/// The number of a printed row `NAME,NUMBER`, compared with another number.
 #[derive(Drop)]
 pub struct NumberWanted {
     pub name: String,

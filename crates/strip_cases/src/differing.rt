@@ -1,4 +1,4 @@
-// How what a step printed differs from what is wanted of it.
+// Differences between a step's results and the expected ones.
 ghost use Rattle.std.specs.Prelude.{◌≡◌, All, Contains, Ok, None, IfSome, IsTrue};
 ghost use Rattle.strip_cases.specs.Met.{HasRow, IsMet, IsNumberMet};
 
@@ -8,9 +8,9 @@ use crate::rows::{first_row, has_row};
 use std::alloc::{AllocError, Global};
 use strip_io::Memory;
 
-/// How a step that ended with this status and printed these bytes differs from what is wanted of it: by its
-/// status, by the first row that is another, or by a row or a number that isn't there. The files are those
-/// at hand behind the step.
+/// Returns how a step with this status and output differs from its expected results, or none if it doesn't. The
+/// difference is the status, the first row that differs, or a missing row or number. `files` are those available after
+/// the step.
 pub fn difference(
     alloc: Global,
     wanted: &Wanted,
@@ -41,7 +41,7 @@ fn is_among(statuses: &[u8], status: u8) -> bool
     statuses.contains(&status)
 }
 
-/// The text that is wanted, where another one was printed.
+/// Returns the expected text, if another text was printed.
 fn other_text<'a>(wanted: &'a Wanted, printed: &[u8]) -> Option<&'a [u8]>
     ensures { result ≡ None → IfSome wanted.now.text (λ text. text.items ≡ printed.now) }
 {
@@ -51,7 +51,7 @@ fn other_text<'a>(wanted: &'a Wanted, printed: &[u8]) -> Option<&'a [u8]>
     }
 }
 
-/// The status, and the first row that was printed.
+/// Returns the status and the first printed row, as a message.
 fn other_status(alloc: Global, status: u8, printed: &[u8]) -> Result<String, AllocError> {
     let first = match first_row(printed) {
         Some((row, _)) => String::from_utf8_lossy(alloc, row)?,
@@ -60,7 +60,7 @@ fn other_status(alloc: Global, status: u8, printed: &[u8]) -> Result<String, All
     format!(in alloc; "status {status}, '{first}'")
 }
 
-/// The first row in which the texts differ, as it was printed and as it is wanted.
+/// Returns the first row in which the texts differ, printed and expected, as a message.
 fn other_row(alloc: Global, wanted: &[u8], printed: &[u8]) -> Result<String, AllocError> {
     let mut number = 1u64;
     let mut left = printed;
@@ -93,14 +93,14 @@ fn no_number(alloc: Global, name: &str) -> Result<String, AllocError> {
     format!(in alloc; "no such number '{name}'")
 }
 
-/// The first of the rows that isn't among those that were printed.
+/// Returns the first of the rows that wasn't printed.
 fn missing_row<'a>(rows: &'a [Vec<u8>], printed: &[u8]) -> Option<&'a Vec<u8>>
     ensures { result ≡ None → All (λ row. HasRow printed.now row.items) rows.now }
 {
     rows.iter().find(|row| !has_row(printed, row))
 }
 
-/// The first of the numbers that wasn't printed so.
+/// Returns the first of the numbers that the output doesn't meet.
 fn missing_number<'a>(
     numbers: &'a [NumberWanted],
     printed: &[u8],

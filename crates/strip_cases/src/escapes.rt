@@ -1,24 +1,24 @@
-// What the escapes of a text stand for.
+// Escapes of a text, and their expansion.
 ghost use Rattle.std.specs.Prelude.{◌<◌, ◌≤◌, length, IfOk, IfSome};
 
 use crate::fault::Wrong;
 use std::str;
 use strip_text::number_of;
 
-/// How long a text may be, in bytes, before a repetition ends.
+/// The greatest length of an expanded text, in bytes. It is checked after each turn of a repetition.
 const LONGEST: usize = 67_108_864;
 
-/// How often a text may be repeated.
+/// The greatest number of turns of a repetition.
 const MOST: u64 = 10_000_000;
 
-/// A name that `each` gives, and what it stands for in a case.
+/// A name that `each` defines, and its value in a case.
 #[derive(Drop)]
 pub(crate) struct Value {
     pub(crate) name: String,
     pub(crate) text: String,
 }
 
-/// Appends what the text stands for.
+/// Appends the expansion of the text.
 pub(crate) fn expand(text: &[u8], values: &[Value], out: &mut Vec<u8>) -> Result<(), Wrong> {
     let mut rest = text;
     while let [byte, behind @ ..] = rest {
@@ -34,7 +34,7 @@ pub(crate) fn expand(text: &[u8], values: &[Value], out: &mut Vec<u8>) -> Result
     Ok(())
 }
 
-/// Appends a repetition, of which the text has what stands behind `\*`, and gives what stands behind it.
+/// Appends the expansion of a repetition, and returns the text after it. `text` follows the escape `\*`.
 fn repeat<'a>(text: &'a [u8], values: &[Value], out: &mut Vec<u8>) -> Result<&'a [u8], Wrong>
     ensures { IfOk result (λ behind. length behind.now ≤ length text.now) }
 {
@@ -45,11 +45,11 @@ fn repeat<'a>(text: &'a [u8], values: &[Value], out: &mut Vec<u8>) -> Result<&'a
     let behind = &text[open..];
     let body = within(behind).ok_or(Wrong::Escape)?;
     expand_turns(body, values, times, out)?;
-    // The body stands between two braces.
+    // The body is enclosed in two braces.
     behind.get(body.len() + 2..).ok_or(Wrong::Escape)
 }
 
-/// What stands between the brace with which the text begins and the one that closes it.
+/// Returns the text between the opening brace at the front and the brace that closes it.
 fn within(text: &[u8]) -> Option<&[u8]>
     ensures { IfSome result (λ body. length body.now < length text.now) }
 {
@@ -69,7 +69,7 @@ fn within(text: &[u8]) -> Option<&[u8]>
     None
 }
 
-/// Appends what a repeated text stands for in its turns.
+/// Appends the expansion of all turns of a repeated text.
 fn expand_turns(text: &[u8], values: &[Value], times: u64, out: &mut Vec<u8>) -> Result<(), Wrong> {
     for turn in 0..times {
         expand_turn(text, values, turn + 1, out)?;
@@ -80,7 +80,7 @@ fn expand_turns(text: &[u8], values: &[Value], times: u64, out: &mut Vec<u8>) ->
     Ok(())
 }
 
-/// Appends what a repeated text stands for in one of its turns.
+/// Appends the expansion of one turn of a repeated text.
 fn expand_turn(text: &[u8], values: &[Value], turn: u64, out: &mut Vec<u8>) -> Result<(), Wrong> {
     let mut rest = text;
     while let [byte, behind @ ..] = rest {
@@ -94,8 +94,7 @@ fn expand_turn(text: &[u8], values: &[Value], turn: u64, out: &mut Vec<u8>) -> R
     Ok(())
 }
 
-/// Appends what an escape stands for, of which the text has what stands behind the backslash, and gives what
-/// stands behind it.
+/// Appends the expansion of an escape, and returns the text after it. `text` follows the backslash.
 fn escape<'a>(
     text: &'a [u8],
     values: &[Value],
@@ -126,7 +125,7 @@ fn escape<'a>(
     }
 }
 
-/// What an escape of one letter stands for.
+/// Returns the byte that an escape of one letter stands for.
 fn plain(kind: u8) -> Option<u8> {
     match kind {
         b'n' => Some(b'\n'),
@@ -137,7 +136,7 @@ fn plain(kind: u8) -> Option<u8> {
     }
 }
 
-/// Appends the byte of two hexadecimal digits.
+/// Appends the byte of two hexadecimal digits, and returns the text after them.
 fn push_byte<'a>(text: &'a [u8], out: &mut Vec<u8>) -> Result<&'a [u8], Wrong>
     ensures { IfOk result (λ behind. length behind.now ≤ length text.now) }
 {
@@ -159,7 +158,7 @@ fn digit(byte: u8) -> Result<u8, Wrong>
     }
 }
 
-/// Appends the character of the hexadecimal digits in braces.
+/// Appends the character of the hexadecimal digits in braces, and returns the text after them.
 fn push_char<'a>(text: &'a [u8], out: &mut Vec<u8>) -> Result<&'a [u8], Wrong>
     ensures { IfOk result (λ behind. length behind.now ≤ length text.now) }
 {
@@ -171,7 +170,7 @@ fn push_char<'a>(text: &'a [u8], out: &mut Vec<u8>) -> Result<&'a [u8], Wrong>
     Ok(behind)
 }
 
-/// Appends what a name in braces stands for.
+/// Appends the value of a name in braces, and returns the text after them.
 fn push_value<'a>(text: &'a [u8], values: &[Value], out: &mut Vec<u8>) -> Result<&'a [u8], Wrong>
     ensures { IfOk result (λ behind. length behind.now ≤ length text.now) }
 {
@@ -192,7 +191,7 @@ fn push_number(number: u64, out: &mut Vec<u8>) -> Result<(), Wrong> {
     Ok(())
 }
 
-/// What stands in the braces with which the text begins, and behind them.
+/// Returns the content of the braces at the front, and the text after them.
 fn braced(text: &[u8]) -> Result<(&str, &[u8]), Wrong>
     ensures { IfOk result (λ parts. length parts.1.now ≤ length text.now) }
 {

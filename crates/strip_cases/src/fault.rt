@@ -1,29 +1,29 @@
-// What is wrong with a case file.
+// Faults of case files.
 use std::alloc::{AllocError, AllocFailed};
 use std::fmt;
 use strip_io::Memory;
 
-/// What is wrong with a row of a case file, or that memory ran out.
+/// A fault of a row of a case file, or lack of memory.
 #[derive(Clone, Copy, PartialEq, Eq, Debug)]
 pub enum Wrong {
-    /// The file isn't there, or is longer than a case file may be.
+    /// The file is missing, or is longer than a case file may be.
     Unread,
     NotUtf8,
-    /// No row begins so.
+    /// The row begins with an unknown word.
     Head,
-    /// The row can't stand here.
+    /// The row isn't allowed here.
     Place,
-    /// The row has too few words, too many, or others than it may have.
+    /// The row has too few words, too many, or words that aren't allowed.
     Words,
-    /// An escape that there isn't, or one that isn't ended.
+    /// An unknown escape, or one without an end.
     Escape,
-    /// A number is wanted, or one within its limits.
+    /// A number is required, or a number within its limits.
     Number,
     /// The case has no step.
     NoStep,
     /// The step has no status.
     NoStatus,
-    /// The text is longer than a text of a case may be, or there are too many cases.
+    /// An expanded text is too long, or there are too many cases.
     TooLong,
     Memory,
 }

@@ -1,4 +1,4 @@
-//! Cases: runs of the programs as a text tells them, and what is wanted of each.
+//! Cases (tests of the programs, in texts): runs of the programs, and the expected results of each run.
 #![tactic(auto)]
 
 mod blocks;

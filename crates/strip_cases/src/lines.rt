@@ -1,11 +1,11 @@
-// The rows of a case file, each with its head.
+// The rows of a case file, each with its head (first word).
 ghost use Rattle.std.specs.Prelude.{◌≡◌, ◌+◌, ◌≤◌, true, cond, Some, IfOk, IsSomeAnd, OnOk, codes};
 ghost use Rattle.strip_cases.specs.CaseRows.{case_lines, case_rows, first_word, is_case_row};
 
 use crate::fault::{CaseFault, Wrong};
 use std::alloc::Global;
 
-/// How a row begins, which says what it tells.
+/// The first word of a row, which tells the kind of the row.
 #[derive(Clone, Copy, PartialEq, Eq, Debug)]
 pub(crate) enum Head {
     Case,
@@ -21,7 +21,7 @@ pub(crate) enum Head {
     Writes,
 }
 
-/// A row that tells something: its number, its head, and what stands behind that.
+/// A row with content: its number, its head, and its text after the head.
 #[derive(Debug, Drop)]
 pub(crate) struct Line {
     pub(crate) row: u64,
@@ -29,7 +29,7 @@ pub(crate) struct Line {
     pub(crate) rest: String,
 }
 
-/// The rows that tell something. Empty rows and those that begin with `#` don't.
+/// Returns the rows with content. Empty rows and those that begin with `#` have none.
 pub(crate) fn lines_of(alloc: Global, text: &str) -> Result<Vec<Line>, CaseFault>
     ensures { IfOk result (λ lines. case_rows text.now ≤ case_lines lines.items) }
 {
@@ -42,7 +42,7 @@ pub(crate) fn lines_of(alloc: Global, text: &str) -> Result<Vec<Line>, CaseFault
     Ok(lines)
 }
 
-/// Appends the line of a row, where it tells something.
+/// Appends the line of a row, if the row has content.
 fn push_line(alloc: Global, row: u64, text: &str, lines: &mut Vec<Line>) -> Result<(), Wrong>
     ensures { OnOk result (case_lines lines.old.items + cond (is_case_row text.now) 1 0 ≤ case_lines lines.new.items) }
 {
@@ -57,7 +57,7 @@ fn push_line(alloc: Global, row: u64, text: &str, lines: &mut Vec<Line>) -> Resu
     }
 }
 
-/// The head of a row, and what stands behind it and one blank.
+/// Returns the head of a row, and the text after it and one blank.
 fn parts_of(text: &str) -> Option<(Head, &str)>
     ensures { is_case_row text.now ≡ true → IsSomeAnd result (λ parts. parts.0 ≡ Head.Case) }
 {
@@ -69,7 +69,7 @@ fn parts_of(text: &str) -> Option<(Head, &str)>
     Some((Head::Text, rest.strip_prefix(' ').unwrap_or(rest)))
 }
 
-/// The first word of a row, and what stands behind it and one blank.
+/// Returns the first word of a row, and the text after it and one blank.
 fn split_word(text: &str) -> (&str, &str)
     ensures { result.0.now ≡ first_word text.now }
 {

@@ -1,4 +1,4 @@
-// Files and steps, of the lines that tell them.
+// Files and steps, made from their lines.
 use crate::blocks::before_action;
 use crate::case::{Action, Base, Bound, Given, NumberWanted, Program, Relation, Step, Wanted};
 use crate::escapes::{Value, expand};
@@ -7,13 +7,13 @@ use crate::lines::{Head, Line};
 use crate::words::{number_in, numbers_in, words_of};
 use std::alloc::Global;
 
-/// How many bytes a write takes, where nothing is said.
+/// The default of the greatest number of bytes that a write takes.
 const PIECE: u64 = 65_536;
 
-/// How many bytes the output takes in all, where nothing is said, and at most.
+/// The greatest number of bytes that the output takes in all, which is also the default.
 const ROOM: u64 = 16_777_216;
 
-/// The files and steps of some lines.
+/// Makes the files and steps of some lines.
 pub(crate) fn actions_of(
     alloc: Global,
     lines: &[Line],
@@ -29,7 +29,7 @@ pub(crate) fn actions_of(
     Ok(actions)
 }
 
-/// Appends the file or the step that begins with the line.
+/// Appends the file or the step that begins with this line.
 fn push_action(
     alloc: Global,
     head: &Line,
@@ -61,7 +61,7 @@ fn given_of(
     Ok(Given { name, base, text })
 }
 
-/// The rows of some lines, which may be no others than rows of a text.
+/// Returns the text of some lines, each of which has to be a row of a text.
 fn text_of(alloc: Global, lines: &[Line], values: &[Value]) -> Result<Vec<u8>, CaseFault> {
     let mut text = Vec::new(alloc);
     for line in lines {
@@ -73,13 +73,13 @@ fn text_of(alloc: Global, lines: &[Line], values: &[Value]) -> Result<Vec<u8>, C
     Ok(text)
 }
 
-/// The name of a file, and what its rows are added to.
+/// Reads the name of a file, and the file that its rows are added to.
 fn named_of(alloc: Global, text: &str, values: &[Value]) -> Result<(String, Base), Wrong> {
     let words = words_of(alloc, text, values)?;
     named_by(words.as_slice())
 }
 
-/// The name that is the first word, and what those behind it say of the rows.
+/// Reads the name from the first word, and the file that the rows are added to from the others.
 fn named_by(words: &[String]) -> Result<(String, Base), Wrong> {
     let base = base_of(words)?;
     match words.first() {
@@ -88,7 +88,7 @@ fn named_by(words: &[String]) -> Result<(String, Base), Wrong> {
     }
 }
 
-/// What the words behind a name say that the file's rows are added to.
+/// Reads the file that the rows are added to from the words after a name.
 fn base_of(words: &[String]) -> Result<Base, Wrong> {
     match words {
         [_] => Ok(Base::None),
@@ -97,7 +97,7 @@ fn base_of(words: &[String]) -> Result<Base, Wrong> {
     }
 }
 
-/// A file that others' rows are added to, and what the words behind its name say of the place.
+/// Reads the place of the rows in the file `of`, from the words after its name.
 fn base_with(of: &String, words: &[String]) -> Result<Base, Wrong> {
     match words {
         [] => Ok(Base::Behind(of.clone()?)),
@@ -109,12 +109,12 @@ fn base_with(of: &String, words: &[String]) -> Result<Base, Wrong> {
     }
 }
 
-/// A file within which the rows stand, from the row with this number on.
+/// Makes the base whose row with this number is replaced by the rows.
 fn base_within(of: &String, number: &str) -> Result<Base, Wrong> {
     Ok(Base::Within(of.clone()?, number_in(number, 1, u64::MAX)?))
 }
 
-/// Appends a row and the line feed that ends it, which a backslash at its end leaves out.
+/// Appends a row and its line feed. A backslash at the end of the row leaves the line feed out.
 fn push_row(text: &str, values: &[Value], out: &mut Vec<u8>) -> Result<(), Wrong> {
     let text = text.as_bytes();
     let slashes = text.iter().rev().take_while(|byte| **byte == b'\\').count();
@@ -134,7 +134,7 @@ fn step_of(alloc: Global, head: &Line, body: &[Line], values: &[Value]) -> Resul
     Ok(step)
 }
 
-/// Adds what the lines say of a step, and that it prints nothing where they say nothing of that.
+/// Adds the content of the lines to a step. If they expect no output and keep none, the step has to print nothing.
 fn complete(
     alloc: Global,
     head: &Line,
@@ -159,7 +159,7 @@ fn complete(
     Ok(())
 }
 
-/// The step of a command line, of which nothing is wanted yet.
+/// Makes the step of a command line, without expected results.
 fn begun_of(alloc: Global, text: &str, values: &[Value]) -> Result<Step, Wrong> {
     let mut words = words_of(alloc, text, values)?.into_iter();
     let program = match words.next() {
@@ -180,7 +180,7 @@ fn program_of(word: &str) -> Option<Program> {
     }
 }
 
-/// The step in which a program is run with these words, of which nothing is wanted yet.
+/// Makes the step that runs a program with these words, without expected results.
 fn step_for(alloc: Global, program: Program, words: Vec<String>) -> Step {
     Step {
         program,
@@ -200,7 +200,7 @@ fn step_for(alloc: Global, program: Program, words: Vec<String>) -> Step {
     }
 }
 
-/// Adds what a line says of a step.
+/// Adds the content of a line to a step.
 fn add_line(alloc: Global, line: &Line, values: &[Value], step: &mut Step) -> Result<(), Wrong> {
     let rest = line.rest.as_str();
     if line.head == Head::Text {
@@ -213,7 +213,7 @@ fn add_line(alloc: Global, line: &Line, values: &[Value], step: &mut Step) -> Re
     add_words(alloc, line.head, &words, step)
 }
 
-/// Adds a row to the text that is wanted.
+/// Adds a row to the expected text.
 fn add_text(alloc: Global, row: &str, values: &[Value], step: &mut Step) -> Result<(), Wrong> {
     let mut text = step.wanted.text.take().unwrap_or(Vec::new(alloc));
     push_row(row, values, &mut text)?;
@@ -221,7 +221,7 @@ fn add_text(alloc: Global, row: &str, values: &[Value], step: &mut Step) -> Resu
     Ok(())
 }
 
-/// Adds a row that is wanted somewhere.
+/// Adds a row that has to be printed somewhere.
 fn add_row(alloc: Global, text: &str, values: &[Value], step: &mut Step) -> Result<(), Wrong> {
     let mut row = Vec::new(alloc);
     expand(text.as_bytes(), values, &mut row)?;
@@ -229,7 +229,7 @@ fn add_row(alloc: Global, text: &str, values: &[Value], step: &mut Step) -> Resu
     Ok(())
 }
 
-/// Adds what the words of a line say of a step.
+/// Adds the words of a line to a step.
 fn add_words(alloc: Global, head: Head, words: &[String], step: &mut Step) -> Result<(), Wrong> {
     match head {
         Head::Status => step.wanted.statuses = statuses_of(alloc, words)?,
@@ -261,7 +261,7 @@ fn only_word(words: &[String]) -> Result<String, Wrong> {
     }
 }
 
-/// The numbers behind the word `fail`.
+/// Reads the numbers after the word `fail`.
 fn failing(alloc: Global, words: &[String]) -> Result<Vec<u64>, Wrong> {
     match words {
         [fail, numbers @ ..] if fail.as_str() == "fail" => numbers_in(alloc, numbers, u64::MAX),
@@ -269,7 +269,7 @@ fn failing(alloc: Global, words: &[String]) -> Result<Vec<u64>, Wrong> {
     }
 }
 
-/// What is said of the reads: which fail, or how many bytes one gives.
+/// Sets the reads of a step: which fail, or the greatest number of bytes of each.
 fn set_reads(alloc: Global, words: &[String], step: &mut Step) -> Result<(), Wrong> {
     match words {
         [take, number] if take.as_str() == "take" => {
@@ -280,7 +280,7 @@ fn set_reads(alloc: Global, words: &[String], step: &mut Step) -> Result<(), Wro
     Ok(())
 }
 
-/// What is said of the writes: which fail, how many bytes one takes, or how many all of them take.
+/// Sets the writes of a step: which fail, or the greatest number of bytes of each, or of all.
 fn set_writes(alloc: Global, words: &[String], step: &mut Step) -> Result<(), Wrong> {
     match words {
         [take, taken @ ..] if take.as_str() == "take" => return set_taken(taken, step),
@@ -300,7 +300,7 @@ fn set_taken(words: &[String], step: &mut Step) -> Result<(), Wrong> {
     Ok(())
 }
 
-/// A number and what it is compared with, as `cost <= 13` or `cost = cost of plan.csv`.
+/// Reads a number and its comparison, such as `cost <= 13` or `cost = cost of plan.csv`.
 fn number_wanted(words: &[String]) -> Result<NumberWanted, Wrong> {
     let [name, relation, bound @ ..] = words else {
         return Err(Wrong::Words);
@@ -313,7 +313,7 @@ fn number_wanted(words: &[String]) -> Result<NumberWanted, Wrong> {
     })
 }
 
-/// What a number is compared with.
+/// Reads the number that another is compared with.
 fn bound_wanted(words: &[String]) -> Result<Bound, Wrong> {
     match words {
         [number] => Ok(Bound::Number(number_in(number.as_str(), 0, u64::MAX)?)),

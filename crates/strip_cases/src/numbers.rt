@@ -6,7 +6,7 @@ use crate::case::{Bound, Held, NumberWanted, Relation};
 use crate::rows::behind_name;
 use strip_text::number_of;
 
-/// Whether the number was printed, and what it is compared with is there and agrees.
+/// Tells whether the number was printed, and the number that it is compared with exists and agrees.
 pub(crate) fn is_number_met(printed: &[u8], files: &[Held], wanted: &NumberWanted) -> bool
     ensures { IsTrue result → IsNumberMet printed.now files.now wanted.now }
 {
@@ -38,7 +38,7 @@ fn bound_of(files: &[Held], bound: &Bound) -> Option<u64>
     }
 }
 
-/// The number of this name in the file.
+/// Returns the number of this name in the file.
 fn number_in_file(files: &[Held], name: &str, file: &str) -> Option<u64>
     ensures { IfSome result (λ number. (bytes : List ℕ) × IsHeld files.now file.now bytes
         × HasNumber bytes name.now number) }
@@ -47,14 +47,14 @@ fn number_in_file(files: &[Held], name: &str, file: &str) -> Option<u64>
     number_named(&held.bytes, name)
 }
 
-/// The first file of this name.
+/// Returns the first file of this name.
 fn file_of<'a>(files: &'a [Held], name: &str) -> Option<&'a Held>
     ensures { IfSome result (λ held. Contains files.now held.now × (string_bytes held.now.name ≡ name.now)) }
 {
     files.iter().find(|held| held.name.as_str() == name)
 }
 
-/// The number of the first row of this name.
+/// Returns the number of the first row of this name.
 fn number_named(text: &[u8], name: &str) -> Option<u64>
     ensures { IfSome result (HasNumber text.now name.now) }
 {

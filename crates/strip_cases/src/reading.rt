@@ -1,4 +1,4 @@
-// Case files.
+// The reader of case files.
 ghost use Rattle.std.specs.Prelude.{◌+◌, ◌<◌, ◌≤◌, vec_len, IfOk, OnOk};
 ghost use Rattle.strip_cases.specs.CaseRows.{HasEachCase, case_lines};
 
@@ -12,17 +12,17 @@ use crate::words::words_of;
 use std::alloc::Global;
 use std::str;
 
-/// How many cases one case may stand for.
+/// The greatest number of cases that one case may stand for.
 const MOST: usize = 100_000;
 
-/// A name and the values that it takes, one after the other.
+/// A name and the values that it takes in turn.
 #[derive(Drop)]
 struct Each {
     name: String,
     values: Vec<String>,
 }
 
-/// The cases that the text of a case file tells, or its first fault.
+/// Reads the cases from the text of a case file, or finds its first fault.
 pub fn read_cases(alloc: Global, text: &[u8]) -> Result<Cases, CaseFault>
     ensures each { IfOk result (HasEachCase text.now) }
 {
@@ -34,7 +34,7 @@ pub fn read_cases(alloc: Global, text: &[u8]) -> Result<Cases, CaseFault>
     cases_in(alloc, &lines)
 }
 
-/// The cases that the lines of a case file tell.
+/// Reads the cases from the lines of a case file.
 fn cases_in(alloc: Global, lines: &[Line]) -> Result<Cases, CaseFault>
     ensures { IfOk result (λ cases. case_lines lines.now ≤ vec_len cases.cases) }
 {
@@ -44,7 +44,7 @@ fn cases_in(alloc: Global, lines: &[Line]) -> Result<Cases, CaseFault>
     Ok(Cases { shared, cases })
 }
 
-/// The files that all cases have.
+/// Reads the files that all cases share.
 fn shared_of(alloc: Global, lines: &[Line]) -> Result<Vec<Given>, CaseFault> {
     let mut shared = Vec::new(alloc);
     for action in actions_of(alloc, lines, &[])? {
@@ -53,7 +53,7 @@ fn shared_of(alloc: Global, lines: &[Line]) -> Result<Vec<Given>, CaseFault> {
     Ok(shared)
 }
 
-/// Appends a file that all cases have. A step before the first case is in no case.
+/// Appends a file that all cases share. A step before the first case is a fault.
 fn push_shared(action: Action, shared: &mut Vec<Given>) -> Result<(), CaseFault> {
     match action {
         Action::Give(given) => match shared.push(given) {
@@ -64,7 +64,7 @@ fn push_shared(action: Action, shared: &mut Vec<Given>) -> Result<(), CaseFault>
     }
 }
 
-/// The cases of the lines, the first of which begins one.
+/// Reads the cases from the lines; the first line begins a case.
 fn all_cases(alloc: Global, lines: &[Line]) -> Result<Vec<Case>, CaseFault>
     ensures { IfOk result (λ cases. case_lines lines.now ≤ vec_len cases) }
 {
@@ -78,7 +78,7 @@ fn all_cases(alloc: Global, lines: &[Line]) -> Result<Vec<Case>, CaseFault>
     Ok(cases)
 }
 
-/// The number of the row in which the first byte stands that isn't UTF-8.
+/// Returns the number of the row with the first byte that isn't UTF-8.
 fn row_of_bad_byte(text: &[u8]) -> u64 {
     let mut row = 1u64;
     for line in text.split(|byte| *byte == b'\n') {
@@ -90,7 +90,7 @@ fn row_of_bad_byte(text: &[u8]) -> u64 {
     row
 }
 
-/// Appends the cases that a case stands for: one for all values of its names together.
+/// Appends the cases that a case stands for: one for each combination of its names' values.
 fn push_cases(
     alloc: Global,
     head: &Line,
@@ -107,7 +107,7 @@ fn push_cases(
     push_turns(alloc, head, body, &all, count, cases)
 }
 
-/// Appends the cases of so many turns.
+/// Appends the cases of `count` turns.
 fn push_turns(
     alloc: Global,
     head: &Line,
@@ -128,7 +128,7 @@ fn push_turns(
     Ok(())
 }
 
-/// The names of a case with their values, and how many cases it stands for.
+/// Reads the names of a case with their values, and returns them with the number of cases.
 fn each_of_all(alloc: Global, lines: &[Line]) -> Result<(Vec<Each>, usize), CaseFault>
     ensures { IfOk result (λ all. 0 < all.1) }
 {
@@ -158,7 +158,7 @@ fn each_of(alloc: Global, text: &str) -> Result<Each, Wrong>
     Ok(Each { name, values })
 }
 
-/// The values of the names in the turn of this number: those of the last name change first.
+/// Returns the names' values in the turn of this number. Those of the last name change first.
 fn chosen(alloc: Global, all: &[Each], number: usize) -> Result<Vec<Value>, Wrong> {
     let mut left = number;
     let mut values = Vec::new(alloc);
@@ -193,7 +193,7 @@ fn case_of(alloc: Global, head: &Line, body: &[Line], values: &[Value]) -> Resul
     Ok(Case { name, actions })
 }
 
-/// The name of a case, with the values that it has.
+/// Returns the name of a case, with the values of its names.
 fn name_of(alloc: Global, text: &str, values: &[Value]) -> Result<String, Wrong> {
     if text.trim().is_empty() {
         return Err(Wrong::Words);

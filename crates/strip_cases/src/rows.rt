@@ -1,8 +1,8 @@
-// The rows of a text, each with a line feed behind it.
+// The rows of a text, each ended by a line feed.
 ghost use Rattle.std.specs.Prelude.{◌≡◌, ◌++◌, ◌∷◌, List, IfSome, IsTrue};
 ghost use Rattle.strip_cases.specs.Met.{HasRow};
 
-/// The first row of the text, and what stands behind it.
+/// Returns the first row of the text, and the text after it.
 pub(crate) fn first_row(text: &[u8]) -> Option<(&[u8], &[u8])>
     ensures { IfSome result (λ parts. text.now ≡ parts.0.now ++ 10 ∷ parts.1.now) }
 {
@@ -14,7 +14,7 @@ pub(crate) fn first_row(text: &[u8]) -> Option<(&[u8], &[u8])>
     None
 }
 
-/// Whether the text has this row.
+/// Tells whether the text has this row.
 pub(crate) fn has_row(text: &[u8], row: &[u8]) -> bool
     ensures { IsTrue result → HasRow text.now row.now }
 {
@@ -28,7 +28,7 @@ pub(crate) fn has_row(text: &[u8], row: &[u8]) -> bool
     false
 }
 
-/// The bytes behind the name and its comma in the first row that begins so.
+/// Returns the bytes after the name and a comma, in the first row that begins with them.
 pub(crate) fn behind_name<'a>(text: &'a [u8], name: &[u8]) -> Option<&'a [u8]>
     ensures { IfSome result (λ field. HasRow text.now (name.now ++ 44 ∷ field.now)) }
 {
@@ -42,7 +42,7 @@ pub(crate) fn behind_name<'a>(text: &'a [u8], name: &[u8]) -> Option<&'a [u8]>
     None
 }
 
-/// What stands behind the name and a comma, where the row begins so.
+/// Returns the bytes after the name and a comma, if the row begins with them.
 fn named_field<'a>(row: &'a [u8], name: &[u8]) -> Option<&'a [u8]>
     ensures { IfSome result (λ field. row.now ≡ name.now ++ 44 ∷ field.now) }
 {

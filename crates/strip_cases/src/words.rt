@@ -6,8 +6,8 @@ use crate::fault::Wrong;
 use std::alloc::Global;
 use strip_text::number_of;
 
-/// The words of a text, apart at blanks. What stands in single quotes is one word, also where it has blanks or
-/// nothing in it.
+/// Returns the words of a text, separated by blanks. A text in single quotes is one word, even if it has blanks or is
+/// empty.
 pub(crate) fn words_of(alloc: Global, text: &str, values: &[Value]) -> Result<Vec<String>, Wrong> {
     let mut words = Vec::new(alloc);
     let mut rest = text.as_bytes();
@@ -24,7 +24,7 @@ fn word_of(alloc: Global, word: &[u8], values: &[Value]) -> Result<String, Wrong
     String::from_utf8(bytes).ok().ok_or(Wrong::NotUtf8)
 }
 
-/// The first word of a text, as it is written, and what stands behind it.
+/// Returns the first word of a text without expansion, and the text after it.
 fn first_word(text: &[u8]) -> Result<Option<(&[u8], &[u8])>, Wrong>
     ensures { IfOk result (λ word. IfSome word (λ parts. length parts.1.now < length text.now)) }
 {
@@ -42,7 +42,7 @@ fn first_word(text: &[u8]) -> Result<Option<(&[u8], &[u8])>, Wrong>
     Ok(Some((&word[..end], &word[end..])))
 }
 
-/// The place of the first such byte that no backslash stands before.
+/// Returns the index of the first `stop` byte without a backslash before it.
 fn end_of(text: &[u8], stop: u8) -> Option<usize>
     ensures { IfSome result (λ place. place < length text.now) }
 {
@@ -56,14 +56,14 @@ fn end_of(text: &[u8], stop: u8) -> Option<usize>
     None
 }
 
-/// The number that a word spells, between these.
+/// Returns the number that a word spells, from `least` to `most`.
 pub(crate) fn number_in(word: &str, least: u64, most: u64) -> Result<u64, Wrong>
     ensures { IfOk result (λ number. (least ≤ number) × (number ≤ most)) }
 {
     number_of(word.as_bytes(), least, most).ok_or(Wrong::Number)
 }
 
-/// The numbers that some words spell, one at least.
+/// Returns the numbers that the words spell, at least one.
 pub(crate) fn numbers_in(alloc: Global, words: &[String], most: u64) -> Result<Vec<u64>, Wrong> {
     if words.is_empty() {
         return Err(Wrong::Words);

@@ -1,4 +1,4 @@
-// A plan checked.
+// The check of a plan.
 ghost use Rattle.std.specs.Prelude.{◌≡◌, ◌↔◌, ℕ, ◌<◌, ◌≤◌, ◌++◌, Err, IfOk, OnOk};
 ghost use Rattle.strip_model.specs.Film.{film_of};
 ghost use Rattle.strip_reduce.specs.Reduction.{class_count};
@@ -22,13 +22,13 @@ use strip_proof::Plan;
 use strip_reduce::laws::reductions_begin_within_the_limits;
 use strip_reduce::{Reduced, reduce};
 
-/// Whether the plan's lines justify its bound, or the first reason why not; `TooManyClasses` where more
-/// than 64 classes are left of the instance. No order of the instance that keeps the pairs pays less than
-/// the bound of an accepted plan, whoever made it. How many lines it says that its search had takes no
-/// part.
+/// Accepts the plan if its lines justify its bound, or refuses it with the first reason against it. It fails with
+/// `TooManyClasses` if the instance has more than 64 classes after the reduction. No order of the instance that keeps
+/// the pairs pays less than the bound of an accepted plan. The stated number of lines of the plan's search isn't
+/// checked.
 ///
-/// It takes some 32 bytes of memory a line, and time with the number of lines by its logarithm, and for
-/// a line whose static bound doesn't reach its bound a step and a static bound for each open first.
+/// It takes some 32 bytes of memory for each line, and time n log n in the number of lines. A line whose static bound
+/// doesn't reach its bound takes a step and a static bound for each open first.
 pub fn check(alloc: Global, inst: &Instance, plan: &Plan) -> Result<Verdict, CheckFault>
     ensures verdict { IfOk result (λ verdict. verdict ≡ verdict_of (film_of inst.now) (plan_data plan.now)) }
     ensures accepted { IfOk result (λ verdict.
@@ -47,7 +47,7 @@ pub fn check(alloc: Global, inst: &Instance, plan: &Plan) -> Result<Verdict, Che
     Ok(verdict_by(against(alloc, inst, &reduced, plan)?))
 }
 
-/// The first reason against the plan, where these are the instance's classes.
+/// Returns the first reason against the plan, if `reduced` has the instance's classes.
 fn against(
     alloc: Global,
     inst: &Instance,

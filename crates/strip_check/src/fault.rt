@@ -1,4 +1,4 @@
-// Why a plan wasn't checked.
+// Faults that prevent a check.
 ghost use Rattle.std.specs.Prelude.{◌≡◌};
 ghost use Rattle.strip_check.specs.declared.fault.CheckFault.TheVariants.{Memory as OutOfMemory};
 ghost use Rattle.strip_check.specs.Faults.{fault_of};
@@ -6,10 +6,10 @@ ghost use Rattle.strip_check.specs.Faults.{fault_of};
 use strip_io::Memory;
 use strip_reduce::ReduceFault;
 
-/// Why a plan wasn't checked.
+/// A fault that prevents the check of a plan.
 #[derive(Clone, Copy, Debug, PartialEq, Eq)]
 pub enum CheckFault {
-    /// So many classes are left of the instance, and a film has at most 64.
+    /// The instance has `count` classes after the reduction, and a film has at most 64.
     TooManyClasses { count: u64 },
     /// Memory ran out.
     Memory,

@@ -1,4 +1,4 @@
-// What a plan's lines justify.
+// Bounds that a plan's lines justify.
 ghost use Rattle.std.specs.Prelude.{◌≡◌, ◌≢◌, ◌↔◌, ℕ, ◌+◌, ◌<◌, ◌≤◌, nat_le, true, All, IsTrue};
 ghost use Rattle.strip_mask.specs.Set.{has, members, without};
 ghost use Rattle.strip_film.specs.Film.{LiesIn};
@@ -16,8 +16,8 @@ use strip_memo::Memo;
 use strip_rule::{open_firsts, open_firsts_with};
 use strip_trim::Best;
 
-/// Whether the lines justify a bound for a set: its static bound decides, or else a step and what is known
-/// of the rest for each open first. Where static bounds are dear, the steps come first.
+/// Tells whether the lines justify a bound for a set: its static bound reaches it, or the step plus known bound of the
+/// rest does for each open first. If static bounds are expensive, the steps are tried first.
 pub(crate) fn is_justified<F: Fn(u64, u64) -> u64>(
     kept: &StoredBound<F>,
     memo: &mut Memo,
@@ -41,7 +41,7 @@ pub(crate) fn is_justified<F: Fn(u64, u64) -> u64>(
     is_by_steps(kept, memo, best, q, bound)
 }
 
-/// Whether static bounds of this kind take longer than a look at the lines. The time alone depends on it.
+/// Tells whether static bounds of this kind take longer than a lookup of lines. Only the running time depends on it.
 fn is_dear(kind: Kind) -> bool {
     match kind {
         Kind::Plain | Kind::Pairs | Kind::Groups => false,
@@ -49,7 +49,7 @@ fn is_dear(kind: Kind) -> bool {
     }
 }
 
-/// Whether the set has open firsts, and the step of each and what is known of the rest reach the bound.
+/// Tells whether the set has open firsts, and the step of each plus the known bound of the rest reaches the bound.
 fn is_by_steps<F: Fn(u64, u64) -> u64>(
     kept: &StoredBound<F>,
     memo: &mut Memo,
@@ -72,7 +72,7 @@ fn is_by_steps<F: Fn(u64, u64) -> u64>(
     !firsts.is_empty() && steps_reach(kept, memo, best, q, on, firsts, bound)
 }
 
-/// Whether each first step and what is known of the rest reach the bound.
+/// Tells whether each open first's step plus the known bound of the rest reaches the bound.
 fn steps_reach<F: Fn(u64, u64) -> u64>(
     kept: &StoredBound<F>,
     memo: &mut Memo,
@@ -99,7 +99,7 @@ fn steps_reach<F: Fn(u64, u64) -> u64>(
     true
 }
 
-/// Whether the step of a scene of the set and what is known of the rest reach the bound.
+/// Tells whether the step of a scene plus the known bound of the rest reaches the bound.
 fn step_reaches<F: Fn(u64, u64) -> u64>(
     kept: &StoredBound<F>,
     memo: &mut Memo,
@@ -124,7 +124,7 @@ fn step_reaches<F: Fn(u64, u64) -> u64>(
     step >= bound || is_known(kept, memo, best, q.without(s), bound - step)
 }
 
-/// Whether a set's static bound or a line reaches so far.
+/// Tells whether a set's static bound or one of its lines reaches `need`.
 fn is_known<F: Fn(u64, u64) -> u64>(
     kept: &StoredBound<F>,
     memo: &mut Memo,
@@ -144,8 +144,8 @@ fn is_known<F: Fn(u64, u64) -> u64>(
     memo.reach(kept, q, need) >= need || best.bound_of(q.0) >= need
 }
 
-/// The greatest bound that the lines justify for a set, in units of money: static bounds are asked for
-/// in full, and the sums may be above what 64 bits hold, since a plan's bounds may be any numbers.
+/// Returns the greatest bound that the lines justify for a set, in units of money. Static bounds are computed in full.
+/// The sums may exceed 64 bits, since a plan's bounds may be any numbers.
 pub(crate) fn justified<F: Fn(u64, u64) -> u64>(kept: &StoredBound<F>, best: &Best, q: Mask) -> u128
     requires keeps { Keeps (F.pre kept.now.f) (F.post kept.now.f) kept.now.kind kept.now.film.now }
     requires lies { LiesIn kept.now.film.now q.0 }
@@ -160,7 +160,7 @@ pub(crate) fn justified<F: Fn(u64, u64) -> u64>(kept: &StoredBound<F>, best: &Be
     bound.max(least_step(kept, best, q, firsts))
 }
 
-/// The least of the first steps and what is known of the rest.
+/// Returns the least step plus known bound of the rest, over these open firsts.
 fn least_step<F: Fn(u64, u64) -> u64>(
     kept: &StoredBound<F>,
     best: &Best,
@@ -185,7 +185,7 @@ fn least_step<F: Fn(u64, u64) -> u64>(
     least
 }
 
-/// What the lines make known of a set, in units of money.
+/// Returns the bound known of a set, in units of money: the greater of its static bound and its lines' bounds.
 pub(crate) fn known<F: Fn(u64, u64) -> u64>(kept: &StoredBound<F>, best: &Best, q: Mask) -> u64
     requires keeps { Keeps (F.pre kept.now.f) (F.post kept.now.f) kept.now.kind kept.now.film.now }
     requires lies { LiesIn kept.now.film.now q.0 }

@@ -1,4 +1,4 @@
-//! Laws of the definitions. Each function does nothing but cite other laws: its contract is the law.
+//! Laws of the definitions: functions that only cite other laws, each with a theorem as its contract.
 ghost use Rattle.std.specs.Prelude.{◌≡◌, ◌↔◌, ℕ, ◌≤◌, None, List, IsTrue};
 ghost use Rattle.strip_kind.specs.declared.kind.Kind.{Kind};
 ghost use Rattle.strip_pay.specs.Film.{FilmData};
@@ -19,8 +19,8 @@ use strip_film::laws::{a_least_tail_exists, finishing_everything_is_the_optimum}
 use strip_lines::laws::{a_justified_list_is_true, the_rules_are_true};
 use strip_reduce::laws::the_classes_stand_for_the_film;
 
-/// No order that keeps the pairs pays less than the bound of a plan that is accepted, whoever made it;
-/// what else such a plan says is true too.
+/// No order that keeps the pairs pays less than the bound of an accepted plan, whoever made it. The other statements of
+/// an accepted plan are true too.
 pub fn no_order_undercuts_an_accepted_plan()
     ensures { (film : FilmData) (plan : PlanData) → IsFilmUpTo 200 film → class_count film ≤ 64
         → IsAccepted film plan → IsTruePlan film plan }
@@ -32,7 +32,7 @@ pub fn no_order_undercuts_an_accepted_plan()
     the_classes_stand_for_the_film();
 }
 
-/// No check of a plan fails exactly where it is an accepted one.
+/// A plan is accepted exactly if no check fails.
 pub fn accepted_plans_pass_each_check()
     ensures { (film : FilmData) (plan : PlanData) → IsFilmUpTo 200 film → class_count film ≤ 64
         → (first_fault (plan_checks film plan) ≡ None) ↔ IsAccepted film plan }
@@ -41,8 +41,8 @@ pub fn accepted_plans_pass_each_check()
     the_classes_stand_for_the_film();
 }
 
-/// What the tests of the checks decide: a list is an order, keeps a pair, and has a set that lies in a
-/// film; a bound is one that the lines justify for its set; a status is the right one.
+/// The tests of the checks decide their propositions. A list is an order or keeps a pair; a set lies in a film; the
+/// lines justify a bound for a set; a status is right.
 pub fn the_tests_decide()
     ensures order { (n : ℕ) (order : List ℕ) → IsTrue (is_order n order) ↔ IsOrder n order }
     ensures pair { (first second : ℕ) (order : List ℕ)

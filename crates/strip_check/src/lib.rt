@@ -1,5 +1,6 @@
-//! The checker: whether a plan's lines justify its bound, whoever made them. No order that keeps the pairs
-//! pays less than the bound of a plan that it accepts.
+//! The checker of plans (certificates): it decides whether a plan's lines justify its bound, whoever made the plan. No
+//! order that keeps the pairs (precedence constraints) pays less than the bound of an accepted plan. A law is a
+//! function that does nothing when it runs: its contract is a theorem that a caller obtains by calling it.
 #![tactic(auto)]
 
 mod checking;

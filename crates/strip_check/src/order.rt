@@ -1,4 +1,4 @@
-// Whether a plan's order is one of the instance, keeps its pairs, and pays the cost.
+// Checks of a plan's order, pairs and cost.
 ghost use Rattle.std.specs.Prelude.{◌≡◌, length};
 ghost use Rattle.strip_pay.specs.Order.{IsOrder};
 ghost use Rattle.strip_model.specs.Film.{film_of};
@@ -11,7 +11,7 @@ use strip_model::{Instance, Pair, is_order, pay};
 use strip_pay::keeps;
 use strip_proof::Plan;
 
-/// The first reason against the plan's order and its cost.
+/// Returns the first reason against the plan's order and its cost.
 pub(crate) fn against_order(inst: &Instance, plan: &Plan) -> Option<Reason>
     ensures { result ≡ first_fault (order_checks (film_of inst.now) (plan_data plan.now)) }
 {
@@ -30,7 +30,7 @@ fn is_an_order(inst: &Instance, order: &[u16]) -> bool
     is_order(inst, order)
 }
 
-/// The first of the pairs that the order doesn't keep.
+/// Returns the first of the pairs that the order breaks.
 fn against_pairs(pairs: &[Pair], order: &[u16]) -> Option<Reason>
     ensures { result ≡ first_fault (below (length pairs.now) (pair_check pairs.now order.now)) }
 {
@@ -50,7 +50,7 @@ fn keeps_pair(pair: Pair, order: &[u16]) -> bool
     keeps(&[pair], order)
 }
 
-/// The reason against a cost that isn't the pay of the plan's order.
+/// Returns the reason against a cost that isn't the pay of the plan's order.
 fn against_cost(inst: &Instance, plan: &Plan) -> Option<Reason>
     requires { IsOrder (length inst.now.scenes) plan.now.order.items }
     ensures { result ≡ first_fault (cost_check (film_of inst.now) (plan_data plan.now)) }

@@ -1,4 +1,4 @@
-// Whether a plan's lines justify its bound.
+// Checks of a plan's lines, bound and status.
 ghost use Rattle.std.specs.Prelude.{◌≡◌, None, nat_le, All, IfOk, length};
 ghost use Rattle.strip_film.specs.Film.{LiesIn};
 ghost use Rattle.strip_bound.specs.StoredBound.{Keeps};
@@ -22,7 +22,7 @@ use strip_proof::{Plan, Status};
 use strip_reduce::Reduced;
 use strip_trim::Best;
 
-/// The first reason against the plan's lines, its bound and its status.
+/// Returns the first reason against the plan's lines, its bound and its status.
 pub(crate) fn against_proof(
     alloc: Global,
     reduced: &Reduced,
@@ -43,7 +43,7 @@ pub(crate) fn against_proof(
     against_bounds(alloc, &kept, reduced.apart, plan)
 }
 
-/// The first of the lines with a set that doesn't lie in the film.
+/// Returns the first of the lines with a set that doesn't lie in the film.
 fn against_sets(film: &Film, lines: &[Line]) -> Option<Reason>
     ensures first { result ≡ first_fault (below (length lines.now) (set_check film.now lines.now)) }
     ensures lie { result ≡ None → All (λ line. LiesIn film.now line.set) lines.now }
@@ -58,7 +58,7 @@ fn against_sets(film: &Film, lines: &[Line]) -> Option<Reason>
     None
 }
 
-/// The first reason against the bounds of the lines, the plan's bound and its status.
+/// Returns the first reason against the bounds of the lines, the plan's bound and its status.
 fn against_bounds<F: Fn(u64, u64) -> u64>(
     alloc: Global,
     kept: &StoredBound<F>,
@@ -78,7 +78,7 @@ fn against_bounds<F: Fn(u64, u64) -> u64>(
     Ok(against_end(kept, &best, apart, plan))
 }
 
-/// The first of the lines with a bound above what the lines justify for its set.
+/// Returns the first of the lines with a bound greater than the lines justify for its set.
 fn against_lines<F: Fn(u64, u64) -> u64>(
     kept: &StoredBound<F>,
     memo: &mut Memo,
@@ -105,7 +105,7 @@ fn against_lines<F: Fn(u64, u64) -> u64>(
     None
 }
 
-/// The first reason against the plan's bound and its status.
+/// Returns the first reason against the plan's bound and its status.
 fn against_end<F: Fn(u64, u64) -> u64>(
     kept: &StoredBound<F>,
     best: &Best,
@@ -127,7 +127,7 @@ fn against_end<F: Fn(u64, u64) -> u64>(
     None
 }
 
-/// The reason against a bound that is above what is known.
+/// Returns the reason against a bound greater than the known bound.
 fn against_bound(known: u128, bound: u64) -> Option<Reason>
     ensures { result ≡ first_fault (checks_of_one (nat_le bound known) (RootBound known)) }
 {
@@ -139,7 +139,7 @@ fn against_bound(known: u128, bound: u64) -> Option<Reason>
     None
 }
 
-/// Whether the plan's status is the right one by its bound and its cost.
+/// Tells whether the plan's status fits its bound and its cost.
 fn has_right_status(plan: &Plan) -> bool
     ensures { result ≡ is_right plan.now.status plan.now.bound plan.now.cost }
 {

@@ -1,4 +1,4 @@
-// What a reason tells.
+// The text fields of a reason.
 ghost use Rattle.std.specs.Prelude.{◌≡◌};
 ghost use Rattle.strip_text.specs.Told.{told_data};
 ghost use Rattle.strip_check.specs.Told.{told_of};
@@ -7,8 +7,8 @@ use crate::verdict::Reason;
 use strip_text::Told;
 
 impl Reason {
-    /// The reason's name, and the numbers that it tells: of a line first its number, and then the
-    /// greatest bound that is justified, in units of money.
+    /// Returns the reason's name and its numbers. For a line these are its number, then the greatest justified bound,
+    /// in units of money.
     pub fn told(&self) -> Told<'static>
         ensures { told_data result ≡ told_of self.now }
     {

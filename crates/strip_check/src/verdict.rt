@@ -1,11 +1,11 @@
-// What the checker says of a plan.
+// Verdicts of the checker.
 
-/// Why a plan isn't accepted: the first of these that applies. Pairs and lines are counted from 1.
+/// The first reason against a plan. Pairs and lines are counted from 1.
 #[derive(Clone, Copy, Debug, PartialEq, Eq)]
 pub enum Reason {
     /// The order doesn't have each scene once.
     NotAnOrder,
-    /// The first of the instance's pairs that the order doesn't keep.
+    /// The first of the instance's pairs that the order breaks.
     BrokenPair { pair: u64 },
     /// The order pays `found`, which isn't the plan's cost.
     WrongCost { found: u64 },
@@ -13,14 +13,13 @@ pub enum Reason {
     BadSet { line: u64 },
     /// The first line with a bound above `justified`, the greatest that the lines justify for its set.
     Unjustified { line: u64, justified: u64 },
-    /// What the lines make known of all classes, with what is set apart, is `known`, which is below the
-    /// plan's bound.
+    /// The known bound of all classes plus the cost set apart is `known`, which is below the plan's bound.
     RootBound { known: u64 },
     /// The status is optimal though the bound isn't the cost, or bounded though it is.
     StatusWrong,
 }
 
-/// Whether a plan's lines justify its bound.
+/// The checker's decision on a plan.
 #[derive(Clone, Copy, Debug, PartialEq, Eq)]
 pub enum Verdict {
     Accepted,

@@ -1,4 +1,4 @@
-// A plan checked, from its files to the answer.
+// The check of a plan, from its files to the answer.
 ghost use Rattle.std.specs.Prelude.{◌≡◌, Err, IfOk, string_bytes};
 ghost use Rattle.strip_proof.specs.Plan.{plan_data};
 ghost use Rattle.strip_check.specs.declared.verdict.Verdict.TheVariants.{Accepted, Refused};
@@ -19,8 +19,8 @@ use strip_proof::Plan;
 use strip_text::Text;
 use strip_words::PlanFiles;
 
-/// The answer to a film's file and a plan's: that the plan is accepted, or the first reason why not, or why
-/// a file isn't fit.
+/// Returns the answer to a film's file and a plan's file. The plan is accepted, or the answer has the first reason
+/// against it, or the fault of the first unfit file.
 pub fn audit<F: Files>(alloc: Global, files: &mut F, names: &PlanFiles) -> Result<Answer, Stop>
     ensures due { IfOk result (λ answer. IsAuditDue (plan_files_data names.now) (F.state files.old) (F.state files.new)
         answer.status (answer_text answer)) }
@@ -32,7 +32,7 @@ pub fn audit<F: Files>(alloc: Global, files: &mut F, names: &PlanFiles) -> Resul
     answer_plan::<AuditJob, F>(alloc, files, names)
 }
 
-/// Whether the plan is accepted.
+/// The job that checks a plan.
 struct AuditJob;
 
 impl PlanJob for AuditJob {
@@ -45,7 +45,7 @@ impl PlanJob for AuditJob {
     }
 }
 
-/// The answer to an instance and a plan of it.
+/// Returns the answer to an instance and a plan of it.
 fn checked(alloc: Global, inst: &Instance, plan: &Plan) -> Result<Answer, Memory>
     ensures { IfOk result (λ answer. IsAudited inst.now (plan_data plan.now) answer.status (answer_text answer)) }
 {
@@ -56,7 +56,7 @@ fn checked(alloc: Global, inst: &Instance, plan: &Plan) -> Result<Answer, Memory
     }
 }
 
-/// The answer that tells a verdict.
+/// Returns the answer that prints a verdict.
 fn told(alloc: Global, verdict: Verdict) -> Result<Answer, Memory>
     ensures status { IfOk result (λ answer. answer.status ≡ status_of verdict) }
     ensures text { IfOk result (λ answer. answer_text answer ≡ verdict_text verdict) }

@@ -1,5 +1,5 @@
-//! The accountant's program: a film's file and a plan's are read, and the plan is accepted where its lines
-//! justify its bound, or refused. It knows nothing of how plans come about.
+//! The program `stripcheck` over any files and output sink. It reads a film's file and a plan's file, and accepts the
+//! plan if its lines justify its bound. It depends on no code of the search.
 #![tactic(auto)]
 
 mod auditing;

@@ -1,4 +1,4 @@
-// The whole program, over handed-in words, files and sink.
+// The whole program, over given words, files and sink.
 ghost use Rattle.std.specs.Prelude.{◌≡◌, Err, IfOk};
 ghost use Rattle.strip_words.specs.Shown.{texts};
 ghost use Rattle.strip_answer.specs.Claims.{AsksFor, IsDue};
@@ -13,8 +13,8 @@ use strip_answer::{Answer, Stop, finish};
 use strip_io::{Files, Sink};
 use strip_words::{WordsFault, plan_files};
 
-/// Checks the plan of the second file that the words name against the film of the first, and answers the
-/// exit status. It takes all its memory before it writes.
+/// Checks the plan of the second named file against the film of the first, and returns the exit status. It takes all
+/// its memory before it writes.
 pub fn report<F: Files, S: Sink>(alloc: Global, words: &[String], files: &mut F, out: &mut S) -> u8
     ensures headline { IsHeadline audit_claims (run_data (texts words.now)
         (F.state files.old) (F.state files.new) (S.state out.old) (S.state out.new)) result }
@@ -24,7 +24,7 @@ pub fn report<F: Files, S: Sink>(alloc: Global, words: &[String], files: &mut F,
     finish(out, &answer).code()
 }
 
-/// The answer to the words: that they name no two files, or what is due for the two.
+/// Returns the answer to the words: to the two files that they name, or to words that don't name two files.
 fn answer_words<F: Files>(alloc: Global, words: &[String], files: &mut F) -> Result<Answer, Stop>
     ensures due { IfOk result (λ answer. IsDue audit_claims (texts words.now) (F.state files.old) (F.state files.new)
         answer.status (answer_text answer)) }
@@ -33,7 +33,7 @@ fn answer_words<F: Files>(alloc: Global, words: &[String], files: &mut F) -> Res
     ensures files { FilesStay (F.state files.old) (F.state files.new)
         (AsksFor audit_claims (texts words.now) (F.state files.old)) (result ≡ Err Stop.Read) }
 {
-    // The words are those of the command `check` behind its own.
+    // The words are those of the command `check` after its own word.
     match plan_files(alloc, "check", words) {
         Ok(names) => audit(alloc, files, &names),
         Err(WordsFault::BadWords) => Ok(Answer::no_job(alloc)?),

@@ -1,4 +1,4 @@
-// What is due for the words and the files, before anything is written.
+// The answer to the words and the files, before anything is written.
 ghost use Rattle.std.specs.Prelude.{◌≡◌, Err, IfOk};
 ghost use Rattle.strip_words.specs.Shown.{job_data, texts};
 ghost use Rattle.strip_answer.specs.Claims.{AsksFor, IsDue};
@@ -26,7 +26,7 @@ use strip_solve::SearchOptions;
 use strip_words::laws::numbers_lie_within_their_ends;
 use strip_words::{Job, WordsFault, job};
 
-/// The answer to the words: that they name no job, or what the job that they name asks for.
+/// Returns the answer to the words: to the job that they name, or to words that name no job.
 pub(crate) fn answer_words<
     V: Fn(&Instance, SearchOptions, Option<u32>) -> Result<Plan, ReduceFault>,
     F: Files,
@@ -47,7 +47,7 @@ pub(crate) fn answer_words<
     }
 }
 
-/// The answer to a job, a line for each command.
+/// Returns the answer to a job, by its command.
 fn answer_job<V: Fn(&Instance, SearchOptions, Option<u32>) -> Result<Plan, ReduceFault>, F: Files>(
     alloc: Global,
     solver: &V,

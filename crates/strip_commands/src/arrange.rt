@@ -15,7 +15,7 @@ use strip_io::Memory;
 use strip_model::{Instance, is_order};
 use strip_proof::Plan;
 
-/// The film's text with its scenes in the plan's order, or that it is no order.
+/// The job that prints the film's text with its scenes in the plan's order, or refuses a list that is no order.
 pub(crate) struct ArrangeJob;
 
 impl PlanJob for ArrangeJob {
@@ -28,7 +28,7 @@ impl PlanJob for ArrangeJob {
     }
 }
 
-/// The answer to an instance and a list of scenes.
+/// Returns the answer to an instance and a list of scenes.
 fn text_in_order(alloc: Global, inst: &Instance, order: &[u16]) -> Result<Answer, Memory>
     requires { HasReadableNames inst.now }
     ensures { IfOk result (λ answer. IsArranged inst.now order.now answer.status (answer_text answer)) }

@@ -13,7 +13,7 @@ use strip_io::Memory;
 use strip_model::{Instance, is_order};
 use strip_proof::Plan;
 
-/// The page of the plan's order, or that it is no order.
+/// The job that prints the HTML page of the plan's order, or refuses a list that is no order.
 pub(crate) struct BoardJob;
 
 impl PlanJob for BoardJob {
@@ -26,7 +26,7 @@ impl PlanJob for BoardJob {
     }
 }
 
-/// The answer to an instance and a plan.
+/// Returns the answer to an instance and a plan.
 fn page_of(alloc: Global, inst: &Instance, plan: &Plan) -> Result<Answer, Memory>
     ensures { IfOk result (λ answer. IsPageOrNone inst.now (plan_data plan.now) answer.status (answer_text answer)) }
 {

@@ -14,7 +14,7 @@ use strip_model::Instance;
 use strip_proof::laws::written_plans_read_back;
 use strip_proof::{Plan, head_text};
 
-/// The plan in the newest format. It checks nothing of the plan.
+/// The job that prints the plan in the newest format. It doesn't check the plan.
 pub(crate) struct ConvertJob;
 
 impl PlanJob for ConvertJob {
@@ -27,7 +27,7 @@ impl PlanJob for ConvertJob {
     }
 }
 
-/// The answer that prints the plan with all its lines.
+/// Returns the answer that prints the plan with all its lines.
 fn written(alloc: Global, inst: &Instance, plan: Plan) -> Result<Answer, Memory>
     requires said { IsSaidFilm inst.now }
     requires readable { IsReadablePlan inst.now (plan_data plan) }

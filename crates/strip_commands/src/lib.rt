@@ -1,4 +1,5 @@
-//! What the program does, from its words and files to what it prints and its exit status.
+//! The program `stripboard` over any files and output sink: the commands, from words and files to the printed text and
+//! the exit status.
 #![tactic(auto)]
 
 mod answer;

@@ -30,7 +30,7 @@ use strip_solve::SearchOptions;
 use strip_text::Text;
 use strip_words::{GenJob, TrialJob};
 
-/// The answer that prints a film which is made from a number.
+/// Returns the answer that prints the film generated from a seed.
 pub(crate) fn print_film(alloc: Global, job: &GenJob) -> Result<Answer, Memory>
     requires { IsSized (gen_data job.now) }
     ensures { IfOk result (λ answer. IsGenDue (gen_data job.now) answer.status (answer_text answer)) }
@@ -41,7 +41,7 @@ pub(crate) fn print_film(alloc: Global, job: &GenJob) -> Result<Answer, Memory>
     Ok(printed(alloc, text))
 }
 
-/// The film that is made from a number.
+/// Generates the film of a seed.
 fn film_made(alloc: Global, job: &GenJob) -> Result<Instance, Memory>
     requires { IsSized (gen_data job.now) }
     ensures { IfOk result (λ inst. inst ≡ made_of (gen_data job.now)) }
@@ -49,7 +49,7 @@ fn film_made(alloc: Global, job: &GenJob) -> Result<Instance, Memory>
     generate(alloc, job.number, job.scenes as u32, job.actors as u32)
 }
 
-/// The answer to a trial: a film is made, solved, and its plan checked.
+/// Returns the answer to a trial: it generates a film, solves it, and checks the plan.
 pub(crate) fn try_film<V: Fn(&Instance, SearchOptions, Option<u32>) -> Result<Plan, ReduceFault>>(
     alloc: Global,
     solver: &V,
@@ -67,7 +67,7 @@ pub(crate) fn try_film<V: Fn(&Instance, SearchOptions, Option<u32>) -> Result<Pl
     }
 }
 
-/// The answer to a trial of an instance with this many classes, at most 64. One worker solves it.
+/// Returns the answer to a trial of an instance with `classes` classes, at most 64. One worker solves it.
 fn try_classes<V: Fn(&Instance, SearchOptions, Option<u32>) -> Result<Plan, ReduceFault>>(
     alloc: Global,
     solver: &V,
@@ -90,7 +90,7 @@ fn try_classes<V: Fn(&Instance, SearchOptions, Option<u32>) -> Result<Plan, Redu
     }
 }
 
-/// The answer to a trial whose plan this is.
+/// Returns the answer to a trial with this plan.
 fn try_plan(
     alloc: Global,
     inst: &Instance,
@@ -113,7 +113,7 @@ fn try_plan(
     }
 }
 
-/// The answer that prints the row of a trial.
+/// Returns the answer that prints the row of a trial.
 fn tried(alloc: Global, film: &GenJob, classes: usize, plan: &Plan) -> Result<Answer, Memory>
     requires { classes ≤ 64 }
     ensures status { IfOk result (λ answer. answer.status ≡ exit_of plan.now.status) }
@@ -127,7 +127,7 @@ fn tried(alloc: Global, film: &GenJob, classes: usize, plan: &Plan) -> Result<An
     })
 }
 
-/// The row of a trial.
+/// Returns the row of a trial.
 fn trial_text(alloc: Global, film: &GenJob, classes: usize, plan: &Plan) -> Result<Vec<u8>, Memory>
     requires { classes ≤ 64 }
     ensures { IfOk result (λ text. text.items ≡ trial_row (gen_data film.now) classes (plan_data plan.now)) }

@@ -26,7 +26,7 @@ use strip_reduce::ReduceFault;
 use strip_solve::price;
 use strip_words::FilmFile;
 
-/// The answer to a film's file: the plan of the order that its rows have, or why there is none.
+/// Returns the answer to a film's file: the plan of its rows' order, or why there is none.
 pub(crate) fn price_film<F: Files>(
     alloc: Global,
     files: &mut F,
@@ -46,7 +46,7 @@ pub(crate) fn price_film<F: Files>(
     }
 }
 
-/// The answer to an instance that a text says.
+/// Returns the answer to an instance that was read from a text.
 fn price_instance(alloc: Global, inst: &Instance) -> Result<Answer, Memory>
     requires { IsSaidFilm inst.now }
     ensures { IfOk result (λ answer. IsPriced inst.now answer.status (answer_text answer)) }
@@ -58,8 +58,8 @@ fn price_instance(alloc: Global, inst: &Instance) -> Result<Answer, Memory>
     }
 }
 
-/// The answer to an instance and the plan of its rows: the plan, or the checker's reason against it if the
-/// rows break a pair.
+/// Returns the answer to an instance and the plan of its rows: the plan, or the checker's reason against it if the rows
+/// break a pair.
 fn price_plan(alloc: Global, inst: &Instance, plan: &Plan) -> Result<Answer, Memory>
     requires said { IsSaidFilm inst.now }
     requires few { class_count (film_of inst.now) ≤ 64 }
@@ -75,7 +75,7 @@ fn price_plan(alloc: Global, inst: &Instance, plan: &Plan) -> Result<Answer, Mem
     }
 }
 
-/// The answer that prints a plan without its lines.
+/// Returns the answer that prints a plan without its lines.
 fn print_plan(alloc: Global, inst: &Instance, plan: &Plan) -> Result<Answer, Memory>
     requires { All (λ scene. scene < length inst.now.scenes) plan.now.order.items }
     ensures status { IfOk result (λ answer. answer.status ≡ Done) }

@@ -1,4 +1,4 @@
-// The whole program, over handed-in words, files and sink.
+// The whole program, over given words, files and sink.
 ghost use Rattle.std.specs.Prelude.{◌≤◌, IfSome};
 ghost use Rattle.std.specs.Thread.{IsSync};
 ghost use Rattle.strip_solve.specs.Answer.{IsAnswerFor, MayBe};
@@ -23,8 +23,8 @@ use strip_solve::{SearchOptions, solve_alone};
 use strip_words::laws::words_name_one_job;
 use strip_worker::Gate;
 
-/// Does all that the program does, and answers its exit status. It reads the files that the words
-/// ask for, and takes all its memory before it writes. One worker searches, whatever the words say.
+/// Runs the whole program, and returns its exit status. It reads the files that the words name, and takes all its
+/// memory before it writes. One worker searches, even if the words ask for several.
 pub fn report<F: Files, S: Sink>(alloc: Global, words: &[String], files: &mut F, out: &mut S) -> u8
     ensures headline { IsHeadline board_claims (run_data (texts words.now)
         (F.state files.old) (F.state files.new) (S.state out.old) (S.state out.new)) result }
@@ -46,8 +46,8 @@ pub fn report<F: Files, S: Sink>(alloc: Global, words: &[String], files: &mut F,
     )
 }
 
-/// Does what `report` does, with as many workers as the words say, in threads of the runtime where they
-/// are several. The gate is told how a search gets on.
+/// Runs the whole program as `report` does, but with the number of workers that the words give. Several workers run in
+/// threads of the runtime. The gate gets reports of a search.
 pub fn run<R: Threads + Wait + Sync, F: Files, S: Sink, G: Gate>(
     rt: &R,
     alloc: Global,
@@ -77,7 +77,7 @@ pub fn run<R: Threads + Wait + Sync, F: Files, S: Sink, G: Gate>(
     )
 }
 
-/// The same by any solver.
+/// Runs the whole program with any solver.
 fn report_by<
     V: Fn(&Instance, SearchOptions, Option<u32>) -> Result<Plan, ReduceFault>,
     F: Files,
@@ -89,7 +89,7 @@ fn report_by<
     ensures proved { IsBoardProved (run_data (texts words.now)
         (F.state files.old) (F.state files.new) (S.state out.old) (S.state out.new)) result }
 {
-    // The words name one job at most, and so its files.
+    // The words name at most one job, so they fix its files.
     words_name_one_job();
     let answer = answer_words(alloc, solver, words, files);
     finish(out, &answer).code()

@@ -16,7 +16,7 @@ use strip_io::Memory;
 use strip_model::{Instance, is_order};
 use strip_proof::Plan;
 
-/// The Day Out of Days report of the plan's order, or that it is no order.
+/// The job that prints the Day Out of Days report of the plan's order, or refuses a list that is no order.
 pub(crate) struct DoodJob;
 
 impl PlanJob for DoodJob {
@@ -30,7 +30,7 @@ impl PlanJob for DoodJob {
     }
 }
 
-/// The cost sheet of the plan's order, or that it is no order.
+/// The job that prints the cost sheet of the plan's order, or refuses a list that is no order.
 pub(crate) struct SheetJob;
 
 impl PlanJob for SheetJob {
@@ -44,7 +44,7 @@ impl PlanJob for SheetJob {
     }
 }
 
-/// The answer to an instance and a list of scenes.
+/// Returns the answer to an instance and a list of scenes.
 fn dood_of(alloc: Global, inst: &Instance, order: &[u16]) -> Result<Answer, Memory>
     ensures { IfOk result (λ answer. IsReported dood_text inst.now order.now answer.status (answer_text answer)) }
 {
@@ -57,7 +57,7 @@ fn dood_of(alloc: Global, inst: &Instance, order: &[u16]) -> Result<Answer, Memo
     Ok(printed(alloc, text))
 }
 
-/// The answer to an instance and a list of scenes.
+/// Returns the answer to an instance and a list of scenes.
 fn sheet_of(alloc: Global, inst: &Instance, order: &[u16]) -> Result<Answer, Memory>
     ensures { IfOk result (λ answer. IsReported sheet_text inst.now order.now answer.status (answer_text answer)) }
 {
@@ -69,7 +69,7 @@ fn sheet_of(alloc: Global, inst: &Instance, order: &[u16]) -> Result<Answer, Mem
     Ok(printed(alloc, text))
 }
 
-/// The answer that prints this text.
+/// Returns the answer that prints this text.
 pub(crate) fn printed(alloc: Global, text: Vec<u8>) -> Answer
     ensures status { result.status ≡ Done }
     ensures text { answer_text result ≡ text.items }
@@ -81,7 +81,7 @@ pub(crate) fn printed(alloc: Global, text: Vec<u8>) -> Answer
     }
 }
 
-/// The answer that tells a checker's reason against a plan.
+/// Returns the answer that prints the checker's reason against a plan.
 pub(crate) fn refused(alloc: Global, reason: Reason) -> Result<Answer, Memory>
     ensures status { IfOk result (λ answer. answer.status ≡ NotAccepted) }
     ensures text { IfOk result (λ answer. answer_text answer ≡ told_row (codes "refused") (told_of reason)) }

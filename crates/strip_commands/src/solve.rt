@@ -25,7 +25,7 @@ use strip_reduce::ReduceFault;
 use strip_solve::SearchOptions;
 use strip_words::SolveJob;
 
-/// The answer to a job: a plan of its file's film, or why there is none.
+/// Returns the answer to a job: a plan of its file's film, or why there is none.
 pub(crate) fn solve<
     V: Fn(&Instance, SearchOptions, Option<u32>) -> Result<Plan, ReduceFault>,
     F: Files,
@@ -46,7 +46,7 @@ pub(crate) fn solve<
     }
 }
 
-/// The answer to an instance that a text says.
+/// Returns the answer to an instance that was read from a text.
 fn solve_instance<V: Fn(&Instance, SearchOptions, Option<u32>) -> Result<Plan, ReduceFault>>(
     alloc: Global,
     solver: &V,
@@ -66,7 +66,7 @@ fn solve_instance<V: Fn(&Instance, SearchOptions, Option<u32>) -> Result<Plan, R
     }
 }
 
-/// What a search goes by, as a job to solve says it.
+/// Returns the options of a search from a job to solve.
 fn options_for(job: &SolveJob) -> SearchOptions
     requires within { IsWithin (ToSolve (solve_data job.now)) }
     ensures may_be { MayBe result }
@@ -87,7 +87,7 @@ fn options_for(job: &SolveJob) -> SearchOptions
     }
 }
 
-/// What a search goes by with these numbers and bounds, where nothing is stolen or chosen.
+/// Returns the options of a search with these numbers and bounds, without work stealing and automatic choice.
 pub(crate) fn options_of(
     kind: Kind,
     nodes: u64,
@@ -121,7 +121,7 @@ pub(crate) fn options_of(
     }
 }
 
-/// The same number in fewer bits, where there is one.
+/// Returns the same number in 32 bits, or none for none.
 fn narrow(number: Option<u64>) -> Option<u32>
     requires { (n : ℕ) → number ≡ Some n → n < 2 ^ 32 }
     ensures { result ≡ number }
@@ -132,7 +132,7 @@ fn narrow(number: Option<u64>) -> Option<u32>
     }
 }
 
-/// The answer that prints a plan, with its line rows where a proof is asked for.
+/// Returns the answer that prints a plan, with its line rows if `proof` holds.
 fn answer_plan(alloc: Global, inst: &Instance, plan: Plan, proof: bool) -> Result<Answer, Memory>
     requires { All (λ scene. scene < length inst.now.scenes) plan.order.items }
     ensures status { IfOk result (λ answer. answer.status ≡ exit_of plan.status) }
@@ -158,7 +158,7 @@ fn answer_plan(alloc: Global, inst: &Instance, plan: Plan, proof: bool) -> Resul
     }
 }
 
-/// The exit status of a plan.
+/// Returns the exit status of a plan.
 pub(crate) fn status_of(status: PlanStatus) -> Status
     ensures { result ≡ exit_of status }
 {

@@ -1,4 +1,4 @@
-// A solver of so many workers: one, or several beside one another.
+// The solver, with one worker or several.
 ghost use Rattle.std.specs.Prelude.{◌≤◌, IfSome};
 ghost use Rattle.strip_solve.specs.Answer.{IsAnswerFor, MayBe};
 
@@ -11,9 +11,8 @@ use strip_reduce::ReduceFault;
 use strip_solve::{SearchOptions, solve_beside, solve_through};
 use strip_worker::Gate;
 
-/// A plan of the instance, by so many workers, 1 to 64, in threads of the runtime where they are several. If no number is
-/// given, they are as many as the machine has processors.
-/// The gate is told how they get on.
+/// Finds a plan of the instance with `workers` workers, 1 to 64; without a number, with as many as the machine has
+/// processors. Several workers run in threads of the runtime. The gate gets reports of the search.
 pub(crate) fn solve_by<R: Threads + Wait + Sync, G: Gate>(
     rt: &R,
     alloc: Global,
@@ -34,7 +33,7 @@ pub(crate) fn solve_by<R: Threads + Wait + Sync, G: Gate>(
     }
 }
 
-/// How many processors the machine has, at most 64; 1 if it doesn't tell.
+/// Returns the number of processors of the machine, at most 64, or 1 if it is unknown.
 fn processors<R: Threads>(rt: &R) -> u32
     ensures { (1 ≤ result) × (result ≤ 64) }
 {

@@ -1,4 +1,4 @@
-// Asks that several workers answer at once.
+// Parallel answers to requests for static bounds.
 ghost use Rattle.std.specs.Prelude.{◌≡◌, ◌*◌, ◌<◌, ◌≤◌, ◌^◌, All, IfOk, false, length};
 ghost use Rattle.strip_kind.specs.declared.kind.Kind.{Kind};
 ghost use Rattle.strip_pay.specs.Film.{FilmData};
@@ -16,11 +16,11 @@ use strip_io::Memory;
 use strip_layers::{Answers, Ask, answer_in_turn};
 use strip_mask::Mask;
 
-/// With fewer sets than this that aren't known, no threads are started.
+/// With fewer unknown requests than this, no threads are started.
 const FEW: usize = 64;
 
-/// Several workers, who answer the sets of a layer at once, each in a thread: `by` is a closure that calls
-/// `answer_beside`. It is made by who has the workers, as a method of a trait can't hand the stored bound to threads.
+/// Several workers, who answer the requests of a layer in parallel, each in a thread. `by` is a closure that calls
+/// `answer_beside`. The caller makes it, because a trait method can't hand the stored bound to threads.
 #[derive(Drop)]
 pub struct Beside<'k, 'f, F: Fn(u64, u64) -> u64, G: Fn(&mut [Ask]) -> Result<(), Memory>> {
     pub kept: &'k StoredBound<'f, F>,
@@ -50,9 +50,8 @@ impl<'k, 'f, F: Fn(u64, u64) -> u64, G: Fn(&mut [Ask]) -> Result<(), Memory>> An
     }
 }
 
-/// Answers each ask that isn't known, by so many workers at once, or by the caller alone where fewer than `FEW` aren't.
-/// It asks the stored bound once for each of them, and keeps one number for each ask and at most one more for each
-/// worker.
+/// Answers each request that isn't known, on `workers` threads, or on the caller alone if fewer than `FEW` are unknown.
+/// It calls the stored bound once for each, and takes a number for each request and at most one more for each worker.
 pub fn answer_beside<R: Threads + Sync, F: Fn(u64, u64) -> u64 + Sync>(
     rt: &R,
     alloc: Global,
@@ -78,13 +77,13 @@ pub fn answer_beside<R: Threads + Sync, F: Fn(u64, u64) -> u64 + Sync>(
     Ok(())
 }
 
-/// How many asks aren't known.
+/// Returns the number of requests that aren't known.
 fn unknown_count(asks: &[Ask]) -> usize {
     asks.iter().filter(|ask| !ask.is_known).count()
 }
 
-/// Finds the value of each ask that isn't known, by so many workers at once. Neighbours, which cost about the same, go
-/// to the workers by turns, and each worker has `turns` values in a row.
+/// Computes the value of each request that isn't known, on `workers` threads. Neighbours cost about the same, so they
+/// go to the workers in turn. Each worker's `turns` values lie in a row in `values`.
 fn find_values<R: Threads + Sync, F: Fn(u64, u64) -> u64 + Sync>(
     rt: &R,
     kept: &StoredBound<F>,
@@ -109,8 +108,8 @@ fn find_values<R: Threads + Sync, F: Fn(u64, u64) -> u64 + Sync>(
     );
 }
 
-/// The value of the ask that stands at this place, where there is one that isn't known, else 0. It asks the stored
-/// bound at most once.
+/// Returns the value of the request that belongs to this place of `values`, or 0 if there is none or it is known. It
+/// calls the stored bound at most once.
 fn value_at<F: Fn(u64, u64) -> u64>(
     kept: &StoredBound<F>,
     asks: &[Ask],
@@ -130,7 +129,7 @@ fn value_at<F: Fn(u64, u64) -> u64>(
     }
 }
 
-/// Writes each value to its ask, where that isn't known: one pass over the asks.
+/// Copies the values to the requests that aren't known, in one pass.
 fn take_values(asks: &mut [Ask], turns: usize, workers: usize, values: &[u64])
     requires workers { 0 < workers }
     requires turns { length asks.old ≤ turns * workers }
@@ -146,7 +145,7 @@ fn take_values(asks: &mut [Ask], turns: usize, workers: usize, values: &[u64])
     }
 }
 
-/// Writes a value to an ask, if that isn't known.
+/// Sets a request's value, if it isn't known.
 fn take_value(ask: &mut Ask, value: u64)
     ensures { (kind : Kind) (film : FilmData)
         → (ask.old.is_known ≡ false → Suffices kind film ask.old.set ask.old.need value)

@@ -3,8 +3,8 @@ use strip_hub::HubParts;
 use strip_memo::Memo;
 use strip_worker::Walked;
 
-/// What a worker works with: its number, its passes, what it found of the tasks so far, and its memo of
-/// static bounds.
+/// A worker's state in its thread: its number, its passes, its results for the tasks, and its memo (cache of static
+/// bounds).
 #[derive(Drop)]
 pub(crate) struct Job {
     pub(crate) number: u32,

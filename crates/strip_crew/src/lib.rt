@@ -1,4 +1,5 @@
-//! A search by several workers beside one another, each with passes of what all of them share.
+//! Parallel branch and bound: several workers search in threads (a crew, in a race). Each has passes, the ghost tokens
+//! of its knowledge about the shared state. Workers can also compute static bounds in parallel for a search by layers.
 #![tactic(auto)]
 
 mod answering;

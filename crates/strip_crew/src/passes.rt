@@ -1,4 +1,4 @@
-// Passes that are split, joined and settled.
+// Passes (ghost tokens of a worker's knowledge): split, joined and settled.
 ghost use Rattle.std.specs.Prelude.{◌≡◌, ◌+◌, ◌<◌, ◌||◌, ℕ, suc, IfOk};
 ghost use Rattle.strip_hand.specs.Hand.{IsHand};
 ghost use Rattle.strip_least.specs.Pass.{best_path, known as known_least};
@@ -18,8 +18,8 @@ use strip_hub::HubParts;
 use strip_io::Memory;
 use strip_least::Least;
 
-/// The passes of a further worker, each of weight 1, which knows what these know and has claimed nothing,
-/// and announces at this desk, with a source of its own. These weigh less by 1.
+/// Splits off passes of weight 1 for a further worker, with a source of its own; the given passes get lighter by 1. The
+/// new passes have all knowledge of the given ones and no claims, and use this desk.
 pub(crate) fn split(
     alloc: Global,
     least: &Least,
@@ -41,7 +41,7 @@ pub(crate) fn split(
     })
 }
 
-/// Takes another worker's passes in: their weight, what they know, and the parts that they have.
+/// Joins another worker's passes into `into`: their weight, knowledge and parts.
 pub(crate) fn join(least: &Least, book: &Book, into: &mut HubParts, other: HubParts)
     requires into { ArePassesOf least.now book.now into.old }
     requires other { ArePassesOf least.now book.now other }
@@ -63,8 +63,8 @@ pub(crate) fn join(least: &Least, book: &Book, into: &mut HubParts, other: HubPa
     join_source(&mut into.source, source);
 }
 
-/// Tells the passes the least cost and all lines. Where they have the full weight, since all others were
-/// joined into them, they have all records that count lines, and a best path that paid the least cost.
+/// Updates the passes to the least cost and all lines. After all others were joined into them, they have the full
+/// weight. Then they have all records that count lines, and a best path of the least cost.
 pub(crate) fn settle(least: &Least, book: &Book, passes: &mut HubParts)
     requires { ArePassesOf least.now book.now passes.old }
     ensures passes { ArePassesOf least.now book.now passes.new }

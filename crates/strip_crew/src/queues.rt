@@ -1,4 +1,4 @@
-// The queues that workers take tasks from.
+// The work-stealing queues of tasks.
 ghost use Rattle.std.specs.Prelude.{◌≡◌, ◌≤◌, ◌++◌, ℕ, IfOk, length};
 ghost use Rattle.strip_front.specs.Shown.{front_data};
 ghost use Rattle.strip_crew.specs.Crew.{ArePassesOf, shown};
@@ -12,9 +12,9 @@ use strip_io::Memory;
 use strip_least::Least;
 use strip_steal::pool;
 
-/// Makes the passes ready for so many workers. Where they steal, the parts of all tasks are put into queues,
-/// one for each worker, those that are asked for first, and what they take will be gathered with the passes.
-/// The front was claimed by these passes, and nothing else.
+/// Makes the passes ready for the workers. With work stealing, the parts of all tasks are put into queues, one for each
+/// worker, with wanted tasks first. The passes will then collect the parts that the workers took. These passes have
+/// claimed the front only.
 pub(crate) fn with_source(
     alloc: Global,
     least: &Least,
@@ -48,7 +48,7 @@ pub(crate) fn with_source(
     })
 }
 
-/// The parts of all tasks: those that are asked for in their order, and then the others.
+/// Returns the parts of all tasks: the wanted ones in their order, and then the others.
 fn parts_in_turn(alloc: Global, wanted: &[bool]) -> Result<Vec<u32>, Memory>
     requires { length wanted.now ≤ 16777216 }
     ensures { IfOk result (λ numbers. ArePartsOf (length wanted.now) numbers.items) }
@@ -59,7 +59,7 @@ fn parts_in_turn(alloc: Global, wanted: &[bool]) -> Result<Vec<u32>, Memory>
     Ok(numbers)
 }
 
-/// Appends the parts of those tasks that are asked for, or of those that aren't.
+/// Appends the parts of the wanted tasks, or of the others.
 fn push_parts(numbers: &mut Vec<u32>, wanted: &[bool], asked: bool) -> Result<(), Memory>
     requires { length wanted.now ≤ 16777216 }
     ensures { IfOk result (λ _. numbers.new.items ≡ numbers.old.items ++ parts_where asked 1 wanted.now) }
@@ -70,7 +70,7 @@ fn push_parts(numbers: &mut Vec<u32>, wanted: &[bool], asked: bool) -> Result<()
     Ok(())
 }
 
-/// Appends the part, if so.
+/// Appends the part, if `is_asked` holds.
 fn push_part(numbers: &mut Vec<u32>, part: u32, is_asked: bool) -> Result<(), Memory>
     ensures { IfOk result (λ _. numbers.new.items ≡ numbers.old.items ++ part_if is_asked part) }
 {

@@ -1,4 +1,4 @@
-// A search by several workers.
+// A parallel search.
 ghost use Rattle.std.specs.Prelude.{◌≡◌, ◌*◌, ◌⊎◌, ◌≤◌, true, ℕ, IfOk};
 ghost use Rattle.strip_bound.specs.StoredBound.{Keeps};
 ghost use Rattle.strip_film.specs.Path.{IsComplete};
@@ -43,8 +43,8 @@ use strip_stripes::{Named, Stripes};
 use strip_worker::{Ended, Gate, Walked, Worker, asked_for, close, go_down_front, tell};
 use strip_world::Limits;
 
-/// What a race begins with: its front, with nothing in it yet, the words of the least cost and the next
-/// part, the book, and the first passes of both.
+/// The initial state of a race: its front (search frontier) without lines, the shared incumbent cost and next part, the
+/// book (list of lines), and the first passes of both.
 #[derive(Drop)]
 struct Opening {
     front: Front,
@@ -53,16 +53,15 @@ struct Opening {
     passes: HubParts,
 }
 
-/// Searches the film for a cheapest order with several workers, each in a thread: the caller goes down the
-/// front, they walk the tasks that are asked for, and the caller closes the front up. It begins with a
-/// complete path and goes by the limits. The gate is told how they get on. Each worker takes the next task of
-/// all; or, where they steal, he has a queue of tasks and takes from the others' where his own is empty.
+/// Searches for a cheapest order of the film with several workers, each in a thread. The caller goes down the front,
+/// the workers walk the wanted tasks, and the caller raises the front's lines. The search begins with a complete path
+/// and keeps the limits. The gate gets reports of its progress. Each worker takes the next task from a common counter.
+/// With `steal` he has a queue of tasks, and steals from the others when his own is empty.
 ///
-/// What is claimed of its end is what is claimed of a search by one worker, in whatever order the workers
-/// come. All room but that of a list for each worker, and of the queues, is taken before they start, 16 bytes
-/// for each line that there may be; each has a memo of its own, and all these together take at most 128 MB.
-/// It waits for the workers, and they for the locks of the table and for one who is about to take from the
-/// same queue.
+/// The claims of its result are those of a search by one worker, however the threads interleave. All memory except the
+/// queues and a list for each worker is taken before they start, with 16 bytes for each possible line. Each worker has
+/// a memo of his own; together the memos take at most 128 MB. The caller waits for the workers. They wait for the locks
+/// of the table, and for a worker who is about to take from the same queue.
 pub fn race<R: Threads + Wait + Sync, F: Fn(u64, u64) -> u64 + Sync, G: Gate>(
     rt: &R,
     alloc: Global,
@@ -89,8 +88,8 @@ pub fn race<R: Threads + Wait + Sync, F: Fn(u64, u64) -> u64 + Sync, G: Gate>(
     in_race::<Brand, R, F, G>(rt, alloc, kept, memo, opening, limits, steal, gate)
 }
 
-/// How many lines there may be: as many as the cap says, and no more than twice the orders of so many
-/// scenes, as no search has more.
+/// Returns the greatest possible number of lines: the cap, or twice the number of orders of the scenes if that is less.
+/// No search makes more lines.
 fn room_for(scenes: usize, cap: u32) -> u32
     requires scenes { scenes ≤ 64 }
     requires some { 1 ≤ cap }
@@ -109,15 +108,15 @@ fn room_for(scenes: usize, cap: u32) -> u32
     u64::from(cap).min(orders.saturating_mul(2)) as u32
 }
 
-/// How many scenes a task has where so many workers walk them: three; and four where there are more than
-/// eight workers, and no more than 65,536 sets of four scenes, as of up to 36 scenes.
+/// Returns the number of scenes of a task: three; or four for more than eight workers, if there are at most 65,536 sets
+/// of four scenes, as with up to 36 scenes.
 fn task_scenes(scenes: usize, workers: u32) -> usize
     ensures { (2 ≤ result) × (result ≤ 4) }
 {
     if workers > 8 && scenes <= 36 { 4 } else { 3 }
 }
 
-/// What a race begins with that has room for so many lines, and whose tasks have at most so many scenes.
+/// Makes the initial state of a race, with room for `room` lines and with tasks of at most `most` scenes.
 fn open<F: Fn(u64, u64) -> u64>(
     alloc: Global,
     kept: &StoredBound<F>,
@@ -152,7 +151,7 @@ fn open<F: Fn(u64, u64) -> u64>(
     })
 }
 
-/// The race, where the table's locks know whose lines they guard.
+/// Runs the race with a type brand that ties the table's locks to the book whose lines they guard.
 fn in_race<
     N: Named + Send + Sync,
     R: Threads + Wait + Sync,
@@ -195,8 +194,8 @@ fn in_race<
     end(alloc, kept, tables, passes, number, spent)
 }
 
-/// Goes down the front, has the tasks walked and closes the front up. Answers the passes, which then know all
-/// lines, the number to which the line of all scenes was raised, and whether the search was cut short.
+/// Goes down the front, has the tasks walked, and raises the front's lines. It returns the bound to which the line of
+/// all scenes was raised, and whether the search was cut short. The returned passes know all lines.
 fn walk_all<
     N: Named + Send + Sync,
     R: Threads + Wait + Sync,
@@ -243,7 +242,7 @@ fn walk_all<
     Ok((passes, number, walked.spent))
 }
 
-/// Claims the front and goes down it, and answers the passes, which then know all lines, and what was found.
+/// Claims the front and goes down it. It returns the passes, which then know all lines, and the results.
 fn begin<R: Wait, N: Named, F: Fn(u64, u64) -> u64>(
     rt: &R,
     alloc: Global,
@@ -268,8 +267,7 @@ fn begin<R: Wait, N: Named, F: Fn(u64, u64) -> u64>(
     Ok((passes, walked))
 }
 
-/// Has the tasks walked that are asked for: by so many workers beside one another, or where the front was
-/// cut short, so that no line can come any more, by the caller alone.
+/// Runs all wanted tasks on `workers` threads. If the line budget was used up in the front, the caller runs them alone.
 fn work_all<
     R: Threads + Wait + Sync,
     N: Named + Send + Sync,
@@ -329,8 +327,8 @@ fn work_all<
     Ok(passes)
 }
 
-/// Closes the front up, by passes into which all others were joined, and answers them, which then know all
-/// lines, and the number to which the line of all scenes was raised.
+/// Raises the front's lines, with passes into which all others were joined. It returns the passes, which then know all
+/// lines, and the bound to which the line of all scenes was raised.
 fn close_front<R: Wait, N: Named, F: Fn(u64, u64) -> u64>(
     rt: &R,
     kept: &StoredBound<F>,
@@ -357,7 +355,7 @@ fn close_front<R: Wait, N: Named, F: Fn(u64, u64) -> u64>(
     Ok((passes, number))
 }
 
-/// Takes the lines out of the book, and tells how the race ended.
+/// Takes the lines out of the book, and makes the result of the race.
 fn end<N: Named, F: Fn(u64, u64) -> u64>(
     alloc: Global,
     kept: &StoredBound<F>,

@@ -1,4 +1,4 @@
-// Where the workers of a crew have their parts from.
+// Sources from which the workers take their parts: a counter or queues.
 ghost use Rattle.std.specs.Prelude.{◌≡◌, ℕ, suc, List, IfOk};
 ghost use Rattle.strip_hub.specs.declared.source.Source.TheVariants.{Gathers};
 ghost use Rattle.strip_hub.specs.Source.{IsSource, source_home};
@@ -8,7 +8,7 @@ use std::alloc::Global;
 use strip_hub::{Gatherer, Source};
 use strip_io::Memory;
 
-/// The source of a further worker, at this desk.
+/// Makes the source of a further worker, at this desk.
 pub(crate) fn split_source(alloc: Global, source: &mut Source, desk: u32) -> Result<Source, Memory>
     requires deals { Deals desk (split_home source.old) }
     requires weight { (rest : ℕ) × Bears (suc (suc rest)) source.old }
@@ -21,7 +21,7 @@ pub(crate) fn split_source(alloc: Global, source: &mut Source, desk: u32) -> Res
     }
 }
 
-/// Gathers what another worker had from its source.
+/// Collects what another worker took from its source.
 pub(crate) fn join_source(into: &mut Source, other: Source)
     requires home { source_home other ≡ split_home into.old }
     requires source { (parts : ℕ) × (claims : List ℕ) × IsSource into.old parts claims }
@@ -35,7 +35,7 @@ pub(crate) fn join_source(into: &mut Source, other: Source)
     }
 }
 
-/// Gathers what a taker took.
+/// Collects what another worker took from its queues.
 fn gather_from(gatherer: &mut Gatherer, other: Source)
     requires home { source_home other ≡ split_home (Gathers gatherer.old) }
     requires pool { (parts : ℕ) × (claims : List ℕ) × IsSource (Gathers gatherer.old) parts claims }

@@ -1,4 +1,4 @@
-// Jobs that are dealt, done beside one another, and gathered.
+// Jobs: dealt to threads, done and gathered.
 ghost use Rattle.std.specs.Prelude.{◌≡◌, ◌<◌, ◌≤◌, ◌+◌, ℕ, List, All, IfOk, false, length, vec_len};
 ghost use Rattle.strip_bound.specs.StoredBound.{Keeps};
 ghost use Rattle.strip_hand.specs.Hand.{IsSearchOf};
@@ -25,8 +25,8 @@ use strip_memo::Memo;
 use strip_stripes::Named;
 use strip_worker::{Gate, Walked, Worker, merge, work};
 
-/// A job for each worker, with passes of weight 1 from these, where the front wasn't cut short. It takes a
-/// memo and a number for each task of each worker. The caller has a memo besides.
+/// Makes a job for each worker, with passes of weight 1 that are split off these, if the front wasn't cut short. It
+/// takes a memo and a number for each task for each worker. The caller has a memo besides.
 fn deal<N: Named, F: Fn(u64, u64) -> u64>(
     alloc: Global,
     kept: &StoredBound<F>,
@@ -60,8 +60,7 @@ fn deal<N: Named, F: Fn(u64, u64) -> u64>(
     Ok(jobs)
 }
 
-/// Claims parts by these passes until none is left, and walks each task that is asked for. What was found
-/// before is put to what was found.
+/// Claims parts with these passes until none is left, and walks each wanted task. The results are merged into `walked`.
 pub(crate) fn work_alone<R: Wait, N: Named, F: Fn(u64, u64) -> u64, G: Gate>(
     rt: &R,
     kept: &StoredBound<F>,
@@ -90,7 +89,7 @@ pub(crate) fn work_alone<R: Wait, N: Named, F: Fn(u64, u64) -> u64, G: Gate>(
     Ok(hub.parts())
 }
 
-/// Does a job.
+/// Does a job: claims parts with its passes until none is left, and walks the wanted tasks.
 fn do_job<R: Wait, N: Named, F: Fn(u64, u64) -> u64, G: Gate, S: Rooted>(
     rt: &R,
     kept: &StoredBound<F>,
@@ -131,7 +130,7 @@ fn do_job<R: Wait, N: Named, F: Fn(u64, u64) -> u64, G: Gate, S: Rooted>(
     })
 }
 
-/// Does each job in a thread, beside the others, and waits for all.
+/// Does each job in a thread, and waits for all.
 fn do_jobs<
     R: Threads + Wait + Sync,
     N: Named + Send + Sync,
@@ -170,7 +169,7 @@ fn do_jobs<
     Ok(all)
 }
 
-/// Puts what one worker found to what was found, and its passes to these, and answers its memo.
+/// Merges a worker's results and passes into the given ones, and returns its memo.
 fn gather<N: Named>(
     tables: &Tables<N>,
     passes: &mut HubParts,
@@ -195,9 +194,8 @@ fn gather<N: Named>(
     memo
 }
 
-/// So many workers walk the tasks that are asked for, each in a thread, after passes that went down the
-/// front and found it whole. What they found is then put to what was found, their passes to these, and the
-/// memo is that of one of them.
+/// Walks the wanted tasks on `workers` threads, after the front was gone down and wasn't cut short. Then it merges
+/// their results and passes into the given ones. `memo` becomes one worker's memo.
 pub(crate) fn work_beside<
     R: Threads + Wait + Sync,
     N: Named + Send + Sync,
@@ -233,7 +231,7 @@ pub(crate) fn work_beside<
     let jobs = deal(alloc, kept, tables, front, passes, workers)?;
     let mut all = do_jobs::<R, N, F, G, S>(rt, kept, tables, front, gate, jobs)?;
     while let Some(one) = all.pop() {
-        // The lines are trimmed by what one of the workers remembers.
+        // Trimming will use the memo of one worker.
         *memo = gather(tables, passes, walked, one?);
     }
     Ok(())

@@ -1,4 +1,4 @@
-// Scenes and actors, drawn from a generator.
+// Scenes and actors, drawn from a pseudo-random generator.
 ghost use Rattle.std.specs.Prelude.{◌≡◌, ◌≤◌, ◌<◌, IfOk, map, string_bytes};
 ghost use Rattle.std.specs.List.{range_with_len};
 ghost use Rattle.strip_model.specs.Instance.{actor_data, scene_data};
@@ -12,11 +12,11 @@ use strip_io::Memory;
 use strip_mask::Mask;
 use strip_model::{Actor, Instance, Scene};
 
-/// The stream of the generator, which is the same for every number.
+/// The stream of the generator, fixed for every seed.
 const STREAM: u64 = 54;
 
-/// The instance that this number makes, with so many scenes and actors. It fails only where memory
-/// runs out, and takes time with the number of scenes times that of actors.
+/// Makes the instance of this seed, with `scenes` scenes and `actors` actors. It fails only if memory runs out, and
+/// takes time in proportion to scenes times actors.
 pub fn generate(alloc: Global, number: u64, scenes: u32, actors: u32) -> Result<Instance, Memory>
     requires scenes { (1 ≤ scenes) × (scenes ≤ 200) }
     requires actors { actors ≤ 64 }
@@ -31,7 +31,7 @@ pub fn generate(alloc: Global, number: u64, scenes: u32, actors: u32) -> Result<
     }
 }
 
-/// So many actors, a word for each.
+/// Draws the actors, with a word of the generator for each.
 fn draw_actors(alloc: Global, words: &mut Pcg32, actors: u32) -> Result<Vec<Actor>, AllocError>
     requires { actors ≤ 64 }
     ensures behind { IfOk result (λ drawn. words.new ≡ behind words.old actors) }
@@ -51,7 +51,7 @@ fn draw_actors(alloc: Global, words: &mut Pcg32, actors: u32) -> Result<Vec<Acto
     Ok(drawn)
 }
 
-/// So many scenes: a word for the days of each, and one for each actor.
+/// Draws the scenes: a word of the generator for the days of each scene, and one for each actor.
 fn draw_scenes(
     alloc: Global,
     words: &mut Pcg32,
@@ -73,7 +73,7 @@ fn draw_scenes(
     Ok(drawn)
 }
 
-/// The set of the actors who work in a scene, a word for each.
+/// Draws the set of the actors who work in a scene, with a word of the generator for each.
 fn draw_cast(words: &mut Pcg32, actors: u32) -> u64
     requires { actors ≤ 64 }
     ensures behind { words.new ≡ behind words.old actors }
@@ -88,7 +88,7 @@ fn draw_cast(words: &mut Pcg32, actors: u32) -> u64
     cast.0
 }
 
-/// A letter, and the number of an actor or a scene, from 1.
+/// Returns a letter followed by the number of an actor or a scene, counted from 1.
 fn name_at(alloc: Global, letter: &'static str, place: u32) -> Result<String, AllocError>
     requires { place < 200 }
     ensures { IfOk result (λ name. string_bytes name ≡ name_at letter.now place) }

@@ -1,4 +1,5 @@
-//! Instances that are made from a number, so that anyone can try the solver on the same film.
+//! Random instances from a seed, so that anyone can try the solver on the same film. A law is a function that does
+//! nothing when it runs: its contract is a theorem that a caller obtains by calling it.
 #![tactic(auto)]
 
 mod drawing;

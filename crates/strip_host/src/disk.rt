@@ -1,4 +1,4 @@
-// The host's disk.
+// The host's files.
 ghost use Rattle.std.specs.Prelude.{◌≡◌, ◌||◌, ◌++◌, [], ◌∷◌, true, false, codes, string_bytes, IsErr, IfOk};
 ghost use Rattle.std.specs.Str.{bytes_eq};
 ghost use Rattle.strip_host.specs.Disk.{is_standard};
@@ -17,7 +17,7 @@ const STANDARD: &str = "-";
 #[derive(Drop)]
 pub struct HostDisk<'r, R: rt::Files + Input> {
     host: &'r R,
-    // Proofs alone read it: it takes no memory.
+    // Only proofs read it; it takes no memory.
     noted: Log<String, ()>,
     // Whether the standard input was opened.
     is_begun: bool,
@@ -32,7 +32,7 @@ impl<'r, R: rt::Files + Input> Model for HostDisk<'r, R> {
 }
 
 impl<'r, R: rt::Files + Input> HostDisk<'r, R> {
-    /// The disk of this runtime, of which no file was opened yet.
+    /// Returns the disk of this runtime. No file was opened yet.
     pub fn new(host: &'r R) -> HostDisk<'r, R>
         ensures { result ≡ record { opened = []; is_begun = false } }
     {
@@ -49,13 +49,13 @@ impl<'r, R: rt::Files + Input> Disk for HostDisk<'r, R> {
 
     ghost opened = { λ disk. disk.opened };
 
-    // This body is trusted to do what it notes. A path has no meaning in proofs, so none can tell that the file
-    // that is opened here is the one that is named, that it is opened for reading alone and once, and that no
-    // other is. Whoever calls it is held to what is noted.
+    // Trusted: this body opens exactly the file that it notes. A path has no meaning in proofs. So no proof can show
+    // that the file with this name is opened, for reading alone and once, and that no other file is opened. The
+    // contract binds each caller to the names noted.
     fn open(&mut self, name: &String) -> io::Result<HostFile<R::File, R::Reader>>
         ensures opened { self.new.opened ≡ self.old.opened ++ string_bytes name.now ∷ [] }
 
-        // The name `-` is the standard input, and no other name is; it is opened once.
+        // The name `-`, and no other, is the standard input. It is opened at most once.
         ensures standard { IfOk result (λ file. is_standard file ≡ bytes_eq (string_bytes name.now) (codes "-")) }
         ensures begun { self.new.is_begun ≡ (self.old.is_begun || bytes_eq (string_bytes name.now) (codes "-")) }
         ensures once { bytes_eq (string_bytes name.now) (codes "-") ≡ true → self.old.is_begun ≡ true → IsErr result }

@@ -4,7 +4,7 @@ ghost use Rattle.std.specs.Prelude.{◌≡◌, ◌<◌, ◌≤◌, length, IfOk}
 use std::io;
 use std::io::{ErrorKind, Read, Seek, SeekFrom};
 
-/// What can be read of the host: a file that was opened by its name, or its standard input, which can't be sought.
+/// A readable file of the host: a file that was opened by its name, or the standard input, which can't be sought.
 #[derive(Drop)]
 pub enum HostFile<F, I> {
     /// A file that was opened by its name.

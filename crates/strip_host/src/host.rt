@@ -1,4 +1,4 @@
-// What a program takes from a runtime.
+// The parts of a runtime that a program uses.
 ghost use Rattle.std.specs.Prelude.{◌≡◌, [], false, None, IfOk};
 ghost use Rattle.strip_words.specs.Shown.{texts};
 ghost use Rattle.strip_host.specs.Run.{IsFresh, files_told, sink_told};
@@ -9,18 +9,18 @@ use std::io::Printer;
 use std::rt::{self, Env};
 use strip_io::{HostFiles, HostSink, Memory};
 
-/// What a program takes from a runtime: its words, files and output.
+/// The parts of a runtime that a program uses: its words, files and output.
 #[derive(Drop)]
 pub struct Host<'r, R: rt::Files + Input + Print> {
-    /// The words behind the program's name. Words that aren't UTF-8 are none.
+    /// The words after the program's name; empty if a word isn't UTF-8.
     pub words: Vec<String>,
-    /// The files that may be read: those that the words name.
+    /// The readable files.
     pub files: HostFiles<HostDisk<'r, R>>,
     pub out: HostSink<Printer<'r, R>>,
 }
 
 impl<'r, R: Env + rt::Files + Input + Print + AllocGlobal> Host<'r, R> {
-    /// What this runtime has: no file was opened yet, and nothing written to its output.
+    /// Returns the parts of this runtime. No file was opened yet, and nothing was written to the output.
     pub fn of(rt: &'r R) -> Result<Host<'r, R>, Memory>
         ensures fresh { IfOk result (λ host. IsFresh (texts host.words.items) (files_told host.files.held)
             (sink_told host.out.faults)) }

@@ -1,5 +1,4 @@
-//! What a program takes from a runtime, its words, files and output, and what it gives back, the exit
-//! code.
+//! The interface of a program to the runtime: its command words, files and output, and its exit code.
 #![tactic(auto)]
 
 mod disk;

@@ -6,7 +6,7 @@ use std::process::ExitCode;
 use strip_answer::Status;
 use strip_io::Memory;
 
-/// The status of a run as the exit code. Where memory ran out before it, it ends as one without memory.
+/// Returns the exit code of a run with this status, or the code 9 if memory ran out before the run.
 pub fn exit_code(outcome: Result<u8, Memory>) -> ExitCode
     ensures status { (status : ℕ) → outcome ≡ Ok status → exit_status result ≡ status }
     ensures memory { IsErr outcome → exit_status result ≡ 9 }

@@ -12,12 +12,12 @@ use std::rt::Env;
 use std::{env, io};
 use strip_io::Memory;
 
-/// The words behind the program's name. Words that aren't UTF-8 name no job, as no words do.
+/// Returns the words after the program's name. If a word isn't UTF-8, it returns no words, which name no job.
 pub fn command_words<R: Env + AllocGlobal>(rt: &R) -> Result<Vec<String>, Memory> {
     behind_name(rt.alloc(), env::args(rt))
 }
 
-// The words of a command but the first, which is the program's name.
+// Returns all words but the first, which is the program's name.
 fn behind_name(alloc: Global, command: io::Result<Args>) -> Result<Vec<String>, Memory>
     ensures words { (all : IntoIter (String Global) Global) → command ≡ Ok all
         → IfOk result (λ words. words.items ≡ drop 1 (into_iter_items all)) }

@@ -1,4 +1,4 @@
-// The file of a film, and then that of a plan.
+// A film's file, then a plan's file.
 ghost use Rattle.std.specs.Prelude.{◌≡◌, ℕ, List, Err, IfOk, string_bytes};
 ghost use Rattle.strip_model.specs.Data.{InstanceData};
 ghost use Rattle.strip_proof.specs.Plan.{PlanData, plan_data};
@@ -19,20 +19,20 @@ use strip_model::Instance;
 use strip_proof::Plan;
 use strip_words::PlanFiles;
 
-/// What is done with an instance and a plan of it.
+/// A job on an instance and a plan of it.
 pub trait PlanJob {
-    // what is due for the two, by status and text
+    // the claim of the answer, by its status and text
     ghost Due: { InstanceData → PlanData → Status → List ℕ → Type 0 };
 
-    /// The answer to the two, which texts say.
+    /// Returns the answer for an instance and a plan, both read from texts.
     fn answer(alloc: Global, inst: &Instance, plan: Plan) -> Result<Answer, Memory>
         requires said { IsSaidFilm inst.now }
         requires readable { IsReadablePlan inst.now (plan_data plan) }
         ensures { IfOk result (λ answer. Due inst.now (plan_data plan) answer.status (answer_text answer)) };
 }
 
-/// The answer to a film's file and a plan's: that of the job for the instance and the plan that they say, or
-/// that which refuses the first of the two that isn't fit.
+/// Returns the job's answer for the instance and the plan in two files. If a file isn't fit, the answer refuses the
+/// first such file.
 pub fn answer_plan<J: PlanJob, F: Files>(
     alloc: Global,
     files: &mut F,
@@ -52,8 +52,8 @@ pub fn answer_plan<J: PlanJob, F: Files>(
     }
 }
 
-/// The instance that the film's file says and the plan that the plan's says of it, or the answer to the
-/// first of the two that isn't fit. The plan's file is read only where the film's is fit.
+/// Reads the instance from the film's file and the plan from the plan's file, or returns the answer that refuses the
+/// first unfit one. The plan's file is read only if the film's is fit.
 pub fn both_inputs<F: Files>(
     alloc: Global,
     files: &mut F,

@@ -1,4 +1,4 @@
-// The file of a film.
+// A film's file.
 ghost use Rattle.std.specs.Prelude.{◌≡◌, ◌≢◌, ◌≤◌, length, Err, IfOk, OnOk};
 ghost use Rattle.strip_io.specs.Counts.{ReadFailed};
 ghost use Rattle.strip_instance.specs.declared.fault.InstanceFault.TheVariants.{Memory as OutOfMemory};
@@ -18,10 +18,10 @@ use strip_instance::{InstanceFault, read_instance};
 use strip_io::{Files, LoadFault, Memory, load};
 use strip_model::Instance;
 
-/// How many bytes a film's file may have.
+/// The greatest size of a film's file, in bytes.
 pub const MAX_FILM: u64 = 1_048_576;
 
-/// The instance that the file says, or the answer to a file that says none.
+/// Reads the instance from its file, or returns the answer that refuses the file.
 pub fn film_input<F: Files>(
     alloc: Global,
     files: &mut F,
@@ -42,7 +42,7 @@ pub fn film_input<F: Files>(
     }
 }
 
-/// What a text that isn't too long says.
+/// Reads the instance from a text that isn't too long.
 fn said(alloc: Global, text: &[u8]) -> Result<Input<Instance>, Memory>
     requires { length text.now ≤ 1_048_576 }
     ensures { IfOk result (IsFilmGiven (film_said text.now)) }
@@ -57,7 +57,7 @@ fn said(alloc: Global, text: &[u8]) -> Result<Input<Instance>, Memory>
     }
 }
 
-/// The answer to a text that says this fault. Want of memory says nothing of the text.
+/// Returns the answer that refuses a text with this fault. If memory ran out, it fails, since the text has no fault.
 fn refused(alloc: Global, fault: InstanceFault) -> Result<Answer, Memory>
     ensures of_text { OnOk result (fault ≢ OutOfMemory) }
     ensures refusal { IfOk result (λ answer. IsRefusal BadInstance (told_of (fault_data fault)) answer.status

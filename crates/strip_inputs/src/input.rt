@@ -1,4 +1,4 @@
-// What a file gives.
+// Results of reading a file.
 ghost use Rattle.std.specs.Prelude.{◌≡◌, IfOk};
 ghost use Rattle.strip_answer.specs.declared.status.Status.TheVariants.{BadInstance};
 ghost use Rattle.strip_answer.specs.Ending.{answer_text};
@@ -10,16 +10,16 @@ use strip_answer::{Answer, Status};
 use strip_io::Memory;
 use strip_text::Told;
 
-/// What a file gives: what its text says, or the answer that tells why it is refused.
+/// The result of reading a file: its content, or the answer that refuses it.
 #[derive(Drop)]
 pub enum Input<T> {
-    /// What the text says.
+    /// The content of the text.
     Said(T),
     /// The answer to a file that isn't fit.
     Refused(Answer),
 }
 
-/// The answer to a file that is longer than such a file may be.
+/// Returns the answer to a file that is too long.
 pub(crate) fn too_long(alloc: Global, status: Status) -> Result<Answer, Memory>
     ensures status { IfOk result (λ answer. answer.status ≡ status) }
     ensures row { IfOk result (λ answer. answer_text answer ≡ error_row too_long_told) }
@@ -27,7 +27,7 @@ pub(crate) fn too_long(alloc: Global, status: Status) -> Result<Answer, Memory>
     Answer::error(alloc, status, Told::alone("TooLong", None, None))
 }
 
-/// The answer to a film of so many classes, which are more than are solved or checked.
+/// Returns the answer to a film with more classes than can be solved or checked.
 pub fn too_many_classes(alloc: Global, count: u64) -> Result<Answer, Memory>
     ensures status { IfOk result (λ answer. answer.status ≡ BadInstance) }
     ensures row { IfOk result (λ answer. answer_text answer ≡ error_row (too_many_told count)) }

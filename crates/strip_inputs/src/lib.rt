@@ -1,4 +1,5 @@
-//! The files that jobs ask for, a film's and a plan's: what they say, or the answer that refuses them.
+//! The input files of jobs, a film's file and a plan's: each is loaded and read, or refused by an answer with its
+//! fault.
 #![tactic(auto)]
 
 mod both;

@@ -1,4 +1,4 @@
-// The file of a plan.
+// A plan's file.
 ghost use Rattle.std.specs.Prelude.{◌≡◌, ◌≢◌, ◌≤◌, length, Err, IfOk, OnOk};
 ghost use Rattle.strip_io.specs.Counts.{ReadFailed};
 ghost use Rattle.strip_proof.specs.declared.fault.PlanFault.TheVariants.{Memory as OutOfMemory};
@@ -16,10 +16,10 @@ use strip_io::{Files, LoadFault, Memory, load};
 use strip_model::Instance;
 use strip_proof::{Plan, PlanFault, read_plan};
 
-/// How many bytes a plan's file may have.
+/// The greatest size of a plan's file, in bytes.
 pub const MAX_PLAN: u64 = 1_073_741_824;
 
-/// The plan of the instance that the file says, or the answer to a file that says none.
+/// Reads a plan of the instance from its file, or returns the answer that refuses the file.
 pub fn plan_input<F: Files>(
     alloc: Global,
     files: &mut F,
@@ -41,7 +41,7 @@ pub fn plan_input<F: Files>(
     }
 }
 
-/// What a text that isn't too long says.
+/// Reads the plan from a text that isn't too long.
 fn said(alloc: Global, inst: &Instance, text: &[u8]) -> Result<Input<Plan>, Memory>
     requires { length text.now ≤ 1_073_741_824 }
     ensures { IfOk result (IsPlanGiven inst.now (plan_said inst.now text.now)) }
@@ -52,7 +52,7 @@ fn said(alloc: Global, inst: &Instance, text: &[u8]) -> Result<Input<Plan>, Memo
     }
 }
 
-/// The answer to a text that says this fault. Want of memory says nothing of the text.
+/// Returns the answer that refuses a text with this fault. If memory ran out, it fails, since the text has no fault.
 fn refused(alloc: Global, fault: PlanFault) -> Result<Answer, Memory>
     ensures of_text { OnOk result (fault ≢ OutOfMemory) }
     ensures refusal { IfOk result (λ answer. IsRefusal BadPlan (told_of fault) answer.status (answer_text answer)) }

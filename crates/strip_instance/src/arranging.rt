@@ -1,4 +1,4 @@
-// An instance, written with its scenes in another order.
+// The writer of instance texts with another order of scenes.
 ghost use Rattle.std.specs.Prelude.{◌≡◌, ◌++◌, ◌<◌, ◌≤◌, length, map, All, Ok, IfOk, OnOk};
 ghost use Rattle.strip_pay.specs.Order.{IsOrder};
 ghost use Rattle.strip_model.specs.Instance.{scene_data};
@@ -13,8 +13,8 @@ use strip_io::Memory;
 use strip_model::{Instance, Scene};
 use strip_text::Text;
 
-/// The canonical text of the instance with its scenes in this order. It reads back to that instance if its
-/// names are such as a text can say. It fails only if memory runs out, and takes time and memory with the
+/// Returns the canonical text of the instance with its scenes in this order. It reads back as that instance, if the
+/// names can be written in a text. It fails only if memory runs out, and takes time and memory in proportion to the
 /// size of the text.
 pub fn write_arranged(alloc: Global, inst: &Instance, order: &[u16]) -> Result<Vec<u8>, Memory>
     requires { IsOrder (length inst.now.scenes) order.now }
@@ -31,7 +31,7 @@ pub fn write_arranged(alloc: Global, inst: &Instance, order: &[u16]) -> Result<V
     text.into_bytes()
 }
 
-/// The rows of the scenes, in this order.
+/// Writes the rows of the scenes, in this order.
 fn write_in_order(
     alloc: Global,
     text: &mut Text,

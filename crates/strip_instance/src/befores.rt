@@ -1,4 +1,4 @@
-// The rows behind those of the scenes: which scene is shot before which.
+// The rows of pairs, after those of the scenes: one scene is shot before another.
 ghost use Rattle.std.specs.Prelude.{◌≡◌, ◌≤◌, ◌∷◌, ◌<◌, [], drop, length, map, false, All, IfOk, IfErr, OnOk};
 ghost use Rattle.std.specs.String.{string_bytes};
 ghost use Rattle.strip_pay.specs.Befores.{Knows};
@@ -23,8 +23,8 @@ use strip_model::Scene;
 use strip_pay::{Befores, Pair};
 use strip_text::{Row, Rows};
 
-/// The pairs of the rows behind those of these scenes: `row`, where it is there, has the first of them,
-/// and the others are left.
+/// Reads the pairs from the rows after those of these scenes. If `there` holds, `row` has the first of these rows; the
+/// other rows follow.
 pub(crate) fn read_befores(
     alloc: Global,
     scenes: &[Scene],
@@ -48,8 +48,7 @@ pub(crate) fn read_befores(
     Ok(pairs)
 }
 
-/// Puts the pair of the row with this number behind the others, unless it is one of them or the row is
-/// passed over.
+/// Appends the pair of the row with this number. It skips a pair that is there already, and an empty row.
 fn take_before(
     alloc: Global,
     scenes: &[Scene],
@@ -82,7 +81,7 @@ fn take_before(
     Ok(())
 }
 
-/// The pair that the row says, where it says one.
+/// Returns the row's pair, or none if the row has no pair.
 fn pair_of(scenes: &[Scene], row: &Row) -> Option<Pair>
     requires { length scenes.now ≤ 200 }
     ensures { result ≡ said_pair (names_of scenes.now) row.now }
@@ -98,7 +97,7 @@ fn pair_of(scenes: &[Scene], row: &Row) -> Option<Pair>
     Some(Pair { first, then })
 }
 
-/// Whether each field behind the third is empty.
+/// Tells whether each field after the third is empty.
 fn ends_behind_third(row: &Row) -> bool
     ensures { result ≡ is_empty_row (drop 3 row.now) }
 {
@@ -110,7 +109,7 @@ fn ends_behind_third(row: &Row) -> bool
     true
 }
 
-/// The fault of the row with this number, whose pair makes a cycle with these.
+/// Returns the fault of the row with this number, whose pair makes a cycle with the earlier pairs.
 fn cycle(
     alloc: Global,
     scenes: &[Scene],
@@ -136,7 +135,7 @@ fn cycle(
     })
 }
 
-/// The names of the scenes with these numbers.
+/// Returns the names of the scenes with these numbers.
 fn names_along(alloc: Global, scenes: &[Scene], numbers: &[u16]) -> Result<Vec<String>, Memory>
     requires { All (λ number. number < length scenes.now) numbers.now }
     ensures { IfOk result (λ names. map string_bytes names.items ≡ map (field_of (names_of scenes.now)) numbers.now) }

@@ -1,4 +1,4 @@
-// Why a text says no instance.
+// Faults of instance texts.
 ghost use Rattle.std.specs.Prelude.{◌≡◌};
 ghost use Rattle.strip_instance.specs.declared.fault.InstanceFault.TheVariants.{Memory as OutOfMemory};
 
@@ -7,8 +7,7 @@ use std::error::Error;
 use std::fmt;
 use strip_io::Memory;
 
-/// Why no instance was read from a text. Rows and columns are counted from 1, as a spreadsheet
-/// counts them.
+/// A reason why no instance was read from a text. Rows and columns are counted from 1, as in a spreadsheet.
 #[derive(Debug, PartialEq, Eq, Drop)]
 pub enum InstanceFault {
     /// There is no row.
@@ -21,7 +20,7 @@ pub enum InstanceFault {
     Width {
         row: u64,
     },
-    /// The field is no name, or a scene's name is a kept word.
+    /// The field is no name, or a scene's name is a reserved word.
     BadName {
         row: u64,
         col: u64,
@@ -51,13 +50,12 @@ pub enum InstanceFault {
         row: u64,
         col: u64,
     },
-    /// The row, behind those of the scenes, doesn't say that one scene is shot before another.
+    /// The row follows those of the scenes, but is no valid pair.
     BadBefore {
         row: u64,
     },
-    /// The row's pair makes a cycle with earlier ones: of the ways along these that lead from its second
-    /// scene back to its first the shortest, and the least by scene numbers of those, with the names of
-    /// its scenes.
+    /// The row's pair makes a cycle with earlier pairs. The names are those of the scenes along the shortest way from
+    /// its second scene back to its first. Of several such ways it is the least by scene numbers.
     Cycle {
         row: u64,
         scenes: Vec<u16>,
@@ -102,7 +100,7 @@ impl From<Memory> for InstanceFault {
     }
 }
 
-/// A sentence that says what is wrong, and where.
+/// Writes a sentence that says what is wrong, and where.
 impl fmt::Display for InstanceFault {
     ghost use Rattle.std.specs.Prelude.{Some};
     ghost use Rattle.strip_instance.specs.Fault.{fault_data};

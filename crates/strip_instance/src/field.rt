@@ -1,4 +1,4 @@
-// What the bytes of a field are.
+// The meaning of a field's bytes.
 ghost use Rattle.std.specs.Prelude.{◌≡◌, true, false, MatchOption, IfOk};
 ghost use Rattle.std.specs.List.{list_all};
 ghost use Rattle.std.specs.Str.{is_utf8};
@@ -11,7 +11,7 @@ use crate::fault::InstanceFault;
 use std::str;
 use strip_model::MAX_NAME;
 
-/// Whether the field is the word in any case of ASCII letters.
+/// Tells whether the field is the word, without regard to the case of ASCII letters.
 pub(crate) fn is_word(word: &[u8], field: &[u8]) -> bool
     ensures { result ≡ is_word word.now field.now }
 {
@@ -48,7 +48,7 @@ fn is_kept(field: &[u8]) -> bool
     is_word(b"rate", field) || is_word(b"hold", field) || is_word(b"before", field)
 }
 
-/// Whether the mark says that the actor works; none where the field is no mark.
+/// Returns whether the mark means that the actor works, or none if the field is no mark.
 pub(crate) fn mark_meaning(field: &[u8]) -> Option<bool>
     ensures { MatchOption result (is_mark field.now ≡ false)
         (λ working. (is_mark field.now ≡ true) × (working ≡ is_work_mark field.now)) }
@@ -60,7 +60,7 @@ pub(crate) fn mark_meaning(field: &[u8]) -> Option<bool>
     }
 }
 
-/// The field as text.
+/// Returns the field as text, or the fault `NotUtf8`.
 pub(crate) fn text_of(field: &[u8], row: u64, col: u64) -> Result<&str, InstanceFault>
     ensures makes { Makes (checks_of_one (is_utf8 field.now) (NotUtf8 row col)) result }
     ensures same { IfOk result (λ text. text.now ≡ field.now) }

@@ -14,7 +14,7 @@ use std::alloc::Global;
 use strip_model::MAX_ACTORS;
 use strip_text::Row;
 
-/// The actors' names, in the order of their columns.
+/// Reads the actors' names, in the order of their columns.
 pub(crate) fn read_names(alloc: Global, header: &Row) -> Result<Vec<&str>, InstanceFault>
     ensures makes { Makes (header_checks header.now) result }
     ensures names { IfOk result (λ names. strs names.items ≡ actor_fields header.now) }
@@ -36,7 +36,7 @@ fn is_header(header: &Row) -> bool
     is_word(b"scene", header.field(0)) && is_word(b"days", header.field(1))
 }
 
-/// The name of the actor with this number.
+/// Reads the name of the actor with this number.
 fn read_name(header: &Row, actor: usize) -> Result<&str, InstanceFault>
     requires { actor < length (actor_fields header.now) }
     ensures makes { Makes (actor_name_checks (actor_fields header.now) actor) result }

@@ -7,7 +7,7 @@ ghost use Rattle.strip_instance.specs.Shown.{rate_fault, rate_of, rate_word};
 use crate::fault::InstanceFault;
 use strip_model::Actor;
 
-/// What a row of rates is about.
+/// The kind of a row of rates.
 #[derive(Clone, Copy)]
 pub enum RateKind {
     /// A day of work.
@@ -17,7 +17,7 @@ pub enum RateKind {
 }
 
 impl RateKind {
-    /// The word that the row begins with.
+    /// Returns the row's first word.
     pub fn word(self) -> &'static [u8]
         ensures { result.now ≡ rate_word self }
     {
@@ -27,7 +27,7 @@ impl RateKind {
         }
     }
 
-    /// The fault of a column that is no rate.
+    /// Returns the fault of a column without a valid rate.
     pub(crate) fn fault(self, col: u64) -> InstanceFault
         ensures { fault_data result ≡ rate_fault self col }
     {
@@ -37,7 +37,7 @@ impl RateKind {
         }
     }
 
-    /// The actor's rate for a day, in units of money.
+    /// Returns the actor's rate for a day, in units of money.
     pub fn of(self, actor: &Actor) -> u64
         ensures { result ≡ rate_of self (actor_data actor.now) }
     {

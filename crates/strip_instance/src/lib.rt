@@ -1,5 +1,6 @@
-//! Instance texts: CSV files of scenes, rates and pairs, read into an instance or their first fault, and the canonical text
-//! of an instance, written with its scenes in their own order or in another.
+//! Instance texts: CSV files of scenes, rates and pairs (precedence constraints). A text is read into an instance or
+//! its first fault. The canonical text of an instance is written with the scenes in their own order or in another. A
+//! law is a function that does nothing when it runs: its contract is a theorem that a caller obtains by calling it.
 #![tactic(auto)]
 
 mod arranging;

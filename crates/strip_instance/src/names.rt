@@ -1,4 +1,4 @@
-// Names that were read before.
+// Lookups of earlier names.
 ghost use Rattle.std.specs.Prelude.{◌≡◌, ◌<◌, ◌≤◌, map, take, length};
 ghost use Rattle.std.specs.List.{position};
 ghost use Rattle.std.specs.Str.{bytes_eq};
@@ -13,7 +13,7 @@ ghost use Rattle.strip_instance.specs.Shown.{names_of};
 use strip_model::Scene;
 use strip_text::Row;
 
-/// Whether one of the scenes has this name.
+/// Tells whether one of the scenes has this name.
 pub(crate) fn has_scene(scenes: &[Scene], name: &[u8]) -> bool
     ensures { result ≡ contains (map (λ scene. scene.name) (map scene_data scenes.now)) name.now }
 {
@@ -25,7 +25,7 @@ pub(crate) fn has_scene(scenes: &[Scene], name: &[u8]) -> bool
     false
 }
 
-/// The number of the scene with this name.
+/// Returns the number of the scene with this name.
 pub(crate) fn scene_number(scenes: &[Scene], name: &[u8]) -> Option<u16>
     requires { length scenes.now ≤ 200 }
     ensures { result ≡ number_of_scene (names_of scenes.now) name.now }
@@ -34,7 +34,7 @@ pub(crate) fn scene_number(scenes: &[Scene], name: &[u8]) -> Option<u16>
     Some(place as u16)
 }
 
-/// The place of the scene with this name.
+/// Returns the index of the scene with this name.
 fn place_of(scenes: &[Scene], name: &[u8]) -> Option<usize>
     ensures { result ≡ position (λ scene. bytes_eq (string_bytes scene.name) name.now) scenes.now }
 {
@@ -43,7 +43,7 @@ fn place_of(scenes: &[Scene], name: &[u8]) -> Option<usize>
         .position(|scene| scene.name.as_bytes() == name)
 }
 
-/// Whether the name of the actor with this number is that of an actor before him.
+/// Tells whether an earlier actor has the name of the actor with this number.
 pub(crate) fn is_earlier_actor(header: &Row, actor: usize) -> bool
     requires within { actor < length (actor_fields header.now) }
     requires few { actor < 64 }

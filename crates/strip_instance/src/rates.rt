@@ -1,4 +1,4 @@
-// The rates and the hold rates: what the actors are paid for a day.
+// The rates and the hold rates: the actors' pay for a day of work, and for a day of waiting.
 ghost use Rattle.std.specs.Prelude.{◌≡◌, ◌+◌, ◌++◌, ◌<◌, ◌≤◌, true, drop, length, map, IfOk, IfErr, OnOk};
 ghost use Rattle.strip_model.specs.Instance.{actor_data};
 ghost use Rattle.strip_text.specs.Number.{number_of};
@@ -18,15 +18,15 @@ use std::alloc::Global;
 use strip_model::{Actor, MAX_RATE};
 use strip_text::{Row, Rows, number_of};
 
-/// The actors, and whether there is a row of the body; it was read then.
+/// The actors, and whether the row after the rates was read.
 #[derive(Drop)]
 pub(crate) struct Paid {
     pub actors: Vec<Actor>,
     pub there: bool,
 }
 
-/// The actors of the header's names, with the rates and the hold rates of the next rows. `row` then has
-/// the first row of the body, where there is one.
+/// Reads the rates and the hold rates from the next rows, and makes the actors with the header's names. If there is a
+/// further row, `row` then has it.
 pub(crate) fn read_actors(
     alloc: Global,
     header: &Row,
@@ -52,7 +52,7 @@ pub(crate) fn read_actors(
     })
 }
 
-/// The rates, which are the next row.
+/// Reads the rates from the next row.
 fn read_rates(
     alloc: Global,
     header: &Row,
@@ -72,17 +72,17 @@ fn read_rates(
     read_pay_row(alloc, RateKind::Work, header, 2, row)
 }
 
-/// The hold rates, and what was found behind them.
+/// The hold rates, and whether the row after them was read.
 #[derive(Drop)]
 struct Holds {
     /// Each actor's rate for a day of waiting.
     rates: Vec<u64>,
-    /// Whether there is a row of the body; it was read then.
+    /// Whether there is a further row, which was read.
     there: bool,
 }
 
-/// The hold rates, which are the next row where it begins with the word, and else the rates.
-/// `row` then has the first row of the body, where there is one.
+/// Reads the hold rates from the next row, if it begins with their word; otherwise they equal the rates. If there is a
+/// further row, `row` then has it.
 fn read_holds(
     alloc: Global,
     header: &Row,
@@ -107,7 +107,7 @@ fn read_holds(
     Ok(Holds { rates, there })
 }
 
-/// The rates of the row with this number, which has to be as wide as the header.
+/// Reads the rates from the row with this number, which has to be as wide as the header.
 fn read_pay_row(
     alloc: Global,
     kind: RateKind,
@@ -137,7 +137,7 @@ fn read_each_rate(alloc: Global, kind: RateKind, row: &Row) -> Result<Vec<u64>, 
     Ok(rates)
 }
 
-/// The rate of the actor with this number.
+/// Reads the rate of the actor with this number.
 fn read_rate(kind: RateKind, row: &Row, actor: usize) -> Result<u64, InstanceFault>
     requires { actor < 64 }
     ensures makes { Makes (rate_check (rate_fault kind) row.now actor) result }
@@ -147,7 +147,7 @@ fn read_rate(kind: RateKind, row: &Row, actor: usize) -> Result<u64, InstanceFau
     number_of(row.field(actor + 2), 0, MAX_RATE).ok_or(kind.fault(col))
 }
 
-/// The actors of these names and rates, which are as many.
+/// Makes the actors from names and rates, which are lists of one length.
 fn actors_of(
     alloc: Global,
     names: &[&str],

@@ -1,4 +1,4 @@
-// An instance text, read.
+// The reader of instance texts.
 ghost use Rattle.std.specs.Prelude.{◌≡◌, ◌≢◌, ◌≤◌, ◌∷◌, length, map, Ok, Err, IfOk, IfErr};
 ghost use Rattle.strip_model.specs.Data.{IsInstance};
 ghost use Rattle.strip_model.specs.Instance.{instance_data, scene_data};
@@ -22,9 +22,9 @@ use strip_model::{Actor, Instance, Scene};
 use strip_pay::Pair;
 use strip_text::{Row, Rows};
 
-/// The instance that the text says, or its first fault. It takes time with the size of the text, for
-/// a row that says a pair a look at the scenes' names, and 200 turns where earlier pairs don't imply
-/// it; and beside the instance memory for the header and one row more at a time.
+/// Reads the instance from its text, or finds the text's first fault. It takes time in proportion to the size of the
+/// text. A pair's row takes a search through the scenes' names, and 200 turns if earlier pairs don't imply it. Besides
+/// the instance it takes memory for the header and one more row at a time.
 pub fn read_instance(alloc: Global, text: &[u8]) -> Result<Instance, InstanceFault>
     ensures read { IfOk result (λ inst. says text.now ≡ Ok inst) }
     ensures faults { IfErr result (λ fault. fault ≢ OutOfMemory → says text.now ≡ Err (fault_data fault)) }
@@ -33,7 +33,7 @@ pub fn read_instance(alloc: Global, text: &[u8]) -> Result<Instance, InstanceFau
     read_rows(alloc, &mut rows)
 }
 
-/// The instance that all rows of a text say.
+/// Reads the instance from all rows of a text.
 fn read_rows(alloc: Global, rows: &mut Rows<'_>) -> Result<Instance, InstanceFault>
     requires { rows.old.number ≡ 0 }
     ensures makes { Makes (all_checks rows.old.left) result }
@@ -46,7 +46,7 @@ fn read_rows(alloc: Global, rows: &mut Rows<'_>) -> Result<Instance, InstanceFau
     read_behind(alloc, &header, rows)
 }
 
-/// The instance that this header and all rows behind it say.
+/// Reads the instance from this header and all rows after it.
 fn read_behind(alloc: Global, header: &Row, rows: &mut Rows<'_>) -> Result<Instance, InstanceFault>
     requires { rows.old.number ≡ 1 }
     ensures makes { Makes (all_checks (header.now ∷ rows.old.left)) result }
@@ -59,7 +59,7 @@ fn read_behind(alloc: Global, header: &Row, rows: &mut Rows<'_>) -> Result<Insta
     Ok(made(scenes, actors, pairs))
 }
 
-/// The instance of these scenes, actors and pairs, which keep the limits.
+/// Makes an instance from scenes, actors and pairs that keep the limits.
 fn made(scenes: Vec<Scene>, actors: Vec<Actor>, pairs: Vec<Pair>) -> Instance
     requires { IsInstance (instance_data scenes.items actors.items pairs.items) }
     ensures { result ≡ instance_data scenes.items actors.items pairs.items }
@@ -70,15 +70,14 @@ fn made(scenes: Vec<Scene>, actors: Vec<Actor>, pairs: Vec<Pair>) -> Instance
     }
 }
 
-/// What the rows of the body say: at least one scene, and which are shot before which.
+/// The content of the rows after the rates: at least one scene, and the pairs.
 #[derive(Drop)]
 struct Filmed {
     scenes: Vec<Scene>,
     pairs: Vec<Pair>,
 }
 
-/// The scenes of the body and their pairs: `row`, where it is there, has its first row, and the others
-/// are left.
+/// Reads the scenes and their pairs. If `there` holds, `row` has the first row after the rates; the other rows follow.
 fn read_filmed(
     alloc: Global,
     header: &Row,

@@ -8,7 +8,7 @@ use crate::fault::InstanceFault;
 use crate::field::is_word;
 use strip_text::{Row, Rows};
 
-/// Reads the next row in place of the one that `row` had, and tells whether there was one.
+/// Reads the next row into `row`, and tells whether there was one.
 pub(crate) fn next_row(rows: &mut Rows<'_>, row: &mut Row) -> Result<bool, InstanceFault>
     ensures found { IfOk result (λ there. rows.old.left ≡ rows_from there row.new rows.new.left) }
     ensures counted { IfOk result (λ there. (there ≡ true) → rows.new.number ≡ rows.old.number + 1) }
@@ -17,14 +17,14 @@ pub(crate) fn next_row(rows: &mut Rows<'_>, row: &mut Row) -> Result<bool, Insta
     Ok(rows.read(row)?)
 }
 
-/// Whether the row begins with the word of rows that say which scene is shot before which.
+/// Tells whether the row begins with the word of a pair's row.
 pub(crate) fn is_before_row(row: &Row) -> bool
     ensures { result ≡ is_before_row row.now }
 {
     is_word(b"before", row.field(0))
 }
 
-/// How many fields stand behind the first two.
+/// Returns the number of fields after the first two.
 pub(crate) fn actor_count(row: &Row) -> usize
     ensures { result ≡ length (actor_fields row.now) }
 {

@@ -18,17 +18,17 @@ use strip_mask::Mask;
 use strip_model::{MAX_DAYS, MAX_SCENES, Scene};
 use strip_text::{Row, Rows, number_of};
 
-/// The scenes, and what was found behind them.
+/// The scenes, and whether the row after them was read.
 #[derive(Drop)]
 pub(crate) struct Scenes {
     /// The scenes, in the order of their rows.
     pub scenes: Vec<Scene>,
-    /// Whether there is a row behind those of the scenes; it was read then.
+    /// Whether there is a row after those of the scenes, which was read.
     pub there: bool,
 }
 
-/// The scenes of the body: `row`, where it is there, has its first row, and the others are left. `row`
-/// then has the first row that doesn't say a scene but a pair, where there is one.
+/// Reads the scenes. If `there` holds, `row` has the first row after the rates; the other rows follow. If there is a
+/// row of a pair, `row` then has the first one.
 pub(crate) fn read_scenes(
     alloc: Global,
     header: &Row,
@@ -55,7 +55,7 @@ pub(crate) fn read_scenes(
     Ok(Scenes { scenes, there })
 }
 
-/// Puts the scene of the row with this number behind the others, unless the row is passed over.
+/// Appends the scene of the row with this number, unless the row is skipped.
 fn take_row(
     alloc: Global,
     header: &Row,
@@ -77,7 +77,7 @@ fn take_row(
     Ok(())
 }
 
-/// The scene of the row with this number, where these are the scenes before.
+/// Reads the scene of the row with this number; `scenes` has the earlier ones.
 fn read_scene(
     alloc: Global,
     header: &Row,
@@ -114,7 +114,7 @@ fn read_scene(
     Ok(Scene { name, days, cast })
 }
 
-/// The set of the actors whose marks say that they work.
+/// Reads the set of the actors whose marks mean that they work.
 fn read_cast(row: &Row, number: u64) -> Result<u64, InstanceFault>
     requires { length (actor_fields row.now) ≤ 64 }
     ensures makes { Makes (mark_checks number row.now) result }
@@ -129,7 +129,7 @@ fn read_cast(row: &Row, number: u64) -> Result<u64, InstanceFault>
     Ok(cast.0)
 }
 
-/// Whether the mark of the actor with this number says that he works.
+/// Tells whether the mark of the actor with this number means that he works.
 fn read_mark(row: &Row, number: u64, actor: usize) -> Result<bool, InstanceFault>
     requires { actor < 64 }
     ensures makes { Makes (mark_check number row.now actor) result }

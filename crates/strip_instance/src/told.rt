@@ -1,4 +1,4 @@
-// What a fault tells.
+// The text fields of a fault.
 ghost use Rattle.std.specs.Prelude.{◌≡◌, option_map};
 ghost use Rattle.strip_text.specs.Told.{told_data};
 ghost use Rattle.strip_instance.specs.Fault.{fault_data};
@@ -8,8 +8,8 @@ use crate::fault::InstanceFault;
 use strip_text::Told;
 
 impl InstanceFault {
-    /// The fault's name, first the row and second the column that it tells, where it tells one, and the
-    /// names of a cycle's scenes; none for want of memory, which is no fault of a text.
+    /// Returns the fault's name, its row and column if it has them, and the names of a cycle's scenes. It returns none
+    /// if memory ran out, which is no fault of a text.
     pub fn told(&self) -> Option<Told<'_>>
         ensures { option_map told_data result ≡ told_of (fault_data self.now) }
     {

@@ -1,4 +1,4 @@
-// The shortest way along pairs.
+// Shortest ways along pairs.
 ghost use Rattle.std.specs.Prelude.{◌≡◌, ◌≢◌, ℕ, ◌<◌, ◌≤◌, All, IsTrue, IfOk, MatchOption, ◌⊎◌, ◌↔◌, ◌+◌, false, slice_index};
 ghost use Rattle.strip_instance.specs.Steps.{AreSteps, CameCloser, IsLeastNearer, Nears};
 ghost use Rattle.strip_instance.specs.Ways.{IsShortestWay};
@@ -8,14 +8,12 @@ use std::alloc::Global;
 use strip_io::Memory;
 use strip_pay::{MAX_SCENES, Pair};
 
-/// As many steps as no shortest way has.
+/// A number of steps that no shortest way has.
 const FAR: u16 = MAX_SCENES as u16;
 
-/// The shortest list of scenes that begins with `from`, ends with `to`, and has each scene before the
-/// next by one of the pairs; of those with as many scenes the first one by the scenes' numbers. The
-/// pairs are of two different scenes below 200 each, and lead from `from` to `to`, which is another
-/// scene. It takes time with the number of pairs times that of scenes, and fails only where memory runs
-/// out.
+/// Returns the shortest list of scenes from `from` to `to`, with a pair from each scene to the next. Of several such
+/// lists it is the least by scene numbers. It takes time in proportion to pairs times scenes, and fails only if memory
+/// runs out.
 pub(crate) fn shortest_way(
     alloc: Global,
     pairs: &[Pair],
@@ -38,7 +36,7 @@ pub(crate) fn shortest_way(
     Ok(way)
 }
 
-/// How many steps along pairs each scene is from the last one, at least; `FAR` where there is no way.
+/// Returns for each scene the least number of steps along pairs to the last scene, or `FAR` if no way leads there.
 fn steps_to(pairs: &[Pair], to: u16) -> [u16; MAX_SCENES]
     requires known { All (IsKnownPair 200) pairs.now }
     requires to { to < 200 }
@@ -54,8 +52,8 @@ fn steps_to(pairs: &[Pair], to: u16) -> [u16; MAX_SCENES]
     steps
 }
 
-/// Lowers the steps of each pair's first scene to one more than those of its other, and answers whether
-/// some were lowered.
+/// Lowers the steps of each pair's first scene to one more than those of its second, and returns whether any were
+/// lowered.
 fn come_closer(pairs: &[Pair], steps: &mut [u16; MAX_SCENES]) -> bool
     requires known { All (IsKnownPair 200) pairs.now }
     requires small { All (λ count. count ≤ 200) steps.old }
@@ -73,7 +71,7 @@ fn come_closer(pairs: &[Pair], steps: &mut [u16; MAX_SCENES]) -> bool
     closer
 }
 
-/// The least scene that a pair puts behind this one and that is a step nearer; none where there is none.
+/// Returns the least scene that follows this scene in a pair and is a step nearer, or none if there is none.
 fn next_scene(pairs: &[Pair], steps: &[u16; MAX_SCENES], scene: u16) -> Option<u16>
     requires known { All (IsKnownPair 200) pairs.now }
     requires scene { scene < 200 }
@@ -90,7 +88,7 @@ fn next_scene(pairs: &[Pair], steps: &[u16; MAX_SCENES], scene: u16) -> Option<u
     next
 }
 
-/// Whether the pair leads from the scene to one that is a step nearer.
+/// Tells whether the pair leads from the scene to a scene that is a step nearer.
 fn nears(pair: &Pair, steps: &[u16; MAX_SCENES], scene: u16) -> bool
     requires pair { IsKnownPair 200 pair.now }
     requires scene { scene < 200 }
@@ -101,7 +99,7 @@ fn nears(pair: &Pair, steps: &[u16; MAX_SCENES], scene: u16) -> bool
     pair.first == scene && steps[pair.then as usize] + 1 == steps[scene as usize]
 }
 
-/// The lesser of a scene and the one so far.
+/// Returns the lesser of a scene and the least one so far.
 fn lesser(scene: u16, other: Option<u16>) -> u16
     ensures least { result ≤ scene }
     ensures among { MatchOption other (result ≡ scene) (λ least. (result ≤ least)

@@ -1,4 +1,4 @@
-// An instance, written.
+// The writer of instance texts.
 ghost use Rattle.std.specs.Prelude.{◌≡◌, ◌++◌, ◌<◌, ◌≤◌, length, map, All, Ok, IfOk, OnOk};
 ghost use Rattle.std.specs.Fmt.{decimal};
 ghost use Rattle.std.specs.String.{string_bytes};
@@ -17,8 +17,8 @@ use strip_model::{Actor, Instance, Scene};
 use strip_pay::Pair;
 use strip_text::Text;
 
-/// The canonical text of the instance, which reads back to it where its names are such as a text
-/// can say. It fails only where memory runs out, and takes time and memory with the size of the text.
+/// Returns the canonical text of the instance. It reads back as the instance, if the names can be written in a text. It
+/// fails only if memory runs out, and takes time and memory in proportion to the size of the text.
 pub fn write_instance(alloc: Global, inst: &Instance) -> Result<Vec<u8>, Memory>
     ensures canonical { IfOk result (λ text. text.items ≡ canonical_text inst.now) }
     ensures reads_back { IfOk result (λ text. HasReadableNames inst.now → says text.items ≡ Ok inst.now) }
@@ -32,7 +32,7 @@ pub fn write_instance(alloc: Global, inst: &Instance) -> Result<Vec<u8>, Memory>
     text.into_bytes()
 }
 
-/// The rows before those of the scenes.
+/// Writes the rows before those of the scenes.
 pub(crate) fn write_heads(alloc: Global, text: &mut Text, actors: &[Actor]) -> Result<(), Memory>
     ensures { OnOk result (text.new ≡ text.old ++ csv_text (head_rows (map actor_data actors.now))) }
 {
@@ -44,7 +44,7 @@ pub(crate) fn write_heads(alloc: Global, text: &mut Text, actors: &[Actor]) -> R
     Ok(())
 }
 
-/// Whether some actor's hold rate isn't his rate.
+/// Tells whether some actor's hold rate differs from his rate.
 fn has_own_holds(actors: &[Actor]) -> bool
     ensures { result ≡ has_own_holds (map actor_data actors.now) }
 {
@@ -82,7 +82,7 @@ fn write_rates(
     text.push(&fields)
 }
 
-/// The actors' rates in decimal digits.
+/// Returns the actors' rates in decimal digits.
 fn rate_numbers(alloc: Global, kind: RateKind, actors: &[Actor]) -> Result<Vec<String>, Memory>
     ensures { IfOk result (λ numbers. map (λ number. string_bytes number) numbers.items
         ≡ map (λ actor. decimal (rate_of kind actor)) (map actor_data actors.now)) }
@@ -128,7 +128,7 @@ pub(crate) fn write_scene(
     text.push(&fields)
 }
 
-/// The rows of pairs of these scenes.
+/// Writes the rows of pairs of these scenes.
 pub(crate) fn write_pairs(text: &mut Text, scenes: &[Scene], pairs: &[Pair]) -> Result<(), Memory>
     requires { All (IsKnownPair (length scenes.now)) pairs.now }
     ensures { OnOk result (text.new ≡ text.old ++ csv_text (map (pair_fields (scene_names scenes.now)) pairs.now)) }

@@ -1,4 +1,4 @@
-// Sets that are asked for their static bounds.
+// Requests for static bounds of sets.
 ghost use Rattle.std.specs.Prelude.{◌≡◌, All, IfOk};
 ghost use Rattle.strip_film.specs.Film.{LiesIn};
 ghost use Rattle.strip_bound.specs.Bounds.{bound};
@@ -10,8 +10,8 @@ use strip_film::Film;
 use strip_io::Memory;
 use strip_mask::Mask;
 
-/// A set of remaining scenes that is asked for a lower bound, and how far the bound has to reach, in units of money. If
-/// a value is known already, it isn't asked for.
+/// A request for a lower bound of a set of remaining scenes. `need` is the bound that suffices, in units of money. If
+/// `is_known` holds, `value` is used and nothing is computed.
 #[derive(Clone, Copy, Debug)]
 pub struct Ask {
     pub set: u64,
@@ -20,40 +20,40 @@ pub struct Ask {
     pub value: u64,
 }
 
-/// Who answers the sets of a layer with their static bounds: one worker, or several at once.
+/// A source of static bounds for the sets of a layer: one worker, or several in parallel.
 pub trait Answers {
     ghost use Rattle.strip_kind.specs.declared.kind.Kind.{Kind};
     ghost use Rattle.strip_pay.specs.Film.{FilmData};
 
-    /// The film whose sets are asked for.
+    /// The film of the sets.
     ghost film: { Self → FilmData };
 
     /// The kind of the static bounds.
     ghost kind: { Self → Kind };
 
-    /// What every call asks for.
+    /// The precondition of every call.
     ghost is_ready: { Self → Type 0 };
 
-    /// The film whose sets are asked for.
+    /// Returns the film of the sets.
     fn film(&self) -> &Film
         requires { is_ready self.now }
         ensures { result.now ≡ film self.now };
 
-    /// The static bound of a set, in units of money.
+    /// Returns the static bound of a set, in units of money.
     fn bound(&self, set: Mask) -> u64
         requires ready { is_ready self.now }
         requires lies { LiesIn (film self.now) set.0 }
         ensures { result ≡ bound (kind self.now) (film self.now) set.0 };
 
-    /// Answers each set whose value isn't known with a number that is at most its static bound, and at least what is
-    /// needed or the bound.
+    /// Fills in the value of each request that isn't known. The value is at most the set's static bound, and it is the
+    /// bound or reaches `need`.
     fn answer(&self, asks: &mut [Ask]) -> Result<(), Memory>
         requires ready { is_ready self.now }
         requires lies { All (λ ask. LiesIn (film self.now) ask.set) asks.old }
         ensures { IfOk result (λ _. AreAnswered (kind self.now) (film self.now) asks.old asks.new) };
 }
 
-/// One worker, who answers one set after the other.
+/// One worker, who answers the requests in turn.
 #[derive(Drop)]
 pub struct Alone<'k, 'f, F: Fn(u64, u64) -> u64> {
     pub kept: &'k StoredBound<'f, F>,
@@ -80,7 +80,7 @@ impl<'k, 'f, F: Fn(u64, u64) -> u64> Answers for Alone<'k, 'f, F> {
     }
 }
 
-/// Answers each set whose value isn't known, one after the other. It asks the stored bound once for each of them.
+/// Answers each request that isn't known, in turn, with one call of the stored bound.
 pub fn answer_in_turn<F: Fn(u64, u64) -> u64>(kept: &StoredBound<F>, asks: &mut [Ask])
     requires keeps { Keeps (F.pre kept.now.f) (F.post kept.now.f) kept.now.kind kept.now.film.now }
     requires lies { All (λ ask. LiesIn kept.now.film.now ask.set) asks.old }
@@ -91,7 +91,7 @@ pub fn answer_in_turn<F: Fn(u64, u64) -> u64>(kept: &StoredBound<F>, asks: &mut 
     }
 }
 
-/// Answers a set, if its value isn't known.
+/// Answers a request, if its value isn't known.
 fn answer_one<F: Fn(u64, u64) -> u64>(kept: &StoredBound<F>, ask: &mut Ask)
     requires keeps { Keeps (F.pre kept.now.f) (F.post kept.now.f) kept.now.kind kept.now.film.now }
     requires lies { LiesIn kept.now.film.now ask.old.set }

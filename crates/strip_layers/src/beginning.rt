@@ -1,4 +1,4 @@
-// How a search by layers begins.
+// The initial state of a search by layers.
 ghost use Rattle.std.specs.Prelude.{◌≡◌, ◌<◌, ◌≤◌, IfOk, false};
 ghost use Rattle.strip_film.specs.Film.{all_scenes};
 ghost use Rattle.strip_film.specs.Path.{IsComplete};
@@ -16,7 +16,8 @@ use strip_film::{Path, on, step_with};
 use strip_io::Memory;
 use strip_rule::open_firsts_with;
 
-/// A search with one line, that of all scenes, which has their look-ahead.
+/// Makes a search with a single line, that of all scenes, whose bound is the greater of `static_bound` and the
+/// look-ahead.
 pub(crate) fn begin<A: Answers>(
     alloc: Global,
     answers: &A,
@@ -41,7 +42,8 @@ pub(crate) fn begin<A: Answers>(
     Ok(search)
 }
 
-/// The least, over the open firsts of all scenes, of a step and the static bound of what then remains, in units of money.
+/// Returns the look-ahead: the least step plus static bound of the rest, over the open firsts of all scenes, in units
+/// of money.
 fn look_ahead<A: Answers>(answers: &A) -> u64
     requires { A.is_ready answers.now }
     ensures { LooksAhead (rules_of (A.kind answers.now) (A.film answers.now)) result }

@@ -1,4 +1,4 @@
-// What was found of static bounds.
+// Static bounds that a search by layers computed.
 ghost use Rattle.std.specs.Prelude.{◌≡◌, ◌≤◌, ◌⊎◌};
 ghost use Rattle.strip_film.specs.Film.{LiesIn};
 ghost use Rattle.strip_bound.specs.Bounds.{bound};
@@ -9,22 +9,23 @@ use indexmap::IndexMap;
 use strip_bound::StoredBound;
 use strip_mask::Mask;
 
-/// A number that is at most the static bound of a set, in units of money, and whether it is the bound.
+/// A lower bound of a set's static bound, in units of money, and whether it equals the static bound.
 #[derive(Clone, Copy, Debug)]
 pub(crate) struct Lowest {
     pub value: u64,
     pub is_whole: bool,
 }
 
-/// What a search by layers found of static bounds: for each set that was asked for, a number that is at most its bound.
+/// The static bounds that a search by layers computed: for each requested set, a number that is at most its static
+/// bound.
 #[derive(Debug, Drop)]
 pub struct Found {
     pub(crate) values: IndexMap<u64, Lowest>,
 }
 
 impl Found {
-    /// A number that is at most the static bound of the set, in units of money, and at least `need` or the bound: the one
-    /// that was found if it reaches so far or is the bound, and else what the stored bound answers.
+    /// Returns a lower bound of the set, in units of money: its static bound, or a number from `need` up to that bound.
+    /// It takes the number found in the search if that suffices, and asks the stored bound otherwise.
     pub fn reach<F: Fn(u64, u64) -> u64>(&self, kept: &StoredBound<F>, q: Mask, need: u64) -> u64
         requires keeps { Keeps (F.pre kept.now.f) (F.post kept.now.f) kept.now.kind kept.now.film.now }
         requires found { AreTrue kept.now.kind kept.now.film.now self.now.values.entries }

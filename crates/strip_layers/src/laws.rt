@@ -1,11 +1,12 @@
-//! Laws of the definitions. Each function does nothing: its contract is the law.
+//! Laws of the definitions: functions that do nothing when they run, each with a theorem as its contract.
 ghost use Rattle.std.specs.Prelude.{◌≡◌, List, map};
 ghost use Rattle.strip_kind.specs.declared.kind.Kind.{Kind};
 ghost use Rattle.strip_pay.specs.Film.{FilmData};
 ghost use Rattle.strip_layers.specs.declared.ask.Ask.{Ask};
 ghost use Rattle.strip_layers.specs.Asks.{AreAnswered, taken};
 
-/// Whoever answers a list of asks, one worker or several: what a layer takes of the answers is the same list.
+/// A layer takes one and the same list from any two answers to its requests, whether one worker or several computed
+/// them.
 pub fn answers_are_the_same()
     ensures { (kind : Kind) (film : FilmData) (asks one other : List Ask) → AreAnswered kind film asks one
         → AreAnswered kind film asks other → map taken one ≡ map taken other }

@@ -1,11 +1,11 @@
-// What a search by layers ends with.
+// The result of a search by layers.
 
 use crate::found::Found;
 use strip_film::{Line, Path};
 
-/// What a search by layers ends with: its lines, no two of one set; the bound of all scenes that they make known, in
-/// units of money; the cheapest complete path that it met, or the one that it began with; whether the lines ran out
-/// before the bound was what that path pays; and what was found of static bounds.
+/// The result of a search by layers: its lines, at most one for each set, and the bound of all scenes that they prove,
+/// in units of money. `best` is the cheapest complete path that it met, or its initial path. `is_spent` tells whether
+/// the lines ran out before the bound reached this path's pay. `found` has the static bounds that it computed.
 #[derive(Debug, Drop)]
 pub struct Layered {
     pub lines: Vec<Line>,

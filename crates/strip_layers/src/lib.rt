@@ -1,5 +1,7 @@
-//! Best-first search by layers: a branch-and-bound search that raises the bound of all scenes in steps, and below each
-//! limit looks at every set of remaining scenes once, by its cheapest path. It keeps one line for each set that is open.
+//! Breadth-first search by sets under rising cost limits, as in iterative deepening (search by layers). It raises the
+//! bound of all scenes in steps, and keeps one line (proved lower bound) for each open set. Below each limit it looks
+//! at every set of remaining scenes once, by its cheapest path. A law is a function that does nothing when it runs: its
+//! contract is a theorem that a caller obtains by calling it.
 #![tactic(auto)]
 
 mod ask;

@@ -1,11 +1,11 @@
-// The limits that a search rises by, and what is told of them.
+// The rising cost limits of a search, and its reports of them.
 ghost use Rattle.std.specs.Prelude.{◌≡◌, ◌<◌, ◌≤◌, ◌==◌, ◌+◌};
 
-/// How many times the step is halved before a walk may use up the lines.
+/// Number of times that the step is halved before a walk may use up the lines.
 const HALVINGS: u32 = 2;
 
-/// What is told of a limit that was reached: its number, counted in whole steps, and how many steps there are; what the
-/// best path pays and the bound of all scenes, in units of money; how many lines there are, and how many there may be.
+/// A report of a limit that was reached. `number` counts whole steps, out of `steps`. `cost` is the pay of the best
+/// path, `bound` the bound of all scenes, both in units of money. There are `lines` lines, out of at most `most`.
 #[derive(Clone, Copy, Debug)]
 pub struct Reached {
     pub number: u64,
@@ -16,20 +16,20 @@ pub struct Reached {
     pub most: u32,
 }
 
-/// Who is told how a search by layers gets on.
+/// An observer of the progress of a search by layers.
 pub trait Watch {
-    /// A limit was reached. The search goes on once the call returns.
+    /// Reports that a limit was reached. The search goes on once the call returns.
     fn reached(&self, at: &Reached);
 }
 
-/// A walk below a limit, in units of money, and whether it may use up the lines.
+/// A walk below a limit, in units of money. `may_spend` tells whether it may use up the lines.
 #[derive(Clone, Copy, Debug)]
 pub(crate) struct Walk {
     pub limit: u64,
     pub may_spend: bool,
 }
 
-/// The limits of a search. They rise by a step from what is proved; a step that needs too many lines is halved.
+/// The limits of a search. They rise by a step from the proved bound; a step that needs too many lines is halved.
 #[derive(Clone, Copy, Debug)]
 pub(crate) struct Limits {
     ahead: u64,
@@ -42,7 +42,8 @@ pub(crate) struct Limits {
 }
 
 impl Limits {
-    /// So many equal steps, at least one, from the look-ahead of all scenes to what the path at the start pays.
+    /// Divides the interval from the look-ahead of all scenes to the initial path's pay into `steps` equal steps, at
+    /// least one.
     pub(crate) fn new(ahead: u64, goal: u64, steps: u32) -> Limits
         ensures { result.halvings ≡ 0 }
     {
@@ -57,7 +58,7 @@ impl Limits {
         }
     }
 
-    /// The next walk: a step above what is proved, and at most what the best path pays.
+    /// Returns the next walk: its limit is a step above the proved bound, and at most the best path's pay.
     pub(crate) fn next(&self, proved: u64, cost: u64) -> Walk
         requires { proved < cost }
         ensures more { proved < result.limit }
@@ -79,13 +80,13 @@ impl Limits {
         self.halvings += 1;
     }
 
-    /// How many whole steps lie below what is proved.
+    /// Returns the number of whole steps below the proved bound.
     pub(crate) fn number(&self, proved: u64) -> u64 {
         let gone = proved.saturating_sub(self.ahead) / self.whole_step.max(1);
         gone.min(u64::from(self.steps))
     }
 
-    /// How many steps there are.
+    /// Returns the number of steps.
     pub(crate) fn steps(&self) -> u32 {
         self.steps
     }

@@ -1,4 +1,4 @@
-// One layer forward: its sets are answered, and the open ones lead to the next layer.
+// One layer forward: its sets are bounded, and the open ones lead to the next layer.
 ghost use Rattle.std.specs.Prelude.{◌≡◌, ◌≢◌, ℕ, suc, None, Some, All, fold, length, map, ◌≤◌, IfOk};
 ghost use Rattle.strip_kind.specs.declared.kind.Kind.{Kind};
 ghost use Rattle.strip_pay.specs.Film.{FilmData};
@@ -20,8 +20,8 @@ use strip_film::Path;
 use strip_io::Memory;
 use strip_paths::{PathsBySet, put_paths_after};
 
-/// The sets that the paths of a layer leave, each with a value that reaches the limit if its static bound or its line
-/// does. All that aren't known are answered at once.
+/// Requests a bound for the remaining set of each path, all at once. A value reaches the limit if the set's static
+/// bound or line does.
 pub(crate) fn ask_all<A: Answers>(
     alloc: Global,
     answers: &A,
@@ -43,7 +43,7 @@ pub(crate) fn ask_all<A: Answers>(
     Ok(asks)
 }
 
-/// What has to be asked of each path, in their order.
+/// Makes the requests of the paths, in their order.
 fn asks_for(alloc: Global, search: &Search, paths: &[Path], limit: u64) -> Result<Vec<Ask>, Memory>
     ensures { (kind : Kind) (film : FilmData) → AreTrue kind film search.now.found.entries
         → IfOk result (λ asks. AreAsksFor kind film (search_data search.now).lines limit (map path_data paths.now) asks.items) }
@@ -55,7 +55,8 @@ fn asks_for(alloc: Global, search: &Search, paths: &[Path], limit: u64) -> Resul
     Ok(asks)
 }
 
-/// How the sets stand that the paths leave, and the paths that go on from those that leave an open one.
+/// Closes or opens the remaining set of each path, and returns the layer with the paths that continue those of open
+/// sets.
 pub(crate) fn go_on<A: Answers>(
     alloc: Global,
     answers: &A,
@@ -91,7 +92,8 @@ pub(crate) fn go_on<A: Answers>(
     Ok((layer, next))
 }
 
-/// How the set stands that a path leaves. If it is open, the paths that go on are put to those of the next layer.
+/// Closes or opens the remaining set of a path. If the set is open, the paths that continue this path are put into the
+/// next layer.
 fn look_at<A: Answers>(
     answers: &A,
     search: &mut Search,

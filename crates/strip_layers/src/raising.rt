@@ -19,8 +19,8 @@ use strip_film::{Film, on, step_with};
 use strip_mask::Mask;
 use strip_rule::open_firsts_with;
 
-/// Raises the line of each open set of a layer to the least, over its open firsts, of the step and what is known of the
-/// set behind it, which is one of the layer below.
+/// Raises the line of each open set of a layer to the least step plus known bound of the rest, over its open firsts.
+/// The rest is a set of the layer below.
 pub(crate) fn raise_layer<A: Answers>(
     answers: &A,
     search: &mut Search,
@@ -54,7 +54,7 @@ pub(crate) fn raise_layer<A: Answers>(
     Layer { sets, standings }
 }
 
-/// Raises the line at a place, and answers what it then has.
+/// Raises the line at an index, and returns the bound that it then has.
 fn raise_line<A: Answers>(answers: &A, search: &mut Search, place: usize, below: &Layer) -> u64
     requires ready { A.is_ready answers.now }
     requires place { place < length (search_data search.old).lines }
@@ -68,7 +68,7 @@ fn raise_line<A: Answers>(answers: &A, search: &mut Search, place: usize, below:
     search.raise(place, least)
 }
 
-/// The least, over the open firsts of a set, of the step and what is known of the set behind it, in units of money.
+/// Returns the least step plus known bound of the rest, over the open firsts of a set, in units of money.
 fn least_over(film: &Film, set: Mask, below: &Layer) -> u64
     requires { LiesIn film.now set.0 }
     ensures { IsLeastOver film.now below.now.sets.keys below.now.standings.items set.0 result }

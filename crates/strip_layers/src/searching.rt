@@ -24,13 +24,13 @@ use strip_film::Path;
 use strip_film::laws::{kept_orders_are_ready_lists, steps_add_up_to_the_pay};
 use strip_io::Memory;
 
-/// Searches the film for a cheapest order, from a complete path, with at most `cap` lines. The film is walked below
-/// limits that rise from the look-ahead of all scenes to what the best path pays, in so many equal steps at first. A walk
-/// that needs more lines than there may be is undone, and the step halved; after two halvings a walk may use up the
-/// lines, which ends the search.
+/// Searches for a cheapest order of the film, from a complete path, with at most `cap` lines. The cost limits rise from
+/// the look-ahead of all scenes to the best path's pay, at first in `steps` equal steps. A walk that needs more than
+/// `cap` lines is undone, and the step halved. After two halvings a walk may use up the lines, and this ends the
+/// search.
 ///
-/// It ends when the bound of all scenes is what the best path pays, or when a line is wanted and there are `cap`. No set
-/// has two lines, so that there are no more than sets. It takes some 150 bytes for each set that is looked at.
+/// It ends when the bound of all scenes is the best path's pay, or when a line is needed and there are `cap`. No set
+/// has two lines, so there are no more lines than sets. It takes some 150 bytes for each set that it looks at.
 pub fn search_by_layers<A: Answers, W: Watch>(
     alloc: Global,
     answers: &A,
@@ -68,8 +68,7 @@ pub fn search_by_layers<A: Answers, W: Watch>(
     Ok(end(search))
 }
 
-/// Walks the film below limits that rise, until the bound of all scenes is what the best path pays, or the lines are used
-/// up.
+/// Walks the film below rising limits, until the bound of all scenes is the best path's pay or the lines are used up.
 fn rise<A: Answers, W: Watch>(
     alloc: Global,
     answers: &A,
@@ -101,7 +100,7 @@ fn rise<A: Answers, W: Watch>(
     Ok(())
 }
 
-/// Tells that a limit was reached.
+/// Reports that a limit was reached.
 fn tell<W: Watch>(watch: &W, search: &Search, limits: &Limits)
     requires { 0 < length (search_data search.now).lines }
 {
@@ -115,7 +114,7 @@ fn tell<W: Watch>(watch: &W, search: &Search, limits: &Limits)
     });
 }
 
-/// What the search ends with.
+/// Makes the result of the search.
 fn end(search: Search) -> Layered
     requires { 0 < length (search_data search).lines }
     ensures ended { IsEnd (search_data search) (layered_data result) }

@@ -1,4 +1,4 @@
-// Lines by their sets.
+// Lines, indexed by their sets.
 ghost use Rattle.std.specs.Prelude.{◌≡◌, ◌<◌, ◌==◌, [], ◌++◌, ◌∷◌, None, map, max, take, vec_len, IfOk};
 ghost use Rattle.std.specs.List.{position};
 ghost use Rattle.strip_lines.specs.Lines.{line_at, with_raised};
@@ -9,17 +9,17 @@ use strip_film::Line;
 use strip_io::Memory;
 use strip_mask::Mask;
 
-/// Lines in the order in which they were made, each found by its set.
+/// Lines in the order of their creation, with an index by set.
 #[derive(Debug, Drop)]
 pub(crate) struct Sheet {
     lines: Vec<Line>,
-    // The set of each line, in the same order.
+    // The set of each line, in the order of `lines`.
     sets: IndexSet<u64>,
     pub ghost by_set: { sets.keys ≡ map (λ line. line.set) lines.items },
 }
 
 impl Sheet {
-    /// No lines.
+    /// Returns a sheet without lines.
     pub(crate) fn new(alloc: Global) -> Sheet
         ensures { result.lines.items ≡ [] }
     {
@@ -29,21 +29,21 @@ impl Sheet {
         }
     }
 
-    /// How many lines there are.
+    /// Returns the number of lines.
     pub(crate) fn len(&self) -> usize
         ensures { result ≡ vec_len self.now.lines }
     {
         self.lines.len()
     }
 
-    /// The place of the first line of the set.
+    /// Returns the index of the first line of the set.
     pub(crate) fn place_of(&self, q: Mask) -> Option<usize>
         ensures { result ≡ position (λ line. line.set == q.0) self.now.lines.items }
     {
         self.sets.get_index_of(&q.0)
     }
 
-    /// The bound of the line at a place, in units of money.
+    /// Returns the bound of the line at an index, in units of money.
     pub(crate) fn bound_at(&self, place: usize) -> u64
         requires { place < vec_len self.now.lines }
         ensures { result ≡ (line_at self.now.lines.items place).bound }
@@ -51,7 +51,7 @@ impl Sheet {
         self.lines[place].bound
     }
 
-    /// The set of the line at a place.
+    /// Returns the set of the line at an index.
     pub(crate) fn set_at(&self, place: usize) -> Mask
         requires { place < vec_len self.now.lines }
         ensures { result.0 ≡ (line_at self.now.lines.items place).set }
@@ -59,19 +59,19 @@ impl Sheet {
         Mask(self.lines[place].set)
     }
 
-    /// Adds the line, of which no other has the set, behind the others.
+    /// Appends a line. No other line has its set.
     pub(crate) fn push(&mut self, line: Line) -> Result<(), Memory>
         requires new { position (λ other. other.set == line.set) self.old.lines.items ≡ None }
         ensures { IfOk result (λ _. self.new.lines.items ≡ self.old.lines.items ++ line ∷ []) }
     {
-        // Room first, so that where memory is refused both lists stay as they are.
+        // Room first: if memory is refused, both lists stay as they are.
         self.sets.reserve(1)?;
         self.lines.push(line)?;
         self.sets.insert(line.set)?;
         Ok(())
     }
 
-    /// Raises the line at a place to the bound, where its own is less, and answers what it then has.
+    /// Raises the line at an index to the bound, if its own is less, and returns the bound that it then has.
     pub(crate) fn raise(&mut self, place: usize, bound: u64) -> u64
         requires { place < vec_len self.old.lines }
         ensures lines { self.new.lines.items ≡ with_raised self.old.lines.items place bound }
@@ -82,7 +82,7 @@ impl Sheet {
         raised
     }
 
-    /// Takes away the lines behind the first so many.
+    /// Keeps the first `count` lines only.
     pub(crate) fn truncate(&mut self, count: usize)
         ensures { self.new.lines.items ≡ take count self.old.lines.items }
     {
@@ -90,7 +90,7 @@ impl Sheet {
         self.sets.truncate(count);
     }
 
-    /// The lines in their order.
+    /// Returns the lines in their order.
     pub(crate) fn into_lines(self) -> Vec<Line>
         ensures { result ≡ self.lines }
     {

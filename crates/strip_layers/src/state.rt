@@ -1,4 +1,4 @@
-// What a search by layers has so far.
+// The state of a search by layers.
 ghost use Rattle.std.specs.Prelude.{◌≡◌, ◌≢◌, ◌-◌, ◌<◌, ◌≤◌, ◌==◌, ℕ, List, [], ◌∷◌, None, nat_eq, nat_lt, length, max, false, take, All, IfOk, MatchBool};
 ghost use Rattle.std.specs.List.{position};
 ghost use Rattle.strip_film.specs.Film.{LiesIn};
@@ -21,13 +21,13 @@ use strip_film::{Line, Path};
 use strip_io::Memory;
 use strip_mask::Mask;
 
-/// What a search by layers has so far: its lines, of which there may be `cap`; what was found of the static bounds; the
-/// cheapest complete path; what the path paid that it began with, its goal; and whether a line was wanted beyond
-/// those that there may be.
+/// The state of a search by layers: its lines, at most `cap`, and the static bounds that it computed. `best` is the
+/// cheapest complete path, and `goal` the initial path's pay. `spent` tells whether a line was needed when there were
+/// `cap`.
 #[derive(Debug, Drop)]
 pub(crate) struct Search {
     pub sheet: Sheet,
-    // For each set that was asked for, a number that is at most its static bound.
+    // For each requested set, a number that is at most its static bound.
     pub found: IndexMap<u64, Lowest>,
     pub best: Path,
     pub goal: u64,
@@ -36,7 +36,7 @@ pub(crate) struct Search {
 }
 
 impl Search {
-    /// A search that begins with a complete path, and has no line yet.
+    /// Returns a search with this complete path and no lines.
     pub(crate) fn new(alloc: Global, start: &Path, cap: u32) -> Search
         ensures search { search_data result ≡ record {
           lines = [];
@@ -69,7 +69,7 @@ impl Search {
         }
     }
 
-    /// What the lines make known of all scenes, in units of money: what the first line has, which is theirs.
+    /// Returns the bound of the first line, in units of money: the bound that the lines prove of all scenes.
     pub(crate) fn proved(&self) -> u64
         requires { 0 < length (search_data self.now).lines }
         ensures { result ≡ (line_at (search_data self.now).lines 0).bound }
@@ -77,7 +77,7 @@ impl Search {
         self.sheet.bound_at(0)
     }
 
-    /// What has to be asked of what remains after a path, to reach a limit.
+    /// Makes the request for the path's remaining set that reaches a limit.
     pub(crate) fn ask_for(&self, path: &Path, limit: u64) -> Ask
         ensures { (kind : Kind) (film : FilmData) → AreTrue kind film self.now.found.entries
             → IsAskFor kind film (search_data self.now).lines limit (path_data path.now) result }
@@ -103,7 +103,7 @@ impl Search {
         }
     }
 
-    /// What was found of the static bound of a set, in units of money; 0 if nothing was.
+    /// Returns what was found of a set's static bound, in units of money; 0 if nothing was.
     fn found_of(&self, set: Mask) -> u64
         ensures { (kind : Kind) (film : FilmData) → AreTrue kind film self.now.found.entries → result ≤ bound kind film set.0 }
     {
@@ -113,7 +113,7 @@ impl Search {
         }
     }
 
-    /// Remembers what was found of the sets that were asked for.
+    /// Stores the answers to these requests.
     pub(crate) fn remember(&mut self, asks: &[Ask]) -> Result<(), Memory>
         ensures found { (kind : Kind) (film : FilmData) → AreTrue kind film self.old.found.entries → All (AskedIsTrue kind film) asks.now
             → AreTrue kind film self.new.found.entries }
@@ -131,7 +131,8 @@ impl Search {
         Ok(())
     }
 
-    /// How a set stands after it was answered: closed if its value reaches what is needed, and else open, with a line.
+    /// Closes a set if the answer reaches `need`; otherwise opens it, with a line. If the lines are used up, the set
+    /// has no line.
     pub(crate) fn stand(&mut self, set: Mask, ask: &Ask) -> Result<Standing, Memory>
         ensures stands { IfOk result (λ standing. Stands (search_data self.old) set.0 ask.now standing (search_data self.new)) }
         ensures found { self.new.found.entries ≡ self.old.found.entries }
@@ -147,7 +148,7 @@ impl Search {
         })
     }
 
-    /// The place of the line of a set, which is made if there is none and one more may be.
+    /// Returns the index of the line of a set. The line is made if there is none and there are fewer than `cap`.
     fn open(&mut self, set: Mask, bound: u64) -> Result<Option<usize>, Memory>
         ensures opened { IfOk result (λ place. Opens (search_data self.old) (record { set = set.0; bound = bound }) place
             (search_data self.new)) }
@@ -159,7 +160,7 @@ impl Search {
         }
     }
 
-    /// Adds a line of the set with this bound, if there may be one more; else the search is spent.
+    /// Appends a line of the set with this bound, if there are fewer than `cap`; otherwise marks the search as spent.
     pub(crate) fn add(&mut self, set: Mask, bound: u64) -> Result<Option<usize>, Memory>
         requires { position (λ line. line.set == set.0) (search_data self.old).lines ≡ None }
         ensures added { IfOk result (λ place. Adds (search_data self.old) (record { set = set.0; bound = bound }) place
@@ -175,7 +176,7 @@ impl Search {
         Ok(Some(place))
     }
 
-    /// Raises the line at a place to the bound, if its own is less, and answers what it then has.
+    /// Raises the line at an index to the bound, if its own is less, and returns the bound that it then has.
     pub(crate) fn raise(&mut self, place: usize, bound: u64) -> u64
         requires { place < length (search_data self.old).lines }
         ensures lines { search_data self.new ≡ record
@@ -186,7 +187,7 @@ impl Search {
         self.sheet.raise(place, bound)
     }
 
-    /// Takes back the lines behind the first so many, and that one more was wanted.
+    /// Keeps the first `count` lines only, and marks the search as not spent.
     pub(crate) fn take_back(&mut self, count: usize)
         ensures search { search_data self.new ≡ record (search_data self.old) {
           lines = take count (search_data self.old).lines;

@@ -19,8 +19,8 @@ use strip_film::Path;
 use strip_io::Memory;
 use strip_paths::PathsBySet;
 
-/// Walks the film below a limit: whether it was walked to its end. If the walk needed more lines than there may be and
-/// may not use them up, everything is as it was before, but for what was found of static bounds.
+/// Walks the film below a limit, and returns whether it reached the end. If the walk needs more lines than `cap` and
+/// may not use them up, it is undone, except for the static bounds found.
 pub(crate) fn walk_whole<A: Answers>(
     alloc: Global,
     answers: &A,
@@ -49,9 +49,9 @@ pub(crate) fn walk_whole<A: Answers>(
     Ok(true)
 }
 
-/// Walks on from the paths of a layer, which leave so many scenes each: forward to the layers below, and backward from
-/// them, so that each open set of the layer has a line that its children justify. Answers nothing if the walk needs
-/// more lines than there may be and may not use them up.
+/// Walks on from the paths of a layer, each with `left` remaining scenes: forward to the layers below, then backward.
+/// At the end each open set of the layer has a line that its children justify. It returns none if the walk needs more
+/// lines than `cap` and may not use them up.
 fn walk_layer<A: Answers>(
     alloc: Global,
     answers: &A,
@@ -84,7 +84,8 @@ fn walk_layer<A: Answers>(
     }
 }
 
-/// Keeps the cheapest of these complete paths, if it pays less than the best one. Nothing is left to be known of.
+/// Keeps the cheapest of these complete paths, if it pays less than the best one. It returns a layer without sets,
+/// since no scenes remain.
 fn meet_all(alloc: Global, search: &mut Search, paths: &PathsBySet) -> Layer
     ensures found { search.new.found.entries ≡ search.old.found.entries }
     ensures met { (rules : Rules) (limit : ℕ) → IsSearch rules (search_data search.old)

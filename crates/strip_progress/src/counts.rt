@@ -1,4 +1,4 @@
-// What the workers of a search share: how many tasks were begun, and by whom; and how far its limits came.
+// Atomic counters that the workers of a search share.
 ghost use Rattle.std.specs.Prelude.{◌≡◌, ◌<◌, ◌↔◌, IfSome, IsSome};
 ghost use Rattle.strip_progress.specs.Due.{IsDue, IsLimitDue};
 
@@ -7,19 +7,19 @@ use crate::row::{LimitRow, Row};
 use std::sync::atomic::{AtomicU32, AtomicU64, Ordering};
 use strip_worker::{Limit, Standing};
 
-/// Counts that any worker adds to.
+/// Counters that any worker may add to: tasks wanted, tasks begun, workers that began one, and the limits reached.
 #[derive(Drop)]
 pub(crate) struct Counts {
     wanted: AtomicU32,
     begun: AtomicU32,
-    // The bit of a worker is set once it began a task.
+    // The bit of a worker is set once it has begun a task.
     entered: AtomicU64,
-    // How far the limits have reached: the farthest of them, 0 if there are none.
+    // The greatest value of `reached` among the limits so far, 0 if there are none.
     reached: AtomicU64,
 }
 
 impl Counts {
-    /// No task is begun, none is asked for yet, and no limit is reached.
+    /// Returns counters of a search that hasn't begun: all are 0.
     pub(crate) fn new() -> Counts {
         Counts {
             wanted: AtomicU32::new(0),
@@ -29,13 +29,13 @@ impl Counts {
         }
     }
 
-    /// So many tasks are asked for.
+    /// Sets the number of wanted tasks.
     pub(crate) fn want(&self, wanted: u32) {
         self.wanted.store(wanted, Ordering::SeqCst);
     }
 
-    /// This worker, of a number below 64, begins one more task, where the search stands so: the row that is due
-    /// with it.
+    /// Counts a task that this worker begins, and returns the row if one is due, with this state of the search. The
+    /// worker's number is below 64.
     pub(crate) fn begin(&self, worker: u32, standing: &Standing) -> Option<Row>
         ensures { IfSome result (λ row. IsDue row.begun row.wanted) }
     {
@@ -53,7 +53,7 @@ impl Counts {
         })
     }
 
-    /// A limit is reached: the row that is due with it.
+    /// Counts a limit that is reached, and returns the row if one is due.
     pub(crate) fn reach(&self, limit: &Limit) -> Option<LimitRow>
         ensures { IfSome result (λ row. row.limit ≡ limit.now) }
     {
@@ -65,7 +65,7 @@ impl Counts {
         limit_row(*limit, earlier)
     }
 
-    /// One task more: how many there are now.
+    /// Adds a task, and returns the number of tasks begun.
     fn add_task(&self) -> u32
         ensures { 0 < result }
     {
@@ -73,8 +73,8 @@ impl Counts {
         before.saturating_add(1)
     }
 
-    /// This worker began a task: how many have done so. One of a greater number than the mask has bits
-    /// isn't counted.
+    /// Records that this worker has begun a task, and returns the number of workers that have. A worker whose number is
+    /// 64 or more isn't counted.
     fn enter(&self, worker: u32) -> u32 {
         let own = 1u64.checked_shl(worker).unwrap_or(0);
         let before = self.entered.fetch_or(own, Ordering::SeqCst);
@@ -82,7 +82,8 @@ impl Counts {
     }
 }
 
-/// The row that is due with this limit. `earlier` is how far earlier limits reached, 0 if there are none.
+/// Returns the row for this limit, if one is due. `earlier` is the greatest value of `reached` among earlier limits, 0
+/// if there are none.
 fn limit_row(limit: Limit, earlier: u64) -> Option<LimitRow>
     requires { 0 < limit.steps }
     ensures due { IsSome result ↔ IsLimitDue limit.number limit.steps earlier }

@@ -1,8 +1,8 @@
-// When a row is due.
+// Conditions under which a row is due.
 ghost use Rattle.std.specs.Prelude.{◌≡◌, ◌<◌, ◌↔◌, IsTrue};
 ghost use Rattle.strip_progress.specs.Due.{IsDue, IsLimitDue, fortieths, reached};
 
-/// Whether with this task, counted from 1, a further fortieth of the tasks that are asked for is begun.
+/// Tells whether a further fortieth of the wanted tasks is begun with this task, counted from 1.
 pub fn is_due(begun: u32, wanted: u32) -> bool
     requires some_begun { 0 < begun }
     requires some_wanted { 0 < wanted }
@@ -11,8 +11,8 @@ pub fn is_due(begun: u32, wanted: u32) -> bool
     fortieths(begun - 1, wanted) < fortieths(begun, wanted)
 }
 
-/// Whether a row is due with the limit of this number: if it is the first, or reaches farther than all earlier limits
-/// did. `earlier` is the farthest that they reached, 0 if there are none.
+/// Tells whether a row is due with the limit of this number: if it is the first, or reaches farther than all earlier
+/// limits. `earlier` is the farthest that they reached, 0 if there are none.
 pub fn is_limit_due(number: u64, steps: u32, earlier: u64) -> bool
     requires { 0 < steps }
     ensures { IsTrue result ↔ IsLimitDue number steps earlier }
@@ -20,7 +20,7 @@ pub fn is_limit_due(number: u64, steps: u32, earlier: u64) -> bool
     earlier < reached(number, steps)
 }
 
-/// How far the limit of this number reaches: one more than its whole fortieths of the steps.
+/// Returns one more than the number of whole fortieths of the steps that this limit reaches.
 pub(crate) fn reached(number: u64, steps: u32) -> u64
     requires { 0 < steps }
     ensures { result ≡ reached number steps }
@@ -29,7 +29,7 @@ pub(crate) fn reached(number: u64, steps: u32) -> u64
     1 + fortieths(within, steps)
 }
 
-/// How many whole fortieths of the tasks that are asked for these are.
+/// Returns the number of whole fortieths of the wanted tasks in `tasks`.
 fn fortieths(tasks: u32, wanted: u32) -> u64
     requires { 0 < wanted }
     ensures { result ≡ fortieths tasks wanted }

@@ -1,4 +1,5 @@
-//! How a search gets on and how it stands, told on standard error as it goes.
+//! Progress rows of a running search, on standard error. A law is a function that does nothing when it runs: its
+//! contract is a theorem that a caller obtains by calling it.
 #![tactic(auto)]
 
 mod counts;

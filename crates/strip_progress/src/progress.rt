@@ -1,13 +1,13 @@
-// A gate that tells how a search gets on.
+// An observer that prints the progress of a search.
 use crate::counts::Counts;
 use crate::row::StageRow;
 use strip_worker::{Gate, Limit, Stage, Standing};
 
-/// A gate that holds nobody and tells on standard error how a search gets on and how it stands: with each further
-/// fortieth of the tasks that are asked for, how many of them were begun and by how many workers; of a search by
-/// layers the first limit that was reached, and each that reaches a further fortieth of the steps; and the end of each
-/// stage. Where workers begin tasks at the same time, the later of two rows may come first. A row that can't be
-/// written is passed over.
+/// An observer (gate) that prints the progress of a search on standard error, and delays no worker. It prints a row
+/// with each further fortieth of the wanted tasks: how many were begun and by how many workers. For a search by layers
+/// it prints the first limit reached, and each that reaches a further fortieth of the steps. It also prints the end of
+/// each stage. Each row ends with the state of the search. If workers begin tasks at the same time, the later of two
+/// rows may come first. A row that can't be written is skipped.
 #[derive(Drop)]
 pub struct Progress<'r, R: Eprint> {
     host: &'r R,
@@ -15,7 +15,7 @@ pub struct Progress<'r, R: Eprint> {
 }
 
 impl<'r, R: Eprint> Progress<'r, R> {
-    /// Of a search that hasn't begun.
+    /// Returns the observer of a search that hasn't begun.
     pub fn new(host: &'r R) -> Progress<'r, R> {
         Progress {
             host,

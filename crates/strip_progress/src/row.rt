@@ -1,4 +1,4 @@
-// A row of what is told.
+// Texts of progress rows.
 ghost use Rattle.std.specs.Prelude.{◌≡◌};
 ghost use Rattle.strip_progress.specs.Row.{kind_word, workers_word};
 
@@ -6,7 +6,8 @@ use std::fmt;
 use strip_kind::Kind;
 use strip_worker::{Limit, Stage, Standing};
 
-/// How many tasks were begun, how many are asked for, how many workers began them, and how the search stands.
+/// A row for a task: the number of tasks begun, of tasks wanted, and of workers that began them, and the state of the
+/// search.
 #[derive(Drop)]
 pub(crate) struct Row {
     pub(crate) begun: u32,
@@ -82,7 +83,7 @@ impl fmt::Display for StageRow {
     }
 }
 
-/// How a search stands, with which each row ends.
+/// The end of each row: the state of the search.
 #[derive(Clone, Copy, Debug)]
 struct RowEnd {
     standing: Standing,
@@ -108,14 +109,14 @@ impl fmt::Display for RowEnd {
     }
 }
 
-/// The word behind so many.
+/// Returns the word that follows the number of workers.
 fn workers_word(workers: u32) -> &'static str
     ensures { result.now ≡ workers_word workers }
 {
     if workers == 1 { "worker" } else { "workers" }
 }
 
-/// The word for static bounds of this kind.
+/// Returns the word for static bounds of this kind.
 fn kind_word(kind: Kind) -> &'static str
     ensures { result.now ≡ kind_word kind }
 {

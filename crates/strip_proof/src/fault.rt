@@ -1,4 +1,4 @@
-// Why a text says no plan.
+// Faults of plan texts.
 ghost use Rattle.std.specs.Prelude.{◌≡◌};
 ghost use Rattle.strip_proof.specs.declared.fault.PlanFault.TheVariants.{Memory as OutOfMemory};
 
@@ -7,14 +7,14 @@ use std::error::Error;
 use std::fmt;
 use strip_io::Memory;
 
-/// Why no plan was read from a text. Rows are counted from 1, as a spreadsheet counts them.
+/// A reason why no plan was read from a text. Rows are counted from 1, as in a spreadsheet.
 #[derive(Clone, Copy, Debug, PartialEq, Eq)]
 pub enum PlanFault {
-    /// The row isn't the one that is due there.
+    /// The row isn't the row that has to be there.
     BadRow { row: u64 },
-    /// The text ends before this row, which is due.
+    /// The text ends before this required row.
     Missing { which: u64 },
-    /// The row of the order has a name that no scene has.
+    /// The row of the order has a name that is no scene's name.
     UnknownScene { row: u64 },
     /// There are more than 16,777,216 lines.
     TooManyLines,
@@ -46,7 +46,7 @@ impl From<Memory> for PlanFault {
     }
 }
 
-/// A sentence that says what is wrong, and where.
+/// Writes a sentence that says what is wrong, and where.
 impl fmt::Display for PlanFault {
     ghost use Rattle.std.specs.Prelude.{Some};
     ghost use Rattle.strip_proof.specs.Told.{sentence};

@@ -1,4 +1,4 @@
-// What the bytes of a field are.
+// The meaning of a field's bytes.
 ghost use Rattle.std.specs.Prelude.{◌≡◌, ◌≤◌, true, false, length, MatchOption};
 ghost use Rattle.std.specs.List.{list_all};
 ghost use Rattle.std.specs.Char.{digit_value, is_ascii_hexdigit};
@@ -10,12 +10,12 @@ use strip_kind::Kind;
 use strip_model::Instance;
 use strip_text::number_of;
 
-// The greatest number that a plan text can say.
+// The greatest number that can be written in a plan text.
 const MAX_AMOUNT: u64 = 9_223_372_036_854_775_807;
 
 const SET_DIGITS: usize = 16;
 
-/// The status whose word the field is; none where it is no such word.
+/// Returns the status whose word the field is, or none if it is no such word.
 pub(crate) fn status_of(field: &[u8]) -> Option<Status>
     ensures { MatchOption result (is_status field.now ≡ false)
         (λ status. (is_status field.now ≡ true) × (status ≡ status_of field.now)) }
@@ -29,7 +29,7 @@ pub(crate) fn status_of(field: &[u8]) -> Option<Status>
     }
 }
 
-/// The kind of bounds whose word the field is; none where it is no such word.
+/// Returns the kind of bounds whose word the field is, or none if it is no such word.
 pub(crate) fn kind_of(field: &[u8]) -> Option<Kind>
     ensures { MatchOption result (is_kind field.now ≡ false)
         (λ kind. (is_kind field.now ≡ true) × (kind ≡ kind_of field.now)) }
@@ -47,7 +47,7 @@ pub(crate) fn kind_of(field: &[u8]) -> Option<Kind>
     }
 }
 
-/// The number below 2 to the 63 that the field's digits spell; none where they spell no such number.
+/// Returns the number below 2 to the 63 that the field's digits spell, or none if they spell no such number.
 pub(crate) fn amount_of(field: &[u8]) -> Option<u64>
     ensures { MatchOption result (is_amount field.now ≡ false)
         (λ amount. (is_amount field.now ≡ true) × (amount ≡ number_of field.now)) }
@@ -55,7 +55,7 @@ pub(crate) fn amount_of(field: &[u8]) -> Option<u64>
     number_of(field, 0, MAX_AMOUNT)
 }
 
-/// The set that the field's hexadecimal digits spell; none where it isn't 1 to 16 such digits.
+/// Returns the set that the field's hexadecimal digits spell, or none if the field isn't 1 to 16 such digits.
 pub(crate) fn set_of(field: &[u8]) -> Option<u64>
     ensures { MatchOption result (is_set field.now ≡ false)
         (λ set. (is_set field.now ≡ true) × (set ≡ set_of field.now)) }
@@ -103,8 +103,7 @@ fn hex_value(digit: u8) -> u64
     u64::from(value)
 }
 
-/// The number of the scene with this name; none where no scene has it. It looks at one scene after
-/// the other.
+/// Returns the number of the scene with this name, or none if no scene has it, by linear search.
 pub(crate) fn scene_of(inst: &Instance, name: &[u8]) -> Option<u16>
     ensures { MatchOption result (is_scene inst.now name.now ≡ false)
         (λ scene. (is_scene inst.now name.now ≡ true) × (scene ≡ scene_of inst.now name.now)) }

@@ -13,8 +13,7 @@ use strip_kind::Kind;
 use strip_model::Instance;
 use strip_text::Text;
 
-/// The eight head rows of a plan's text, where `printed` line rows follow: none is a plan without a
-/// proof.
+/// Returns the eight head rows of a plan's text, with `printed` line rows to follow: 0 for a plan without a proof.
 pub fn head_text(
     alloc: Global,
     inst: &Instance,
@@ -29,7 +28,7 @@ pub fn head_text(
     text.into_bytes()
 }
 
-/// The eight rows, behind nothing.
+/// Appends the eight rows to an empty text.
 fn push_head(
     alloc: Global,
     text: &mut Text,
@@ -62,7 +61,7 @@ fn kind_word(kind: Kind) -> &'static [u8]
     }
 }
 
-/// The word of a plan's status.
+/// Returns the word of a plan's status.
 pub fn status_word(status: Status) -> &'static [u8]
     ensures { result.now ≡ status_word status }
 {
@@ -92,7 +91,7 @@ fn push_number(alloc: Global, text: &mut Text, name: &[u8], number: u64) -> Resu
     push_word(alloc, text, name, number.to_string(alloc)?.as_bytes())
 }
 
-/// The row of the scenes' names in shooting order.
+/// Appends the row of the scenes' names in shooting order.
 fn push_order(alloc: Global, text: &mut Text, inst: &Instance, order: &[u16]) -> Result<(), Memory>
     requires { All (λ scene. scene < length inst.now.scenes) order.now }
     ensures { OnOk result (text.new ≡ text.old ++ csv_row (codes "order" ∷ map (scene_name inst.now) order.now)) }

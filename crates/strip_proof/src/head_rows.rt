@@ -20,8 +20,8 @@ use strip_kind::Kind;
 use strip_model::Instance;
 use strip_text::{Row, Rows};
 
-/// The plan without its lines: `row` has the first of the five rows that every plan has, with the
-/// number `first`, and the others are the next ones.
+/// Reads the plan without its lines. `row` has the first of the five rows that every plan has, with the number `first`;
+/// the other rows follow.
 pub(crate) fn read_head(
     alloc: Global,
     inst: &Instance,
@@ -51,7 +51,7 @@ pub(crate) fn read_head(
     })
 }
 
-/// The kind of bounds: `row` has the row of the second format, and the next one is that of the bounds.
+/// Reads the kind of bounds from the next row. `row` has the first row of the second format.
 pub(crate) fn read_front(rows: &mut Rows<'_>, row: &mut Row) -> Result<Kind, PlanFault>
     ensures makes { Makes (due 1 (row_is (is_pair (codes "plan")
         (λ value. bytes_eq value (codes "2")))) (row.old ∷ rows.old.left)
@@ -92,7 +92,7 @@ fn status_in(row: &Row, number: u64) -> Result<Status, PlanFault>
     status_of(row.field(1)).ok_or(PlanFault::BadRow { row: number })
 }
 
-/// The number behind the word in the row that is due with this number.
+/// Reads the number after this word, in the required row with this number.
 fn read_amount(
     rows: &mut Rows<'_>,
     row: &mut Row,
@@ -117,7 +117,7 @@ fn amount_in(row: &Row, word: &[u8], number: u64) -> Result<u64, PlanFault>
     amount_of(row.field(1)).ok_or(PlanFault::BadRow { row: number })
 }
 
-/// How many line rows follow the row that is due with this number.
+/// Reads the number of line rows that follow the required row with this number.
 pub(crate) fn read_count(rows: &mut Rows<'_>, row: &mut Row, number: u64) -> Result<u64, PlanFault>
     ensures makes { Makes (due number count_checks rows.old.left) result }
     ensures count { IfOk result (λ count. count ≡ number_of (value_of rows.old.left 0)) }

@@ -1,4 +1,4 @@
-//! Laws of the definitions. Each function does nothing: its contract is the law.
+//! Laws of the definitions: functions that do nothing when they run, each with a theorem as its contract.
 ghost use Rattle.std.specs.Prelude.{◌≡◌, ◌≢◌, ◌<◌, ◌^◌, ℕ, List, [], ◌++◌, length, map, codes, Ok, Err};
 ghost use Rattle.std.specs.Str.Parse.{digits_value};
 ghost use Rattle.strip_model.specs.Data.{InstanceData};
@@ -16,7 +16,7 @@ pub fn texts_begin_with_their_format()
         × (plan_text inst plan ≡ codes "plan,2\n" ++ rest) }
 {}
 
-/// The text of a plan is that of its head rows and its line rows, and reads back as these rows.
+/// The text of a plan consists of its head rows and its line rows, and reads back as these rows.
 pub fn texts_read_back()
     ensures rows { (inst : InstanceData) (plan : PlanData)
         → plan_text inst plan ≡ csv_text (head_rows inst plan (length plan.lines) ++ map line_row plan.lines) }
@@ -25,12 +25,12 @@ pub fn texts_read_back()
         ++ map line_row plan.lines) }
 {}
 
-/// A plan without lines has one text, whether a proof is given or not.
+/// A plan without lines has one text, with and without a proof.
 pub fn plans_without_lines_are_bare()
     ensures { (inst : InstanceData) (plan : PlanData) → plan.lines ≡ [] → plan_text inst plan ≡ bare_text inst plan }
 {}
 
-/// A set's field has 16 digits, which spell the set in base 16, and different lines have different rows.
+/// A set's field has 16 digits, which spell the set in base 16. Different lines have different rows.
 pub fn line_rows_tell_their_lines()
     ensures count { (set : ℕ) → length (set_field set) ≡ 16 }
     ensures value { (set : ℕ) → set < 2 ^ 64 → digits_value 16 (set_field set) ≡ set }
@@ -38,9 +38,8 @@ pub fn line_rows_tell_their_lines()
         → line_row a ≡ line_row b → a ≡ b }
 {}
 
-/// The text of a plan says the plan, with its kind, and without a proof the plan without lines: where
-/// the names of the scenes are such as a text can say an order by, and the plan is one that a text can
-/// say.
+/// The text of a plan reads back as the plan with its kind; without a proof it reads back as the plan without lines.
+/// This holds if the plan and its scenes' names can be written in a text.
 pub fn written_plans_read_back()
     ensures whole { (inst : InstanceData) (plan : PlanData) → HasReadableScenes inst → IsReadablePlan inst plan
         → says inst (plan_text inst plan) ≡ Ok plan }
@@ -48,14 +47,13 @@ pub fn written_plans_read_back()
         → says inst (bare_text inst plan) ≡ Ok (record plan { lines = [] }) }
 {}
 
-/// A plan that a text says is one that a text can say, so that what was read and is written again
-/// reads back.
+/// A plan that was read from a text can be written in a text, so it reads back.
 pub fn what_is_said_is_readable()
     ensures { (inst : InstanceData) (text : List ℕ) (plan : PlanData) → says inst text ≡ Ok plan
         → IsReadablePlan inst plan }
 {}
 
-/// No text says that memory ran out: that fault is of the machine alone.
+/// No text means that memory ran out: this fault depends on the machine alone.
 pub fn want_of_memory_is_never_said()
     ensures { (inst : InstanceData) (text : List ℕ) → says inst text ≢ Err Memory }
 {}

@@ -1,5 +1,6 @@
-//! Plans: an order with its cost, a bound and the lines that prove it, and the text of a plan,
-//! written and read.
+//! Plans (certificates): an order with its cost, a lower bound, and the lines that prove the bound. The text of a plan
+//! is written and read here. A law is a function that does nothing when it runs: its contract is a theorem that a
+//! caller obtains by calling it.
 #![tactic(auto)]
 
 mod fault;

@@ -17,11 +17,11 @@ const SET_DIGITS: usize = 16;
 
 const BOUND_DIGITS: usize = 20;
 
-/// The text of a line row, seen as its bytes. It takes no memory.
+/// The text of a line row, modelled as its bytes. It takes no memory.
 #[derive(Debug, Drop)]
 pub struct LineText {
     buffer: [u8; MAX_ROW],
-    // The text stands at the end of the buffer, from here on.
+    // The text fills the end of the buffer, from this index on.
     from: usize,
 }
 
@@ -37,7 +37,7 @@ impl Model for LineText {
 }
 
 impl LineText {
-    /// The bytes of the row, with the line feed at its end.
+    /// Returns the bytes of the row, with the line feed at its end.
     pub fn bytes(&self) -> &[u8]
         ensures bytes { result.now ≡ self.now }
         ensures short { length result.now ≤ MAX_ROW }
@@ -74,12 +74,11 @@ impl LineText {
     }
 }
 
-/// The row of a line: the set as 16 hexadecimal digits, the bound in decimal. Its time is one turn for
-/// each digit.
+/// Returns the row of a line: the set as 16 hexadecimal digits, the bound in decimal. It takes a turn for each digit.
 pub fn line_text(line: &Line) -> LineText
     ensures { result ≡ csv_row (line_row line.now) }
 {
-    // From the end to the start, since the bound has as many digits as it needs.
+    // From the end to the start, since the number of the bound's digits isn't known before.
     let mut text = LineText::new();
     text.prepend(b"\n");
     text.prepend_number(line.bound);

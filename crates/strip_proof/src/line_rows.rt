@@ -10,10 +10,10 @@ use std::alloc::Global;
 use strip_film::Line;
 use strip_text::{Row, Rows};
 
-/// How many lines a plan text can say.
+/// The greatest number of lines in a plan text.
 pub(crate) const MAX_LINES: u64 = 16_777_216;
 
-/// The lines that all rows that are left say, from row 6 on.
+/// Reads the lines of all remaining rows, from row 6 on.
 pub(crate) fn read_all_lines(
     alloc: Global,
     rows: &mut Rows<'_>,
@@ -32,7 +32,7 @@ pub(crate) fn read_all_lines(
     Ok(lines)
 }
 
-/// The lines that the rows from row 9 on say, which are so many and no more.
+/// Reads the lines of all remaining rows, from row 9 on. There have to be `count` rows.
 pub(crate) fn read_counted_lines(
     alloc: Global,
     rows: &mut Rows<'_>,
@@ -54,7 +54,7 @@ pub(crate) fn read_counted_lines(
     Ok(lines)
 }
 
-/// Puts the line of the row with this number behind the others.
+/// Appends the line of the row with this number.
 fn take_line(lines: &mut Vec<Line>, row: &Row, number: u64) -> Result<(), PlanFault>
     ensures makes { Makes (line_checks (length lines.old.items) number row.now) result }
     ensures taken { OnOk result (lines.new.items ≡ lines.old.items ++ line_of row.now ∷ []) }
@@ -68,7 +68,7 @@ fn take_line(lines: &mut Vec<Line>, row: &Row, number: u64) -> Result<(), PlanFa
     Ok(())
 }
 
-/// The line of the row with this number.
+/// Reads the line of the row with this number.
 fn line_in(row: &Row, number: u64) -> Result<Line, PlanFault>
     ensures makes { Makes (row_is is_line_row number row.now) result }
     ensures line { IfOk result (λ line. line ≡ line_of row.now) }

@@ -14,7 +14,7 @@ use std::alloc::Global;
 use strip_model::Instance;
 use strip_text::{Row, Rows};
 
-/// The numbers of the scenes that the row of the order names, which is due with this number.
+/// Reads the scene numbers of the order, in the required row with this number.
 pub(crate) fn read_order(
     alloc: Global,
     inst: &Instance,

@@ -1,30 +1,30 @@
-// What a plan is.
+// Plans.
 use strip_film::Line;
 use strip_kind::Kind;
 
-/// Whether a plan's bound shows that its order is a cheapest one.
+/// Whether a plan's bound proves that its order is a cheapest one.
 #[derive(Clone, Copy, Debug, PartialEq, Eq)]
 pub enum Status {
     /// The bound equals the cost.
     Optimal,
-    /// The search ended before: some order may cost less, but none less than the bound.
+    /// The search ended before the bound reached the cost: some order may cost less, but none less than the bound.
     Bounded,
 }
 
-/// An order of the scenes of an instance, and what a search tells of it.
+/// An order of an instance's scenes, and the results of a search.
 #[derive(Debug, Drop)]
 pub struct Plan {
     pub status: Status,
-    /// The static bounds that the lines go by.
+    /// The kind of the static bounds that the lines depend on.
     pub kind: Kind,
-    /// What the order pays, in units of money.
+    /// The pay of the order, in units of money.
     pub cost: u64,
-    /// No order pays less, in units of money.
+    /// A lower bound of every order's pay, in units of money.
     pub bound: u64,
-    /// How many lines the search had when it ended.
+    /// Number of lines of the search at its end.
     pub held: u64,
     /// The numbers of the scenes in shooting order.
     pub order: Vec<u16>,
-    /// The lines that prove the bound; none where no proof is given.
+    /// The lines that prove the bound; empty if no proof is given.
     pub lines: Vec<Line>,
 }

@@ -1,4 +1,4 @@
-// A plan text, read.
+// The reader of plan texts.
 ghost use Rattle.std.specs.Prelude.{◌≡◌, ◌∷◌, codes, IfOk};
 ghost use Rattle.std.specs.Str.{bytes_eq};
 ghost use Rattle.strip_text.specs.Rows.{field_of};
@@ -17,9 +17,9 @@ use strip_kind::Kind;
 use strip_model::Instance;
 use strip_text::{Row, Rows};
 
-/// The plan that the text says of the instance, or its first fault. It takes time with the size of
-/// the text, and for each name of the order with the number of scenes, and beside the plan memory for
-/// one row at a time.
+/// Reads a plan of the instance from its text, or finds the text's first fault. It takes time in proportion to the size
+/// of the text, and for each name of the order to the number of scenes. Besides the plan it takes memory for one row at
+/// a time.
 pub fn read_plan(alloc: Global, inst: &Instance, text: &[u8]) -> Result<Plan, PlanFault>
     ensures read { PlanRead inst.now text.now result }
     ensures fits { IfOk result (λ plan. IsReadablePlan inst.now (plan_data plan)) }
@@ -28,7 +28,7 @@ pub fn read_plan(alloc: Global, inst: &Instance, text: &[u8]) -> Result<Plan, Pl
     read_rows(alloc, inst, &mut rows)
 }
 
-/// The plan that all rows of a text say.
+/// Reads the plan from all rows of a text.
 fn read_rows(alloc: Global, inst: &Instance, rows: &mut Rows<'_>) -> Result<Plan, PlanFault>
     ensures makes { Makes (plan_checks inst.now rows.old.left) result }
     ensures plan { IfOk result (λ plan. plan_data plan ≡ plan_of inst.now rows.old.left) }
@@ -42,14 +42,14 @@ fn read_rows(alloc: Global, inst: &Instance, rows: &mut Rows<'_>) -> Result<Plan
     }
 }
 
-/// Whether a text with this first row is of the second format.
+/// Tells whether a text with this first row has the second format.
 fn is_second(row: &Row) -> bool
     ensures { result ≡ bytes_eq (field_of row.now 0) (codes "plan") }
 {
     row.field(0) == b"plan".as_slice()
 }
 
-/// The plan that the row and those behind it say in the first format.
+/// Reads a plan in the first format from this row and those after it.
 fn read_first(
     alloc: Global,
     inst: &Instance,
@@ -66,7 +66,7 @@ fn read_first(
     Ok(Plan { lines, ..head })
 }
 
-/// The plan that the row and those behind it say in the second format.
+/// Reads a plan in the second format from this row and those after it.
 fn read_second(
     alloc: Global,
     inst: &Instance,

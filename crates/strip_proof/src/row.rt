@@ -7,7 +7,7 @@ ghost use Rattle.strip_proof.specs.Faults.{Makes, begins, has_row};
 use crate::fault::PlanFault;
 use strip_text::{Row, Rows};
 
-/// Reads the next row in place of the one that `row` had, and tells whether there was one.
+/// Reads the next row into `row`, and tells whether there was one.
 pub(crate) fn next_row(rows: &mut Rows<'_>, row: &mut Row) -> Result<bool, PlanFault>
     ensures found { IfOk result (λ there. (there ≡ true) → rows.old.left ≡ row.new ∷ rows.new.left) }
     ensures ended { IfOk result (λ there. (there ≡ false) → rows.old.left ≡ []) }
@@ -16,7 +16,7 @@ pub(crate) fn next_row(rows: &mut Rows<'_>, row: &mut Row) -> Result<bool, PlanF
     Ok(rows.read(row)?)
 }
 
-/// Reads the row that is due with this number.
+/// Reads the required row with this number.
 pub(crate) fn read_due(rows: &mut Rows<'_>, row: &mut Row, number: u64) -> Result<(), PlanFault>
     ensures makes { Makes (checks_of_one (has_row rows.old.left) (Missing number)) result }
     ensures found { OnOk result (rows.old.left ≡ row.new ∷ rows.new.left) }
@@ -27,7 +27,7 @@ pub(crate) fn read_due(rows: &mut Rows<'_>, row: &mut Row, number: u64) -> Resul
     Ok(())
 }
 
-/// Whether the row begins with the word and has so many fields.
+/// Tells whether the row begins with the word and has `width` fields.
 pub(crate) fn begins(word: &[u8], width: usize, row: &Row) -> bool
     ensures { result ≡ begins word.now width row.now }
 {

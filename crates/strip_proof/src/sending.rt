@@ -1,4 +1,4 @@
-// The line rows of a plan, written while they are formatted.
+// The line rows of a plan, formatted while they are written.
 ghost use Rattle.std.specs.Prelude.{◌≡◌, ◌↔◌, ◌+◌, ◌≤◌, ◌++◌, [], List, ℕ, length, IsTrue, OnOk, OnErr};
 ghost use Rattle.strip_io.specs.Counts.{Rose};
 ghost use Rattle.strip_io.specs.Sink.{Took, TookFront};
@@ -12,10 +12,10 @@ use strip_film::Line;
 use strip_io::laws::texts_are_taken_in_parts;
 use strip_io::{Failed, Sink, send};
 
-// How many bytes are handed to the sink at once: some hundred rows.
+// Number of bytes handed to the sink at once: some hundred rows.
 const CHUNK: usize = 4096;
 
-/// Rows that are sent together, seen as their bytes.
+/// Rows that are sent together, modelled as their bytes.
 #[derive(Drop)]
 struct Chunk {
     bytes: [u8; CHUNK],
@@ -49,7 +49,7 @@ impl Chunk {
         &self.bytes[..self.len]
     }
 
-    /// Whether there is room for so many bytes more.
+    /// Tells whether there is room for `count` more bytes.
     fn has_room(&self, count: usize) -> bool
         requires { count ≤ CHUNK }
         ensures { IsTrue result ↔ (length self.now + count ≤ CHUNK) }
@@ -72,7 +72,7 @@ impl Chunk {
         self.len = 0;
     }
 
-    /// Adds a row, once what is there was sent where there is no room for it.
+    /// Adds a row. If there is no room for it, the earlier rows are sent first.
     fn add<S: Sink>(&mut self, out: &mut S, row: &[u8]) -> Result<(), Failed>
         requires { length row.now ≤ MAX_ROW }
         ensures ok { OnOk result ((sent : List ℕ) × (sent ++ self.new ≡ self.old ++ row.now)
@@ -91,8 +91,7 @@ impl Chunk {
     }
 }
 
-/// Writes the rows of the lines, each while it is formatted, some hundred at a time. It takes no
-/// memory.
+/// Writes the rows of the lines, formatted while they are written, some hundred at a time. It takes no memory.
 pub fn send_lines<S: Sink>(out: &mut S, lines: &[Line]) -> Result<(), Failed>
     ensures ok { OnOk result (Took (S.state out.old).taken (S.state out.new).taken (lines_text lines.now)) }
     ensures cause { OnErr result (Rose (S.state out.old).faults (S.state out.new).faults) }

@@ -1,4 +1,4 @@
-// What a fault tells.
+// The text fields of a fault.
 ghost use Rattle.std.specs.Prelude.{◌≡◌, option_map};
 ghost use Rattle.strip_text.specs.Told.{told_data};
 ghost use Rattle.strip_proof.specs.Told.{told_of};
@@ -7,8 +7,8 @@ use crate::fault::PlanFault;
 use strip_text::Told;
 
 impl PlanFault {
-    /// The fault's name, and the row that it tells, where it tells one; none for want of memory,
-    /// which is no fault of a text.
+    /// Returns the fault's name, and its row if it has one. It returns none if memory ran out, which is no fault of a
+    /// text.
     pub fn told(&self) -> Option<Told<'static>>
         ensures { option_map told_data result ≡ told_of self.now }
     {

@@ -1,4 +1,4 @@
-// The days of an order, and what an actor does on each.
+// The days of an order, and each actor's code for them.
 ghost use Rattle.std.specs.Prelude.{◌≡◌, ◌+◌, ◌++◌, ◌<◌, ◌≤◌, ◌&&◌, All, length, map, not, nat_lt, replicate, count_by, IfOk, OnOk, ℕ, cond};
 ghost use Rattle.std.specs.List.{range_with_len};
 ghost use Rattle.strip_pay.specs.Order.{IsOrder};
@@ -12,25 +12,25 @@ use strip_io::Memory;
 use strip_mask::Mask;
 use strip_model::Instance;
 
-/// What an actor does on a day.
+/// An actor's activity on a day.
 #[derive(Clone, Copy)]
 pub(crate) enum Code {
-    /// It is before his first day, after his last, or he has none.
+    /// The day is before his first day of work or after his last, or he has none.
     Away,
-    /// His first and last day of work.
+    /// His only day of work.
     Only,
-    /// His first of several.
+    /// The first of several days of work.
     First,
-    /// His last of several.
+    /// The last of several days of work.
     Last,
-    /// A day of work between these.
+    /// A day of work between his first and last.
     Work,
-    /// A day without work between these.
+    /// A day without work between his first and last.
     Hold,
 }
 
 impl Code {
-    /// How the report says it.
+    /// Returns the code's word in the report.
     pub(crate) fn word(self) -> &'static [u8]
         ensures { result.now ≡ code_word self }
     {
@@ -45,7 +45,7 @@ impl Code {
     }
 }
 
-/// For each day of the order, who works on it.
+/// Returns for each day of the order the set of actors who work on it.
 pub fn crews(alloc: Global, inst: &Instance, order: &[u16]) -> Result<Vec<u64>, Memory>
     requires { IsOrder (length inst.now.scenes) order.now }
     ensures crews { IfOk result (λ crews. crews.items ≡ crews_of (film_of inst.now) order.now) }
@@ -69,7 +69,7 @@ fn push_days(crews: &mut Vec<u64>, cast: u64, days: u64) -> Result<(), Memory>
     Ok(())
 }
 
-/// How many days the actor works on.
+/// Returns the number of days on which the actor works.
 pub fn work_days(crews: &[u64], actor: u32) -> u64
     requires few { length crews.now ≤ 19800 }
     requires actor { actor < 64 }
@@ -82,7 +82,7 @@ pub fn work_days(crews: &[u64], actor: u32) -> u64
     work
 }
 
-/// How many days the actor waits on, who works on `work` days.
+/// Returns the number of days on which the actor waits; `work` is the number of days on which he works.
 pub fn hold_days(crews: &[u64], actor: u32, work: u64) -> u64
     requires few { length crews.now ≤ 19800 }
     requires actor { actor < 64 }
@@ -99,7 +99,7 @@ pub fn hold_days(crews: &[u64], actor: u32, work: u64) -> u64
     hold
 }
 
-/// The codes of the actor's days, who works on `work` days.
+/// Returns the codes of the actor's days; `work` is the number of days on which he works.
 pub(crate) fn codes(
     alloc: Global,
     crews: &[u64],
@@ -123,7 +123,7 @@ pub(crate) fn codes(
     Ok(codes)
 }
 
-/// One more where it is counted.
+/// Adds one to the count if the day is counted.
 fn counted(count: u64, is_counted: bool) -> u64
     requires { count < 19800 }
     ensures { result ≡ count + cond {A = ℕ} is_counted 1 0 }
@@ -131,14 +131,14 @@ fn counted(count: u64, is_counted: bool) -> u64
     if is_counted { count + 1 } else { count }
 }
 
-/// Whether a day is one of waiting, before which the actor worked on `done` days of his `work`.
+/// Tells whether the actor waits on a day. He worked on `done` of his `work` days before it.
 fn waits(works: bool, done: u64, work: u64) -> bool
     ensures { result ≡ (not works && (nat_lt 0 done && nat_lt done work)) }
 {
     !works && 0 < done && done < work
 }
 
-/// The code of a day, by whether the actor works on it, worked before and will work later.
+/// Returns the code of a day from whether the actor works on it, worked before and will work later.
 fn code_of(works: bool, begun: bool, comes_back: bool) -> Code
     ensures { code_word result ≡ code works begun comes_back }
 {

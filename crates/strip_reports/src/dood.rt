@@ -1,4 +1,4 @@
-//! The Day Out of Days report: what each actor does on each day of an order, and what he is paid.
+//! The Day Out of Days report: each actor's activity on each day of an order, and his pay.
 ghost use Rattle.std.specs.Prelude.{◌≡◌, ◌+◌, ◌*◌, ◌++◌, ◌<◌, ◌≤◌, [], length, map, replicate, codes, IfOk, OnOk};
 ghost use Rattle.std.specs.List.{range_with_len};
 ghost use Rattle.std.specs.Fmt.{decimal};
@@ -16,9 +16,9 @@ use strip_io::Memory;
 use strip_model::Instance;
 use strip_text::Text;
 
-/// The Day Out of Days report of the order: a row for each actor with what he does on each day, how
-/// many days he works and waits, and what he is paid for them in units of money, and a row of the
-/// sums. It fails only where memory runs out, and takes time and memory with the size of the text.
+/// Returns the Day Out of Days report of the order. It has a row for each actor: his codes, his days of work and of
+/// waiting, and his pay for them in units of money. A row of sums follows. It fails only if memory runs out, and takes
+/// time and memory in proportion to the size of the text.
 pub fn dood(alloc: Global, inst: &Instance, order: &[u16]) -> Result<Vec<u8>, Memory>
     requires order { IsOrder (length inst.now.scenes) order.now }
     ensures text { IfOk result (λ text. text.items ≡ dood_text inst.now order.now) }
@@ -29,7 +29,7 @@ pub fn dood(alloc: Global, inst: &Instance, order: &[u16]) -> Result<Vec<u8>, Me
     text.into_bytes()
 }
 
-/// Writes all rows, behind nothing.
+/// Writes all rows to an empty text.
 fn write_rows(alloc: Global, text: &mut Text, inst: &Instance, crews: &[u64]) -> Result<(), Memory>
     requires few { length crews.now ≤ 19800 }
     requires none { text.old ≡ [] }
@@ -56,7 +56,7 @@ fn write_header(alloc: Global, text: &mut Text, days: usize) -> Result<(), Memor
     text.push(&fields)
 }
 
-/// The numbers of the days in decimal digits.
+/// Returns the numbers of the days in decimal digits.
 fn day_numbers(alloc: Global, days: usize) -> Result<Vec<String>, Memory>
     requires { days ≤ 19800 }
     ensures { IfOk result (λ numbers. map (λ number. string_bytes number) numbers.items
@@ -128,7 +128,7 @@ fn empty_days(alloc: Global, count: usize) -> Result<Vec<Code>, Memory>
     Ok(days)
 }
 
-/// Writes a row of these first two fields, these of the days, and the sums.
+/// Writes a row of two fields, the days' codes, and the sums.
 fn write_row(
     alloc: Global,
     text: &mut Text,

@@ -1,4 +1,4 @@
-// What the sheet says of a scene of the order.
+// A scene's figures in the cost sheet.
 ghost use Rattle.std.specs.Prelude.{◌≡◌, ℕ, ◌*◌, ◌<◌, ◌≤◌, length, All, slice_index};
 ghost use Rattle.strip_mask.specs.Set.{LiesBelow, has};
 ghost use Rattle.strip_mask.specs.Sums.{sum_below};
@@ -10,24 +10,24 @@ ghost use Rattle.strip_reports.specs.Sheet.{figures_at};
 use strip_mask::Mask;
 use strip_model::Instance;
 
-/// What the sheet says of a scene of the order.
+/// The figures of a scene in the cost sheet.
 #[derive(Clone, Copy)]
 pub struct Figures {
-    /// Its first day, counted from 1 through the order.
+    /// Its first day, counted from 1 over the whole order.
     pub first: u64,
-    /// Its last day, counted likewise.
+    /// Its last day, counted from 1 over the whole order.
     pub last: u64,
     pub days: u64,
-    /// How many actors work in it.
+    /// Number of actors who work in it.
     pub working: u64,
-    /// How many are held during it.
+    /// Number of actors who are held during it.
     pub holding: u64,
-    /// What all of them get for its days, in units of money.
+    /// The pay of all actors for its days, in units of money.
     pub pay: u64,
 }
 
-/// What the sheet says of the scene at this place of the order. One turn for each scene of it and
-/// for each actor.
+/// Returns the figures of the scene at this place of the order. It takes a turn for each scene of the order and for
+/// each actor.
 pub fn figures_at(inst: &Instance, order: &[u16], place: usize) -> Figures
     requires order { All (λ scene. scene < length inst.now.scenes) order.now }
     requires short { length order.now ≤ 200 }
@@ -50,7 +50,7 @@ pub fn figures_at(inst: &Instance, order: &[u16], place: usize) -> Figures
     }
 }
 
-/// The days of these scenes. One turn for each of them.
+/// Returns the number of days of these scenes. It takes a turn for each.
 pub fn days_of(inst: &Instance, scenes: &[u16]) -> u64
     requires scenes { All (λ scene. scene < length inst.now.scenes) scenes.now }
     requires short { length scenes.now ≤ 200 }
@@ -72,7 +72,7 @@ fn days_in(inst: &Instance, scene: u16) -> u64
     inst.scenes()[scene as usize].days
 }
 
-/// Who works in the scene, as a set of actor numbers.
+/// Returns the actors who work in the scene, as a set of actor numbers.
 pub fn cast_of(inst: &Instance, scene: u16) -> Mask
     requires { scene < length inst.now.scenes }
     ensures cast { (actor : ℕ) → has result.0 actor ≡ works (film_of inst.now) actor scene }
@@ -81,7 +81,7 @@ pub fn cast_of(inst: &Instance, scene: u16) -> Mask
     Mask(inst.scenes()[scene as usize].cast)
 }
 
-/// Who works in one of the scenes at least. One turn for each of them.
+/// Returns the actors who work in at least one of the scenes. It takes a turn for each scene.
 fn cast_among(inst: &Instance, scenes: &[u16]) -> Mask
     requires { All (λ scene. scene < length inst.now.scenes) scenes.now }
     ensures cast { (actor : ℕ) → has result.0 actor ≡ works_among (film_of inst.now) scenes.now actor }
@@ -94,8 +94,8 @@ fn cast_among(inst: &Instance, scenes: &[u16]) -> Mask
     cast
 }
 
-/// Who is held at this place of the order: he works in a scene before it and in one behind it, and
-/// not in the scene there.
+/// Returns the actors who are held at this place of the order: they work in a scene before it and in one after it, but
+/// not in this scene.
 pub fn held_at(inst: &Instance, order: &[u16], place: usize) -> Mask
     requires order { All (λ scene. scene < length inst.now.scenes) order.now }
     requires place { place < length order.now }
@@ -107,7 +107,8 @@ pub fn held_at(inst: &Instance, order: &[u16], place: usize) -> Mask
     called.meet(needed).minus(cast_of(inst, order[place]))
 }
 
-/// What all actors get for a day on which these work and these are held. One turn for each actor.
+/// Returns the pay of all actors for a day on which these work and these are held, in units of money. It takes a turn
+/// for each actor.
 fn pay_of_day(inst: &Instance, working: Mask, held: Mask) -> u64
     ensures pay { result ≡ sum_below (length inst.now.actors)
         (λ actor. rate_by (film_of inst.now) (has working.0 actor) (has held.0 actor) actor) }
@@ -120,7 +121,7 @@ fn pay_of_day(inst: &Instance, working: Mask, held: Mask) -> u64
     pay
 }
 
-/// What the actor gets for such a day.
+/// Returns the actor's pay for such a day, in units of money.
 fn rate_of(inst: &Instance, working: Mask, held: Mask, actor: usize) -> u64
     requires { actor < length inst.now.actors }
     ensures rate { result ≡ rate_by (film_of inst.now) (has working.0 actor) (has held.0 actor) actor }

@@ -1,4 +1,4 @@
-//! Laws of the definitions. Each function does nothing: its contract is the law.
+//! Laws of the definitions: functions that do nothing when they run, each with a theorem as its contract.
 ghost use Rattle.std.specs.Prelude.{◌≡◌, ℕ, List, [], ◌∷◌, ◌++◌, length};
 ghost use Rattle.std.specs.Fmt.{decimal};
 ghost use Rattle.strip_pay.specs.Film.{FilmData};
@@ -12,8 +12,7 @@ ghost use Rattle.strip_reports.specs.Sheet.{total_pay};
 ghost use Rattle.strip_reports.specs.Sums.{total_of};
 ghost use Rattle.strip_reports.specs.Text.{dood_rows};
 
-/// The sums of the Day Out of Days report have the pay of the order, and the last field of its last row
-/// says it.
+/// The total pay in the Day Out of Days report is the pay of the order. It is the last field of the report's last row.
 pub fn the_total_of_days_is_the_pay()
     ensures sums { (inst : InstanceData) (order : List ℕ) → IsInstance inst → IsOrder (length inst.scenes) order
         → (total_of (film_of inst) (crews_of (film_of inst) order)).pay ≡ pay_of (film_of inst) order }
@@ -22,8 +21,8 @@ pub fn the_total_of_days_is_the_pay()
         × (dood_rows inst order ≡ rows ++ (fields ++ decimal (pay_of (film_of inst) order) ∷ []) ∷ []) }
 {}
 
-/// What the last row of a sheet says is what the order pays: the sum over its scenes of what all actors
-/// get is the sum over the actors of what each gets from his first scene to his last.
+/// The total pay in the cost sheet is the pay of the order. The sum over scenes of all actors' pay equals the sum over
+/// actors of their pay from first to last scene.
 pub fn the_total_of_the_sheet_is_the_pay()
     ensures { (film : FilmData) (order : List ℕ) → total_pay film order ≡ pay_of film order }
 {}

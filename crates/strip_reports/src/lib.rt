@@ -1,4 +1,5 @@
-//! Reports of an order: the Day Out of Days of each actor, and the cost sheet of its scenes.
+//! Reports of an order as CSV texts: the Day Out of Days report of its actors, and the cost sheet of its scenes. A law
+//! is a function that does nothing when it runs: its contract is a theorem that a caller obtains by calling it.
 #![tactic(auto)]
 
 mod days;

@@ -1,4 +1,4 @@
-//! Cost sheets: what each scene of an order is paid, on which days, and for whom.
+//! Cost sheets: the days of each scene of an order, its actors, and their pay.
 ghost use Rattle.std.specs.Prelude.{◌≡◌, ◌++◌, ◌<◌, [], length, IfOk, OnOk};
 ghost use Rattle.strip_model.specs.Data.{scene_name};
 ghost use Rattle.strip_pay.specs.Order.{IsOrder};
@@ -11,10 +11,9 @@ use strip_io::Memory;
 use strip_model::Instance;
 use strip_text::Text;
 
-/// The cost sheet of the instance, shot in this order: a header, a row for each scene with its days,
-/// how many actors work and are held, and what they get for it, in units of money, and a row of
-/// totals. It fails only where memory runs out, and takes time with the number of scenes times that
-/// of scenes and actors.
+/// Returns the cost sheet of the instance in this order. It has a header, and a row for each scene: its days, how many
+/// actors work and are held, and their pay for it in units of money. A row of totals follows. It fails only if memory
+/// runs out, and takes time in proportion to scenes times the number of scenes and actors.
 pub fn sheet(alloc: Global, inst: &Instance, order: &[u16]) -> Result<Vec<u8>, Memory>
     requires order { IsOrder (length inst.now.scenes) order.now }
     ensures text { IfOk result (λ text. text.items ≡ sheet_text inst.now order.now) }
@@ -55,7 +54,7 @@ fn push_header(text: &mut Text) -> Result<(), Memory>
     ])
 }
 
-/// The row of a scene.
+/// Appends the row of a scene.
 fn push_scene(
     alloc: Global,
     text: &mut Text,
@@ -77,7 +76,7 @@ fn push_scene(
     ])
 }
 
-/// The row of totals.
+/// Appends the row of totals.
 fn push_total(alloc: Global, text: &mut Text, days: u64, pay: u64) -> Result<(), Memory>
     ensures { OnOk result (text.new ≡ text.old ++ csv_row (total_row days pay)) }
 {

@@ -1,4 +1,4 @@
-// What the days of an actor, or of all, come to.
+// Sums over the days of one actor, or of all.
 ghost use Rattle.std.specs.Prelude.{◌≡◌, ◌*◌, ◌+◌, ◌≤◌, ◌<◌, length};
 ghost use Rattle.strip_model.specs.Film.{film_of};
 ghost use Rattle.strip_reports.specs.Sums.{sums_of, total_of};
@@ -6,7 +6,7 @@ ghost use Rattle.strip_reports.specs.Sums.{sums_of, total_of};
 use crate::days::{hold_days, work_days};
 use strip_model::Instance;
 
-/// How many days are worked and waited on, and the pay for them, in units of money.
+/// Number of days of work and of waiting, and the pay for them, in units of money.
 #[derive(Clone, Copy)]
 pub(crate) struct Sums {
     pub(crate) work: u64,
@@ -14,7 +14,7 @@ pub(crate) struct Sums {
     pub(crate) pay: u64,
 }
 
-/// What the actor's days come to.
+/// Returns the sums over the actor's days.
 pub(crate) fn sums_of(inst: &Instance, crews: &[u64], actor: usize) -> Sums
     requires few { length crews.now ≤ 19800 }
     requires actor { actor < length inst.now.actors }
@@ -33,7 +33,7 @@ pub(crate) fn sums_of(inst: &Instance, crews: &[u64], actor: usize) -> Sums
     }
 }
 
-/// What the days of all actors come to.
+/// Returns the sums over the days of all actors.
 pub(crate) fn total_of(inst: &Instance, crews: &[u64]) -> Sums
     requires few { length crews.now ≤ 19800 }
     ensures sums { result ≡ total_of (film_of inst.now) crews.now }

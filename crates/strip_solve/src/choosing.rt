@@ -1,4 +1,4 @@
-// A plan by bounds that the program chooses: pairs where few lines do, and else arrivals in steps.
+// The option `--auto`: a search with pair bounds and few lines, then if needed a search by layers with arrival bounds.
 ghost use Rattle.std.specs.Prelude.{◌≡◌, ◌≤◌, IfOk, min};
 ghost use Rattle.strip_kind.specs.declared.kind.Kind.TheVariants.{Arrivals as ByArrivals, Pairs as ByPairs};
 ghost use Rattle.strip_pay.specs.Film.{FilmData};
@@ -32,17 +32,18 @@ use strip_reduce::Reduced;
 use strip_start::{greedy, improve, or_listed, path_of, vary_beside};
 use strip_worker::{Ended, Gate};
 
-/// How many lines the search with pairs has at most. They take a tenth of a second.
+/// The greatest number of lines of the search with pair bounds. They take a tenth of a second.
 const FIRST_LINES: u32 = 50_000;
 
-/// How often the order that it begins with is varied for each class, where nothing is said of it.
+/// Number of local-search moves for each class on the initial order, if the options give none.
 const TRIES_A_CLASS: u32 = 40_000;
 
-/// In how many steps the search with arrivals raises the bound.
+/// Number of steps in which the search with arrival bounds raises the bound.
 const STEPS: u32 = 16;
 
-/// A plan of any film that the classes stand for, by one worker: that of a search with pairs if it ends, and else of a
-/// search by layers with arrivals, which begins with the best order of the first.
+/// Makes a plan of any film that the classes stand for, with one worker. It is the plan of a search with pair bounds,
+/// if that ends. Otherwise it is the plan of a search by layers with arrival bounds, from the best order of the first
+/// search.
 pub(crate) fn choose_alone<G: Gate>(
     alloc: Global,
     reduced: &Reduced,
@@ -72,8 +73,8 @@ pub(crate) fn choose_alone<G: Gate>(
     plan_of(alloc, reduced, &start, second, own, searched)
 }
 
-/// The same by several workers, who vary the order that the first search begins with, and answer the bounds of the second.
-/// One worker makes the first search, so that its best order is always the same.
+/// Makes such a plan with several workers, who share the local search before the first search, and answer the bounds of
+/// the second. One worker makes the first search, so that its best order is always the same.
 pub(crate) fn choose_beside<R: Threads + Wait + Sync, G: Gate>(
     rt: &R,
     alloc: Global,
@@ -115,7 +116,7 @@ pub(crate) fn choose_beside<R: Threads + Wait + Sync, G: Gate>(
     plan_of(alloc, reduced, &start, second, own, searched)
 }
 
-/// What the first search goes by.
+/// Returns the options of the first search.
 fn with_pairs(film: &Film, options: SearchOptions) -> SearchOptions
     requires { MayBe options }
     ensures may_be { MayBe result }
@@ -136,7 +137,7 @@ fn with_pairs(film: &Film, options: SearchOptions) -> SearchOptions
     }
 }
 
-/// What the second search goes by. Its path was varied for the first one.
+/// Returns the options of the second search. It makes no local-search moves, since the first search made them.
 fn with_arrivals(options: SearchOptions) -> SearchOptions
     requires { MayBe options }
     ensures may_be { MayBe result }
@@ -151,7 +152,7 @@ fn with_arrivals(options: SearchOptions) -> SearchOptions
     }
 }
 
-/// The end of a search by one worker that begins with what varying this path by several gives.
+/// Runs a search by one worker, after a local search from this path by several.
 fn search_varied<R: Threads + Sync, G: Gate>(
     rt: &R,
     alloc: Global,
@@ -183,7 +184,7 @@ fn search_varied<R: Threads + Sync, G: Gate>(
     })
 }
 
-/// The end of a search by one worker that begins with the best order of another one.
+/// Runs a search by one worker, from the best order of an earlier search.
 fn go_on_alone<G: Gate>(
     alloc: Global,
     film: &Film,
@@ -201,7 +202,7 @@ fn go_on_alone<G: Gate>(
     search(alloc, film, &begun, options, own, gate)
 }
 
-/// The same by several workers.
+/// Runs a search by several workers, from the best order of an earlier search.
 fn go_on_beside<R: Threads + Wait + Sync, G: Gate>(
     rt: &R,
     alloc: Global,

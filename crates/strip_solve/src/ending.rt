@@ -1,4 +1,4 @@
-// How the search of a film ends that begins with a path.
+// The search of a film from a given path, with trimming.
 ghost use denote.Param.Send.{IsSync};
 ghost use Rattle.std.specs.Prelude.{◌≡◌, ℕ, ◌<◌, ◌≤◌, All, IfOk};
 ghost use Rattle.strip_film.specs.Film.{LiesIn};
@@ -31,16 +31,15 @@ use strip_memo::Memo;
 use strip_trim::trim;
 use strip_worker::{Ended, Gate, alone_through};
 
-/// The end of a search, and where its bound is its cost or that of the order of the rows, those of its lines that the bound
-/// needs.
+/// The result of a search. It has the lines that its bound needs, if this bound is the lesser of its cost and the cost
+/// of the rows' order.
 #[derive(Debug, Drop)]
 pub(crate) struct Closed {
     pub ended: Ended,
     pub trimmed: Option<Vec<Line>>,
 }
 
-/// The end of the search that begins with this path, by one worker: by layers if the options have steps, and else path
-/// by path.
+/// Runs the search from this path with one worker: by layers if the options have steps, otherwise depth-first.
 pub(crate) fn end_alone<F: Fn(u64, u64) -> u64, G: Gate>(
     alloc: Global,
     kept: &StoredBound<F>,
@@ -60,7 +59,7 @@ pub(crate) fn end_alone<F: Fn(u64, u64) -> u64, G: Gate>(
     }
 }
 
-/// The end of the search path by path, by one worker.
+/// Runs the depth-first search with one worker.
 fn walk_alone<F: Fn(u64, u64) -> u64, G: Gate>(
     alloc: Global,
     kept: &StoredBound<F>,
@@ -88,7 +87,7 @@ fn walk_alone<F: Fn(u64, u64) -> u64, G: Gate>(
     Ok(Closed { ended, trimmed })
 }
 
-/// The end of the search by layers, in so many steps and with at most so many lines, by one worker.
+/// Runs the search by layers with one worker, in `steps` steps and with at most `most` lines.
 fn layers_alone<F: Fn(u64, u64) -> u64, G: Gate>(
     alloc: Global,
     kept: &StoredBound<F>,
@@ -107,7 +106,8 @@ fn layers_alone<F: Fn(u64, u64) -> u64, G: Gate>(
     close_layers(alloc, kept, begun, most, own, layered)
 }
 
-/// The same by several workers, who answer the sets of each layer at once. The end is the same for any number of them.
+/// Runs the search by layers with several workers, who answer the requests of each layer in parallel. The result
+/// doesn't depend on their number.
 pub(crate) fn layers_beside<R: Threads + Sync, F: Fn(u64, u64) -> u64 + Sync, G: Gate>(
     rt: &R,
     alloc: Global,
@@ -135,7 +135,8 @@ pub(crate) fn layers_beside<R: Threads + Sync, F: Fn(u64, u64) -> u64 + Sync, G:
     close_layers(alloc, kept, begun, most, own, layered)
 }
 
-/// The end of a search by layers that began with this path. Its lines are trimmed by what it found of static bounds.
+/// Makes the trimmed result of a search by layers from this path. Trimming uses the static bounds that the search
+/// found.
 fn close_layers<F: Fn(u64, u64) -> u64>(
     alloc: Global,
     kept: &StoredBound<F>,
@@ -168,7 +169,7 @@ fn close_layers<F: Fn(u64, u64) -> u64>(
     Ok(Closed { ended, trimmed })
 }
 
-/// The end of a search that has these lines, this bound, and this path as the cheapest.
+/// Makes the result of a search with these lines, this bound, and this cheapest path.
 fn ended_of<F: Fn(u64, u64) -> u64>(
     alloc: Global,
     kept: &StoredBound<F>,
@@ -200,7 +201,8 @@ fn ended_of<F: Fn(u64, u64) -> u64>(
     })
 }
 
-/// The lines that the bound needs, where it is the cost or what the order of the rows costs.
+/// Returns the lines that the bound needs, if the bound is the lesser of the cost and `own`, the cost of the rows'
+/// order.
 pub(crate) fn trimmed<F: Fn(u64, u64) -> u64>(
     alloc: Global,
     kept: &StoredBound<F>,

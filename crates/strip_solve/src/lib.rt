@@ -1,4 +1,6 @@
-//! The search of a whole instance: its classes, a start, the search, and the way back.
+//! The solver for a whole instance. It reduces the scenes to classes (groups of scenes with equal casts), and finds an
+//! initial order by a construction heuristic and local search. Then it searches, trims the lines, and expands the best
+//! order to scenes.
 #![tactic(auto)]
 
 mod choosing;

@@ -8,14 +8,14 @@ use std::alloc::Global;
 use strip_io::Memory;
 use strip_model::{Instance, keeps_pairs, pay};
 
-/// The order that an instance's scenes have in its file, and what it costs, in units of money.
+/// The order of an instance's scenes in its file, and its cost in units of money.
 #[derive(Debug, Drop)]
 pub(crate) struct Own {
     pub order: Vec<u16>,
     pub cost: u64,
 }
 
-/// The order of the instance's rows; none if it breaks a pair.
+/// Returns the order of the instance's rows, or none if it breaks a pair.
 pub(crate) fn own_order(alloc: Global, inst: &Instance) -> Result<Option<Own>, Memory>
     ensures { IfOk result (IsOwn (film_of inst.now)) }
 {
@@ -28,7 +28,7 @@ pub(crate) fn own_order(alloc: Global, inst: &Instance) -> Result<Option<Own>, M
     Ok(Some(Own { order, cost }))
 }
 
-/// The numbers below this one.
+/// Returns the numbers below `count`.
 pub(crate) fn numbers(alloc: Global, count: u16) -> Result<Vec<u16>, Memory>
     ensures { IfOk result (λ numbers. numbers.items ≡ numbers_below count) }
 {
@@ -39,8 +39,8 @@ pub(crate) fn numbers(alloc: Global, count: u16) -> Result<Vec<u16>, Memory>
     Ok(numbers)
 }
 
-/// What the order of the rows costs the classes, where so much is set apart, in units of money; more than any order costs if
-/// there is none.
+/// Returns the cost of the rows' order without the cost `apart` set apart, in units of money. Without an order it is
+/// the greatest number, more than any order costs.
 pub(crate) fn own_cost(own: &Option<Own>, apart: u64) -> u64
     ensures { result ≡ own_cost own.now apart }
 {

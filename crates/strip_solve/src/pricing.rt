@@ -1,4 +1,4 @@
-// The plan of the order that an instance's rows have, without a search.
+// The plan of the rows' order, without a search.
 ghost use Rattle.std.specs.Prelude.{◌≡◌, ◌+◌, ◌<◌, ◌≤◌, ℕ, Err, IfOk, OnOk};
 ghost use Rattle.strip_kind.specs.declared.kind.Kind.TheVariants.{Pairs};
 ghost use Rattle.strip_film.specs.Film.{all_scenes};
@@ -20,9 +20,9 @@ use strip_model::{Instance, pay};
 use strip_proof::{Plan, Status};
 use strip_reduce::{ReduceFault, Reduced, reduce};
 
-/// A plan of the order that the instance's rows have, whether it keeps the pairs or not: what it costs, as bound the
-/// static bound with pairs of all classes with what is set apart, and no lines. `TooManyClasses` if more than 64 classes are
-/// left.
+/// Makes a plan of the order of the instance's rows, even if it breaks pairs. It has this order's cost and no lines.
+/// Its bound is the static bound with pairs of all classes, plus the cost set apart. It fails with `TooManyClasses` if
+/// more than 64 classes are left.
 pub fn price(alloc: Global, inst: &Instance) -> Result<Plan, ReduceFault>
     ensures priced { IfOk result (λ plan. plan_data plan ≡ priced_plan (film_of inst.now)) }
     ensures few { OnOk result (class_count (film_of inst.now) ≤ 64) }
@@ -37,7 +37,7 @@ pub fn price(alloc: Global, inst: &Instance) -> Result<Plan, ReduceFault>
     }
 }
 
-/// The same, where these are the instance's classes.
+/// Makes the plan from the instance's classes.
 fn price_classes(alloc: Global, inst: &Instance, reduced: &Reduced) -> Result<Plan, Memory>
     requires { reduced_data reduced.now ≡ reduction (film_of inst.now) }
     ensures { IfOk result (λ plan. plan_data plan ≡ priced_plan (film_of inst.now)) }
@@ -57,7 +57,7 @@ fn price_classes(alloc: Global, inst: &Instance, reduced: &Reduced) -> Result<Pl
     })
 }
 
-/// The static bound with pairs of all classes, with what is set apart, in units of money.
+/// Returns the static bound with pairs of all classes plus the cost set apart, in units of money.
 fn whole_bound(alloc: Global, reduced: &Reduced) -> Result<u64, Memory>
     ensures { IfOk result (λ least. least ≡ bound Pairs reduced.now.film (all_scenes reduced.now.film) + reduced.now.apart) }
 {
@@ -68,7 +68,7 @@ fn whole_bound(alloc: Global, reduced: &Reduced) -> Result<u64, Memory>
     Ok(pairs(film, &tables, film.all()) + reduced.apart)
 }
 
-/// A plan is optimal if its bound is its cost.
+/// Returns `Optimal` if the bound is the cost, otherwise `Bounded`.
 fn status_by(bound: u64, cost: u64) -> Status
     ensures { result ≡ priced_status bound cost }
 {

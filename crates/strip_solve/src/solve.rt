@@ -1,4 +1,4 @@
-// A plan of an instance, by one worker or by several.
+// A plan of an instance, with one worker or several.
 ghost use Rattle.std.specs.Prelude.{◌≡◌, ◌+◌, ◌≤◌, ◌⊎◌, [], IfOk};
 ghost use Rattle.strip_pay.specs.Film.{FilmData};
 ghost use Rattle.strip_pay.specs.Order.{IsKeptOrder};
@@ -44,32 +44,31 @@ use strip_store::{Bounded, Store};
 use strip_worker::{Ended, Gate, OpenGate};
 use strip_world::Limits;
 
-/// How often the order that a search begins with is varied for each class, where nothing is said of it.
+/// Number of local-search moves for each class on the initial order, if the options give none.
 const TRIES_A_CLASS: u32 = 5_000;
 
-/// What a search goes by.
+/// The options of a search.
 #[derive(Clone, Copy, Debug)]
 pub struct SearchOptions {
     /// The kind of the static bounds.
     pub kind: Kind,
-    /// How many lines there may be, 1 to 16,777,216.
+    /// The greatest number of lines (proved lower bounds), 1 to 16,777,216.
     pub nodes: u32,
-    /// How many entries the table has, 64 to 4,194,304.
+    /// Number of entries of the transposition table, 64 to 4,194,304.
     pub entries: u32,
-    /// How often the order that the search begins with is varied before, 5,000 times for each class where
-    /// nothing is said.
+    /// Number of local-search moves on the initial order. If none is given, it is 5,000 for each class.
     pub tries: Option<u32>,
-    /// In how many steps the bound of all scenes is raised by a search by layers; none if the search goes path by path.
+    /// Number of steps in which a search by layers raises the bound of all scenes; none for a depth-first search.
     pub steps: Option<u32>,
-    /// Whether each of several workers has a queue of tasks and takes from the others' where his own is empty.
+    /// Whether each of several workers has a queue of tasks, and steals from the others when his own is empty.
     pub steal: bool,
-    /// Whether the program chooses kind and steps itself: a search with pairs and few lines first, and unless that ends one
-    /// by layers with arrivals. What is said of these, and of stealing, then doesn't count.
+    /// Whether the program chooses kind and steps: first a search with pair bounds and few lines, then if needed a
+    /// search by layers with arrival bounds. It ignores the options `kind`, `steps` and `steal`.
     pub auto: bool,
 }
 
-/// A plan of the instance, found by one worker. `TooManyClasses` where more than 64 classes are left. It
-/// takes room for the lines and entries before it searches.
+/// Finds a plan of the instance, with one worker. It fails with `TooManyClasses` if more than 64 classes are left. It
+/// takes memory for the lines and entries before it searches.
 pub fn solve_alone(
     alloc: Global,
     inst: &Instance,
@@ -81,7 +80,7 @@ pub fn solve_alone(
     solve_through(alloc, inst, options, &OpenGate)
 }
 
-/// Solves as `solve_alone` does, where the gate is told how the worker gets on.
+/// Finds a plan as `solve_alone` does, and reports progress to the gate.
 pub fn solve_through<G: Gate>(
     alloc: Global,
     inst: &Instance,
@@ -101,8 +100,7 @@ pub fn solve_through<G: Gate>(
     }
 }
 
-/// Solves as `solve_alone` does, by so many workers beside one another, 2 to 64. The gate is told how they
-/// get on.
+/// Finds a plan as `solve_alone` does, with `workers` workers in parallel, 2 to 64, and reports progress to the gate.
 pub fn solve_beside<R: Threads + Wait + Sync, G: Gate>(
     rt: &R,
     alloc: Global,
@@ -125,7 +123,7 @@ pub fn solve_beside<R: Threads + Wait + Sync, G: Gate>(
     }
 }
 
-/// A plan of the instance, which these classes stand for, by one worker.
+/// Finds a plan of the instance from its classes, with one worker.
 fn solve_classes<G: Gate>(
     alloc: Global,
     inst: &Instance,
@@ -145,7 +143,7 @@ fn solve_classes<G: Gate>(
     }
 }
 
-/// The same by several workers.
+/// Finds a plan of the instance from its classes, with several workers.
 fn solve_classes_beside<R: Threads + Wait + Sync, G: Gate>(
     rt: &R,
     alloc: Global,
@@ -168,7 +166,8 @@ fn solve_classes_beside<R: Threads + Wait + Sync, G: Gate>(
     }
 }
 
-/// A plan of any film that the classes stand for, by the bounds and steps that the options say and one worker.
+/// Finds a plan of any film that the classes stand for, with one worker and the kind of bounds and steps in the
+/// options.
 fn plan_alone<G: Gate>(
     alloc: Global,
     reduced: &Reduced,
@@ -192,7 +191,7 @@ fn plan_alone<G: Gate>(
     plan_of(alloc, reduced, &start, options, own, searched)
 }
 
-/// The same by several workers.
+/// Finds such a plan with several workers.
 fn plan_beside<R: Threads + Wait + Sync, G: Gate>(
     rt: &R,
     alloc: Global,
@@ -219,8 +218,8 @@ fn plan_beside<R: Threads + Wait + Sync, G: Gate>(
     plan_of(alloc, reduced, &start, options, own, searched)
 }
 
-/// A search: the path that it began with, its end, and where its bound is its cost, those of its lines that the
-/// bound needs.
+/// A finished search: its initial path and its result. It has the lines that the bound needs, if this is the lesser of
+/// the cost and the cost of the rows' order.
 #[derive(Debug, Drop)]
 pub(crate) struct Searched {
     pub begun: Path,
@@ -228,8 +227,8 @@ pub(crate) struct Searched {
     pub trimmed: Option<Vec<Line>>,
 }
 
-/// The end of the search of a film that begins with what varying this path gives, or with the scenes as they are numbered if
-/// that is cheaper, by one worker.
+/// Searches a film with one worker, after a local search from this path. It begins with the order of the scenes'
+/// numbers if that is cheaper.
 pub(crate) fn search<G: Gate>(
     alloc: Global,
     film: &Film,
@@ -257,7 +256,7 @@ pub(crate) fn search<G: Gate>(
     })
 }
 
-/// The end of such a search by several workers, who share what they work out of the static bounds.
+/// Searches a film likewise with several workers. A depth-first search shares a store of static bounds.
 pub(crate) fn search_beside<R: Threads + Wait + Sync, G: Gate>(
     rt: &R,
     alloc: Global,
@@ -285,7 +284,7 @@ pub(crate) fn search_beside<R: Threads + Wait + Sync, G: Gate>(
     }
 }
 
-/// The same by layers, in so many steps. Workers then share nothing but answers, so that no store is made.
+/// Searches by layers, in `steps` steps. The workers share only answers to requests, so no store is made.
 fn search_layers<R: Threads + Wait + Sync, F: Fn(u64, u64) -> u64 + Sync, G: Gate>(
     rt: &R,
     alloc: Global,
@@ -325,7 +324,8 @@ fn search_layers<R: Threads + Wait + Sync, F: Fn(u64, u64) -> u64 + Sync, G: Gat
     })
 }
 
-/// The same by a bound that is at hand, where the locks of the store know whose bounds they guard.
+/// Searches depth-first with a store of static bounds. A type brand ties the store's locks to the bound whose values
+/// they guard.
 fn search_stored<
     N: Bounded + Send + Sync,
     R: Threads + Wait + Sync,
@@ -384,8 +384,8 @@ fn search_stored<
     })
 }
 
-/// How often the path is to be varied: as often as asked for, 5,000 times for each class if nothing is said, and never
-/// if the static bound of all scenes says that no path is cheaper.
+/// Returns the number of local-search moves: as many as asked for, or 5,000 for each class if none are. It is 0 if the
+/// static bound of all scenes proves that no path is cheaper.
 pub(crate) fn useful_tries<F: Fn(u64, u64) -> u64>(
     kept: &StoredBound<F>,
     start: &Path,
@@ -401,7 +401,7 @@ pub(crate) fn useful_tries<F: Fn(u64, u64) -> u64>(
     asked.unwrap_or(TRIES_A_CLASS * film.scenes() as u32)
 }
 
-/// The plan of the instance that the end of its classes' search stands for, or that of the rows' order if this is cheaper.
+/// Makes the instance's plan from the search of its classes, or from the rows' order if this is cheaper.
 pub(crate) fn plan_of(
     alloc: Global,
     reduced: &Reduced,
@@ -448,8 +448,8 @@ pub(crate) fn plan_of(
     })
 }
 
-/// The cheaper of an order of the classes, which costs so much with what is set apart, and that of the rows, and its cost in
-/// units of money. If they cost the same it is the first.
+/// Returns the cheaper of two orders and its cost in units of money: an order of the classes, which costs `cost` with
+/// the cost set apart, or that of the rows. If they cost the same, it is the first.
 fn cheaper(
     alloc: Global,
     reduced: &Reduced,
@@ -470,7 +470,7 @@ fn cheaper(
     }
 }
 
-/// The lines that prove the bound, of those that were found: where they were trimmed the bound is the cost.
+/// Returns the status and the lines that prove the bound: if the lines were trimmed, the bound is the plan's cost.
 fn proof_of(trimmed: Option<Vec<Line>>, found: Vec<Line>) -> (Status, Vec<Line>)
     ensures { IsProofOf trimmed found.items result.0 result.1.items }
 {
@@ -480,7 +480,7 @@ fn proof_of(trimmed: Option<Vec<Line>>, found: Vec<Line>) -> (Status, Vec<Line>)
     }
 }
 
-/// The order, of it and its reverse always the same one, where no pair stands against it.
+/// Returns one fixed choice of the order and its reverse, if there are no pairs, otherwise the order itself.
 fn oriented(film: &Film, order: Vec<u8>) -> Vec<u8>
     requires { IsKeptOrder film.now order.items }
     ensures kept { IsKeptOrder film.now result.items }

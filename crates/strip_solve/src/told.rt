@@ -1,16 +1,16 @@
-// What is told of the search of an instance's classes.
+// Progress reports of the search of an instance's classes.
 use strip_kind::Kind;
 use strip_layers::{Reached, Watch};
 use strip_worker::{Ended, Gate, Limit, Stage, Standing};
 
-/// The gate of a search of classes. It tells costs and bounds with what was set apart, in units of money.
+/// The gate of a search of classes. It reports costs and bounds with the cost set apart, in units of money.
 #[derive(Drop)]
 pub(crate) struct Told<'g, G: Gate> {
     pub gate: &'g G,
     pub apart: u64,
 }
 
-/// The standing of the instance's search, by that of the classes', where so much is set apart.
+/// Adds the cost set apart to the state of the classes' search.
 fn with_apart(standing: &Standing, apart: u64) -> Standing {
     Standing {
         cost: standing.cost.saturating_add(apart),
@@ -24,7 +24,7 @@ fn with_apart(standing: &Standing, apart: u64) -> Standing {
 }
 
 impl<'g, G: Gate> Told<'g, G> {
-    /// Tells that a search with static bounds of this kind, and at most so many lines, has ended so.
+    /// Reports the end of a search, with the kind of its static bounds and the greatest number of its lines.
     pub(crate) fn end(&self, kind: Kind, ended: &Ended, most: u32) {
         let standing = Standing {
             cost: ended.cost,

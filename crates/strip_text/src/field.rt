@@ -2,7 +2,7 @@
 ghost use Rattle.std.specs.Prelude.{◌≡◌, reverse};
 ghost use Rattle.strip_text.specs.Field.{is_blank, trimmed, without_front_blanks};
 
-/// The field without the spaces and tabs at its ends.
+/// Returns the field without the spaces and tabs at its ends.
 pub(crate) fn trimmed(field: &[u8]) -> &[u8]
     ensures { result.now ≡ trimmed field.now }
 {

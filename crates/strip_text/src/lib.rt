@@ -1,4 +1,5 @@
-//! Texts of rows: CSV read and written a row at a time, numbers, and what a fault tells.
+//! Texts of rows: CSV read and written a row at a time, decimal numbers, ordered checks, and the fields of faults. A
+//! law is a function that does nothing when it runs: its contract is a theorem that a caller obtains by calling it.
 #![tactic(auto)]
 
 mod field;

@@ -5,8 +5,8 @@ ghost use Rattle.strip_text.specs.Number.{is_number, number_of};
 
 use std::str;
 
-/// The number that the field's digits spell, where it is no less than `least` and no more than
-/// `most`; none where they spell no such number, or the field isn't one or more digits.
+/// Returns the decimal number in the field, if it is at least `least` and at most `most`. It returns none for other
+/// numbers, and if the field isn't one or more digits.
 pub fn number_of(field: &[u8], least: u64, most: u64) -> Option<u64>
     ensures { MatchOption result (is_number least most field.now ≡ false)
         (λ number. (is_number least most field.now ≡ true) × (number ≡ number_of field.now)) }

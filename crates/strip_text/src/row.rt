@@ -7,7 +7,7 @@ use csv::ByteRecord;
 use std::alloc::Global;
 use std::marker::Model;
 
-/// The fields of a row that was read, seen without the spaces and tabs at their ends.
+/// A row that was read: its fields without the spaces and tabs at their ends.
 #[derive(Drop)]
 pub struct Row {
     pub(crate) record: ByteRecord,
@@ -24,7 +24,7 @@ impl Model for Row {
 }
 
 impl Row {
-    /// A row without fields, to read into. It takes no memory.
+    /// Returns a row without fields, to read into. It takes no memory.
     pub fn new(alloc: Global) -> Row
         ensures { result ≡ [] }
     {
@@ -33,14 +33,14 @@ impl Row {
         }
     }
 
-    /// How many fields it has.
+    /// Returns the number of fields.
     pub fn len(&self) -> usize
         ensures { result ≡ length self.now }
     {
         self.record.len()
     }
 
-    /// The field at this place, counted from 0; empty past the last one.
+    /// Returns the field at this place, counted from 0; it is empty beyond the last one.
     pub fn field(&self, place: usize) -> &[u8]
         ensures { result.now ≡ field_of self.now place }
     {
@@ -50,7 +50,7 @@ impl Row {
         }
     }
 
-    /// Whether all its fields are empty, or it has none.
+    /// Tells whether all fields are empty, or there are none.
     pub fn is_empty(&self) -> bool
         ensures { result ≡ is_empty_row self.now }
     {

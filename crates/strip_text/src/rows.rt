@@ -11,9 +11,8 @@ use std::alloc::Global;
 use std::marker::Model;
 use strip_io::Memory;
 
-/// The rows of a text that are still to be read, and how many were read. A row is a record of CSV
-/// with commas and double quotes, seen with its fields trimmed of spaces and tabs; a byte-order
-/// mark in front of the text is passed over.
+/// The rows of a text that are still to be read, and the number of rows read. A row is a CSV record with commas and
+/// double quotes, and its fields are trimmed of spaces and tabs. A byte-order mark in front of the text is skipped.
 #[derive(Drop)]
 pub struct Rows<'t> {
     reader: Reader<&'t [u8]>,
@@ -34,7 +33,7 @@ impl<'t> Model for Rows<'t> {
 }
 
 impl<'t> Rows<'t> {
-    /// All rows of the text. It takes no memory.
+    /// Returns all rows of the text. It takes no memory.
     pub fn new(alloc: Global, text: &'t [u8]) -> Rows<'t>
         ensures { result ≡ record { number = 0; left = rows_of text.now } }
     {
@@ -49,8 +48,8 @@ impl<'t> Rows<'t> {
         }
     }
 
-    /// Reads the next row, and tells whether there was one. It takes memory for that row alone, in
-    /// place of the one that `row` had. After want of memory there are no more rows.
+    /// Reads the next row into `row`, and tells whether there was one. It takes memory for that row alone. If memory is
+    /// refused, there are no more rows.
     pub fn read(&mut self, row: &mut Row) -> Result<bool, Memory>
         ensures found { result ≡ Ok true → self.old.left ≡ row.new ∷ self.new.left }
         ensures counted { result ≡ Ok true → self.new.number ≡ self.old.number + 1 }
@@ -76,7 +75,7 @@ impl<'t> Rows<'t> {
         }
     }
 
-    /// How many rows were read: the number of the last one, counted from 1.
+    /// Returns the number of rows read, which is the number of the last one, counted from 1.
     pub fn number(&self) -> u64
         ensures { result ≡ self.now.number }
     {
@@ -91,6 +90,6 @@ fn next_record(reader: &mut Reader<&[u8]>, row: &mut ByteRecord) -> Result<bool,
         × (left_of false reader.old ≡ map trimmed (fields_of row.new) ∷ left_of false reader.new) }
     ensures ended { result ≡ Ok false → left_of false reader.old ≡ [] }
 {
-    // A flexible reader over memory fails only where memory runs out.
+    // A flexible reader over memory has no failure but lack of memory.
     reader.read_byte_record(row).map_err(|_| Memory)
 }

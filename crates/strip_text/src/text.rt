@@ -8,7 +8,7 @@ use std::alloc::Global;
 use std::marker::Model;
 use strip_io::Memory;
 
-/// A text of rows, seen as its bytes.
+/// A text of rows, modelled as its bytes.
 #[derive(Drop)]
 pub struct Text {
     writer: Writer<Vec<u8>>,
@@ -28,7 +28,7 @@ impl Model for Text {
 }
 
 impl Text {
-    /// An empty text. It takes no memory.
+    /// Returns an empty text. It takes no memory.
     pub fn new(alloc: Global) -> Text
         ensures { result ≡ [] }
     {
@@ -41,8 +41,8 @@ impl Text {
         }
     }
 
-    /// Appends a row of these fields, a field in double quotes where it has to be. Nothing is
-    /// promised of a text after want of memory.
+    /// Appends a row of these fields, in double quotes if they need them. After a refusal of memory the text is
+    /// unspecified.
     pub fn push(&mut self, fields: &[&[u8]]) -> Result<(), Memory>
         ensures { OnOk result (self.new ≡ self.old ++ csv_row (map (λ field. field.now) fields.now)) }
     {
@@ -58,7 +58,7 @@ impl Text {
         }
     }
 
-    /// The bytes of the text.
+    /// Returns the bytes of the text.
     pub fn into_bytes(self) -> Result<Vec<u8>, Memory>
         ensures { IfOk result (λ bytes. bytes.items ≡ self) }
     {
@@ -72,6 +72,6 @@ fn write_row(writer: &mut Writer<Vec<u8>>, fields: &[&[u8]]) -> Result<(), Memor
     ensures text { OnOk result (bytes_of writer.new ≡ bytes_of writer.old
         ++ csv_row (map (λ field. field.now) fields.now)) }
 {
-    // Writing into a vector fails only where memory runs out.
+    // A writer into a vector has no failure but lack of memory.
     writer.write_fields(fields).map_err(|_| Memory)
 }

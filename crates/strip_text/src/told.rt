@@ -1,8 +1,8 @@
-// What a fault tells.
+// The text fields of a fault.
 ghost use Rattle.std.specs.Prelude.{◌≡◌};
 ghost use Rattle.strip_text.specs.Told.{told_alone, told_data};
 
-/// A fault's name, the one or two numbers that say where or how many, and the names that it lists.
+/// A fault's name, its numbers (a place or a count) if it has any, and the names that it lists.
 #[derive(Clone, Copy, Debug, PartialEq, Eq)]
 pub struct Told<'a> {
     /// The name of the fault.
@@ -11,12 +11,12 @@ pub struct Told<'a> {
     pub first: Option<u64>,
     /// The column.
     pub second: Option<u64>,
-    /// Names that the fault lists, in its order; none of most faults.
+    /// Names that the fault lists, in its order; empty for most faults.
     pub names: &'a [String],
 }
 
 impl Told<'static> {
-    /// That which tells this name and these numbers, and lists no names.
+    /// Makes a fault's fields with this name and these numbers, and without listed names.
     pub fn alone(name: &'static str, first: Option<u64>, second: Option<u64>) -> Told<'static>
         ensures { told_data result ≡ told_alone name.now first second }
     {

@@ -8,8 +8,8 @@ use std::marker::Model;
 use strip_film::Line;
 use strip_io::Memory;
 
-/// The best line of a set in a list of lines: the first of those with the greatest bound, which is in
-/// units of money; `line` is its place in the list.
+/// The best line of a set in a list of lines: the first of those with the greatest bound. `line` is its index in the
+/// list, and `bound` is in units of money.
 #[derive(Clone, Copy, Debug, PartialEq, Eq)]
 pub struct BestLine {
     pub line: usize,
@@ -17,11 +17,11 @@ pub struct BestLine {
     pub bound: u64,
 }
 
-/// The best line of each set that stands in a list of lines.
+/// An index of a list of lines, with the best line of each set.
 #[derive(Debug, Drop)]
 pub struct Best<'l> {
     lines: &'l [Line],
-    /// The sets of the entries, in an array of their own, since a search goes through them alone.
+    /// The sets of the entries, in an array of their own, since a binary search reads nothing else.
     sets: Vec<u64>,
     entries: Vec<BestLine>,
 }
@@ -38,7 +38,7 @@ impl<'l> Model for Best<'l> {
 }
 
 impl<'l> Best<'l> {
-    /// The best lines of a list. Time n log n, and memory of some 32 bytes for each line.
+    /// Finds the best lines of a list, in time n log n and with some 32 bytes of memory for each line.
     pub fn of(alloc: Global, lines: &'l [Line]) -> Result<Best<'l>, Memory>
         ensures { IfOk result (λ best. best.lines ≡ lines.now) }
     {
@@ -51,7 +51,7 @@ impl<'l> Best<'l> {
         })
     }
 
-    /// The best lines by rising set, one for each set that stands in a line.
+    /// Returns the best lines by rising set, one for each set that has a line.
     pub fn entries(&self) -> &[BestLine]
         ensures entries { result.now ≡ self.now.entries }
         ensures best { AreBestLines self.now.lines self.now.entries }
@@ -59,7 +59,7 @@ impl<'l> Best<'l> {
         &self.entries
     }
 
-    /// The place of the set's best line among `entries`; none where no line has the set. Time log n.
+    /// Returns the index among `entries` of the set's best line, or none if no line has the set. It takes time log n.
     pub fn place(&self, set: u64) -> Option<usize>
         ensures place { IsPlaceOf self.now.entries set result }
         ensures best { AreBestLines self.now.lines self.now.entries }
@@ -67,7 +67,7 @@ impl<'l> Best<'l> {
         self.sets.binary_search(&set).ok()
     }
 
-    /// The greatest bound of the lines with this set, in units of money; 0 where there is none. Time
+    /// Returns the greatest bound of the lines with this set, in units of money, or 0 if there are none. It takes time
     /// log n.
     pub fn bound_of(&self, set: u64) -> u64
         ensures { result ≡ best_bound self.now.lines set }
@@ -79,7 +79,7 @@ impl<'l> Best<'l> {
     }
 }
 
-/// The best lines of a list, by rising set.
+/// Returns the best lines of a list, by rising set.
 fn best_lines(alloc: Global, lines: &[Line]) -> Result<Vec<BestLine>, Memory>
     ensures { IfOk result (λ entries. AreBestLines lines.now entries.items) }
 {
@@ -89,7 +89,7 @@ fn best_lines(alloc: Global, lines: &[Line]) -> Result<Vec<BestLine>, Memory>
     Ok(entries)
 }
 
-/// Each line with its place.
+/// Returns each line with its index.
 fn placed(alloc: Global, lines: &[Line]) -> Result<Vec<BestLine>, Memory>
     ensures { IfOk result (λ placed. ArePlaced lines.now placed.items) }
 {

@@ -1,4 +1,4 @@
-//! Laws of the definitions. Each function does nothing: its contract is the law.
+//! Laws of the definitions: functions that do nothing when they run, each with a theorem as its contract.
 ghost use Rattle.std.specs.Prelude.{◌≡◌, ℕ, ◌≤◌, Bool, List, length, count_by, max};
 ghost use Rattle.strip_film.specs.declared.shared.Line.{Line};
 ghost use Rattle.strip_film.specs.Film.{all_scenes};
@@ -8,8 +8,8 @@ ghost use Rattle.strip_trim.specs.Trimmed.{AreTrimmed, Reached};
 ghost use Rattle.strip_trim.specs.declared.best.BestLine.{BestLine};
 ghost use Rattle.strip_trim.specs.Best.{IsBestLine, best_bound};
 
-/// A trimmed list of a justified one is justified, and makes the same known of the whole set, and of
-/// each set that is reached.
+/// A trimmed list of a justified list is justified. It gives the set of all scenes, and each reached set, the bound
+/// that the whole list gives.
 pub fn a_trimmed_list_is_as_good()
     ensures justified { (rules : Rules) (lines trimmed : List Line) → AreTrimmed rules lines trimmed
         → AreJustified rules lines
@@ -21,8 +21,7 @@ pub fn a_trimmed_list_is_as_good()
         → known rules trimmed set ≡ known rules lines set }
 {}
 
-/// A trimmed list has no more lines than the list, and of no kind more: those that pass a test, as
-/// those with one set.
+/// A trimmed list is no longer than the list. It also has no more lines that pass a test, such as those with one set.
 pub fn a_trimmed_list_is_no_longer()
     ensures length { (rules : Rules) (lines trimmed : List Line) → AreTrimmed rules lines trimmed
         → length trimmed ≤ length lines }
@@ -30,8 +29,7 @@ pub fn a_trimmed_list_is_no_longer()
         → count_by test trimmed ≤ count_by test lines }
 {}
 
-/// What lines make known of a set is the greater of its static bound and the greatest bound of the
-/// lines with this set.
+/// The bound known of a set is the greater of its static bound and the greatest bound of the lines with this set.
 pub fn what_is_known_is_by_the_best()
     ensures { (rules : Rules) (lines : List Line) (set : ℕ)
         → known rules lines set ≡ max (rules.bound set) (best_bound lines set) }

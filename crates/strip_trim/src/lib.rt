@@ -1,5 +1,6 @@
-//! The best line of each set of scenes in a list of lines, and the lines of a justified list that the bound of the whole set
-//! needs.
+//! The best line (proved lower bound) of each set of remaining scenes in a list, and trimming: the removal of lines
+//! that the bound of all scenes doesn't need. A law is a function that does nothing when it runs: its contract is a
+//! theorem that a caller obtains by calling it.
 #![tactic(auto)]
 
 mod best;

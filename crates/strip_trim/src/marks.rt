@@ -1,4 +1,4 @@
-// Which lines stay, as marks on their places.
+// The lines that stay, as marks by index.
 ghost use Rattle.std.specs.Prelude.{◌≡◌, ◌↔◌, ℕ, ◌<◌, false, length, IfOk, IsTrue};
 ghost use Rattle.strip_film.specs.Film.{LiesIn};
 ghost use Rattle.strip_bound.specs.Bounds.{bound};
@@ -17,7 +17,7 @@ use strip_mask::Mask;
 use strip_memo::Memo;
 use strip_rule::open_firsts;
 
-/// For each line whether it stays: it is the best one of its set, and the set is reached.
+/// Returns for each line whether it stays: whether it is the best line of its set, and the set is reached.
 pub(crate) fn marks_of<F: Fn(u64, u64) -> u64>(
     alloc: Global,
     kept: &StoredBound<F>,
@@ -38,8 +38,8 @@ pub(crate) fn marks_of<F: Fn(u64, u64) -> u64>(
     Ok(marks)
 }
 
-/// Marks the lines that stay. What a set leads on to has a lesser number, so one pass by falling set
-/// meets each set behind all that lead on to it.
+/// Marks the lines that stay. A reached set leads only to smaller numbers, so one pass by falling set handles each set
+/// after all sets that lead to it.
 fn mark_reached<F: Fn(u64, u64) -> u64>(
     kept: &StoredBound<F>,
     memo: &mut Memo,
@@ -62,7 +62,7 @@ fn mark_reached<F: Fn(u64, u64) -> u64>(
     }
 }
 
-/// Marks the lines that the best line of a set leads on to.
+/// Marks the lines that the bound of a set's best line depends on.
 fn mark_followers<F: Fn(u64, u64) -> u64>(
     kept: &StoredBound<F>,
     memo: &mut Memo,
@@ -92,8 +92,8 @@ fn mark_followers<F: Fn(u64, u64) -> u64>(
     }
 }
 
-/// Marks the best line of the set, where a line has the set and the static bound of it is below this
-/// number. The bound is asked for only where the line isn't marked already.
+/// Marks the best line of the set, if there is one and the set's static bound is below `need`. The bound is requested
+/// only if the line isn't marked yet.
 fn mark_below<F: Fn(u64, u64) -> u64>(
     kept: &StoredBound<F>,
     memo: &mut Memo,
@@ -118,7 +118,7 @@ fn mark_below<F: Fn(u64, u64) -> u64>(
     }
 }
 
-/// Whether the static bound of the set is below this number.
+/// Tells whether the static bound of the set is below `need`.
 fn is_below<F: Fn(u64, u64) -> u64>(
     kept: &StoredBound<F>,
     memo: &mut Memo,
@@ -134,7 +134,7 @@ fn is_below<F: Fn(u64, u64) -> u64>(
     memo.reach(kept, q, need) < need
 }
 
-/// Marks the best line of the set, where a line has the set.
+/// Marks the best line of the set, if there is one.
 fn mark(best: &Best, marks: &mut [bool], q: Mask)
     requires { length marks.old ≡ length best.now.lines }
     ensures { MarksMore marks.old marks.new (IsBestOf best.now.lines q.0) }

@@ -1,4 +1,4 @@
-// The lines of a list that stay.
+// Trimming of a list of lines.
 ghost use Rattle.std.specs.Prelude.{◌≡◌, length, IfOk};
 ghost use Rattle.strip_bound.specs.StoredBound.{Keeps};
 ghost use Rattle.strip_lines.specs.Lines.{AreJustified, rules_of};
@@ -14,12 +14,15 @@ use strip_film::Line;
 use strip_io::Memory;
 use strip_memo::Memo;
 
-/// The lines that the bound of the whole set needs: of each set that is reached the best line, if a
-/// line has the set, in the order of the list. The whole set is reached; and where the best line of a
-/// set that is reached has a bound above the static one, what then remains after each open first whose
-/// step and static bound come to less. Time n log n; for each set that is reached a static bound, a step
-/// for each open first, and a static bound for each line that is led on to. The bounds are asked of the
-/// memo, which is best the one of the search that made the lines.
+/// Returns the best line of each reached set, if the set has a line, in the order of the list: these are the lines that
+/// the bound of all scenes needs.
+///
+/// The set of all scenes is reached. If the best line of a reached set has a bound above the static bound, sets after
+/// its open firsts are reached too. Such a set is reached if the step plus its static bound is less than the line's
+/// bound.
+///
+/// It takes time n log n. Each reached set costs a static bound, a step for each open first, and a static bound for
+/// each line that it leads to. The memo answers the bounds; the memo of the search that made the lines serves best.
 pub fn trim<F: Fn(u64, u64) -> u64>(
     alloc: Global,
     kept: &StoredBound<F>,
@@ -38,7 +41,7 @@ pub fn trim<F: Fn(u64, u64) -> u64>(
     marked(alloc, lines, &marks)
 }
 
-/// The lines that are marked.
+/// Returns the marked lines.
 fn marked(alloc: Global, lines: &[Line], marks: &[bool]) -> Result<Vec<Line>, Memory>
     requires { length marks.now ≡ length lines.now }
     ensures { IfOk result (λ kept. kept.items ≡ marked_lines lines.now marks.now) }

@@ -1,4 +1,4 @@
-// How the walk of a path begins.
+// Entry to a path: complete paths, pruning and enlisting.
 ghost use Rattle.std.specs.Prelude.{◌≡◌, ◌≢◌};
 ghost use Rattle.strip_film.specs.Film.{LiesIn};
 ghost use Rattle.strip_film.specs.Path.{IsComplete, PathData};
@@ -17,7 +17,7 @@ use strip_io::Memory;
 use strip_mask::Mask;
 use strip_memo::Memo;
 
-/// Offers a path after which nothing remains.
+/// Offers a complete path as a new best one.
 pub(crate) fn offer<H: Hand>(hand: &mut H, path: &Path) -> Found
     requires sound { H.is_sound hand.old }
     requires complete { IsComplete (H.shows hand.old).search.film (path_data path.now) }
@@ -34,8 +34,8 @@ pub(crate) fn offer<H: Hand>(hand: &mut H, path: &Path) -> Found
     }
 }
 
-/// Looks at the least cost, and asks the static bound and the table whether they rule out a path after which
-/// this set remains and which paid so much. The path itself isn't needed, so that it is met before it is made.
+/// Reads the incumbent cost, and checks whether the static bound or the transposition table rules out a path with this
+/// remaining set and this pay. It doesn't need the path itself, so a child is checked before the path is extended.
 pub(crate) fn meet<H: Hand, F: Fn(u64, u64) -> u64>(
     kept: &StoredBound<F>,
     hand: &mut H,
@@ -73,7 +73,7 @@ pub(crate) fn meet<H: Hand, F: Fn(u64, u64) -> u64>(
     weighed(passed, room)
 }
 
-/// What the table's answer says of a path that has so much room below the least cost.
+/// Decides by the table's entry whether a path is ruled out that has `room` units of money below the incumbent cost.
 fn weighed(passed: Passed, room: u64) -> Met
     ensures { IsWeighed passed room result }
 {
@@ -87,7 +87,7 @@ fn weighed(passed: Passed, room: u64) -> Met
     }
 }
 
-/// Asks the table for a set, where want of memory counts as a miss.
+/// Looks a set up in the table; if memory is refused, it returns a miss.
 fn ask<H: Hand>(hand: &mut H, q: Mask) -> Probe
     requires sound { H.is_sound hand.old }
     requires lies { LiesIn (H.shows hand.old).search.film q.0 }
@@ -101,8 +101,8 @@ fn ask<H: Hand>(hand: &mut H, q: Mask) -> Probe
     }
 }
 
-/// Enlists a path that is not ruled out; where there are as many lines as may be, answers the best bound
-/// that was met.
+/// Enlists a path that is not ruled out: makes a line of its remaining set. If the line budget is used up, it returns
+/// the best bound that it met.
 pub(crate) fn list<H: Hand>(
     hand: &mut H,
     cursor: &mut Cursor,
@@ -130,7 +130,7 @@ pub(crate) fn list<H: Hand>(
     }
 }
 
-/// The greater of the static bound and the bound of a line that was found.
+/// Returns the greater of the static bound and the bound of the line that the table gave.
 fn best_of(passed: &Passed) -> Found
     ensures { IsBest passed.now result }
 {

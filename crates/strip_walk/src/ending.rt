@@ -1,4 +1,4 @@
-// How the walk of a path ends.
+// Exit from a path.
 ghost use Rattle.std.specs.Prelude.{◌≡◌};
 ghost use Rattle.strip_lines.specs.Lines.{line_at};
 ghost use Rattle.strip_hand.specs.Calls.{MayRaise};
@@ -9,7 +9,8 @@ use strip_film::Known;
 use strip_hand::Hand;
 use strip_io::Memory;
 
-/// Raises the line of what remains to the bound, and notes it; want of memory at the note is passed over.
+/// Raises the line of the remaining set to the bound, and notes it in the table. If the note is refused memory, the
+/// entry is left out.
 pub(crate) fn close<H: Hand>(hand: &mut H, known: &Known, spent: bool) -> Result<Found, Memory>
     requires sound { H.is_sound hand.old }
     requires may { MayRaise (H.shows hand.old) known.now.line known.now.bound }

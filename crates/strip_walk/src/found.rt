@@ -1,11 +1,11 @@
-// What a walk finds, and how it begins.
+// Results of a walk and of its first checks.
 
 use strip_film::{Probe, Turns};
 use strip_mask::Mask;
 
-/// What a walk found of what remains after a path: a bound, in units of money, that is at most the cost of
-/// finishing; the line that has it, where it is no static bound; and whether there were as many lines as
-/// may be, so that the walk was cut short.
+/// The result of a walk below a path. `bound`, in units of money, is at most the remaining cost; `line` is the line
+/// with this bound, unless it is a static bound. `spent` tells whether the walk was cut short because the line budget
+/// is used up.
 #[derive(Clone, Copy, Debug, PartialEq, Eq)]
 pub struct Found {
     pub bound: u64,
@@ -13,8 +13,8 @@ pub struct Found {
     pub spent: bool,
 }
 
-/// A path that may be enlisted: the least cost told, the static bound of what remains after the path, and
-/// what the table has of it.
+/// A path that may be enlisted: the incumbent cost it was told, the static bound of its remaining set, and the table's
+/// entry of this set.
 #[derive(Clone, Copy, Debug)]
 pub(crate) struct Passed {
     pub told: u64,
@@ -29,7 +29,7 @@ pub(crate) enum Met {
     Through(Passed),
 }
 
-/// A path that was enlisted: its line, the static bound of what remains after it, and the least cost told.
+/// An enlisted path: its line, the static bound of its remaining set, and the incumbent cost it was told.
 #[derive(Clone, Copy, Debug)]
 pub(crate) struct Opened {
     pub line: u32,
@@ -37,23 +37,23 @@ pub(crate) struct Opened {
     pub told: u64,
 }
 
-/// Whether a path was enlisted, so that its children are walked.
+/// The outcome of enlisting: the walk of the path ends with an answer, or goes on to its children.
 #[derive(Clone, Copy, Debug)]
 pub(crate) enum Begun {
     Answered(Found),
     Enlisted(Opened),
 }
 
-/// Children of a path that were weighed: those that have to be walked, and the least of the others' steps
-/// with their static bounds; `u64::MAX` where there is no other.
+/// The children of a path that were checked. `visit` has those that need a walk; `least` is the least step plus static
+/// bound of the others, or `u64::MAX` if there are none.
 #[derive(Clone, Copy, Debug)]
 pub(crate) struct Weighed {
     pub visit: Mask,
     pub least: u64,
 }
 
-/// The children of a path that have to be walked, by rank, and the least of the others' steps with their
-/// static bounds, in units of money; `u64::MAX` where there is no other.
+/// The children of a path that need a walk, by rank. `least` is the least step plus static bound of the others, in
+/// units of money, or `u64::MAX` if there are none.
 #[derive(Debug, Drop)]
 pub struct Sifted {
     pub visit: Turns,

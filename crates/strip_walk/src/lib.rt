@@ -1,4 +1,5 @@
-//! The walk of a search: what a worker does with a task, over any hand.
+//! Depth-first branch and bound of a subproblem (walk of a task). It reaches the shared search state through any hand
+//! (a worker's view of that state).
 #![tactic(auto)]
 
 mod beginning;

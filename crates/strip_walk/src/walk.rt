@@ -1,4 +1,4 @@
-// The walk of a path: its children, one after the other.
+// Depth-first search of a path's children.
 ghost use Rattle.std.specs.Prelude.{◌≡◌, ◌≢◌, IfOk};
 ghost use Rattle.strip_film.specs.Running.{IsRunning};
 ghost use Rattle.strip_film.specs.Shoot.{step_cost};
@@ -20,15 +20,13 @@ use strip_hand::Hand;
 use strip_io::Memory;
 use strip_memo::Memo;
 
-/// Explores the path of `running`: it is ruled out by its static bound or a known line, or enlisted, and
-/// then those of its open firsts are shot next, by rising rank, whose step and static bound don't rule
-/// them out, each explored in turn; at the end the path's line is raised to the least of the steps with
-/// what was found behind them, and noted. What is answered is a bound on what remains, in units of money;
-/// `running` is then as it was. Where memory is refused, `running` may stand further on.
+/// Searches depth-first below the path of `running`, and returns a lower bound of the remaining cost, in units of
+/// money. It prunes by the static bound or the table; otherwise it enlists the path and searches the children by rising
+/// rank. Then it raises the path's line to the least step plus bound over the children, and notes it in the table. At
+/// the end `running` is as at the beginning; if memory is refused, it may have moved on.
 ///
-/// Each path costs a look and a static bound; one that is enlisted a probe, a raise, a note, and a step and
-/// a static bound for each open first. A child is met before it is taken, so that `running` moves only for
-/// one that is offered or walked on from. It takes no memory but what the hand does.
+/// Each path costs a look and a static bound. An enlisted path costs a probe, a raise, a note, and a step and a static
+/// bound for each open first. A child is checked before `running` moves to it. Only the hand takes memory.
 pub fn explore<H: Hand, F: Fn(u64, u64) -> u64>(
     kept: &StoredBound<F>,
     hand: &mut H,
@@ -61,7 +59,7 @@ pub fn explore<H: Hand, F: Fn(u64, u64) -> u64>(
     }
 }
 
-/// Enlists a path that is not ruled out, walks its children, and closes its line.
+/// Enlists a path that is not ruled out, searches its children, and raises its line.
 #[cycle(children)]
 fn walk_on<H: Hand, F: Fn(u64, u64) -> u64>(
     kept: &StoredBound<F>,
@@ -111,8 +109,8 @@ fn walk_on<H: Hand, F: Fn(u64, u64) -> u64>(
     close(hand, &known, spent)
 }
 
-/// Explores the path with the open first `s` shot next, which costs `step`. Most children are ruled out by
-/// what remains behind them and what they pay, so the scene is taken only where that isn't enough.
+/// Searches below the path extended by the open first `s`, at the cost `step`. Most children are ruled out by their
+/// remaining set and their pay, so `running` moves only to the others.
 #[cycle(children)]
 fn walk_child<H: Hand, F: Fn(u64, u64) -> u64>(
     kept: &StoredBound<F>,

@@ -1,6 +1,6 @@
 // Commands and their options, as records.
 
-/// A command: its word, how many operands it has, and its options.
+/// A command: its word, the number of its operands, and its options.
 #[derive(Drop)]
 pub(crate) struct Command {
     pub(crate) word: &'static str,
@@ -16,7 +16,7 @@ pub(crate) enum CommandOption {
     Flag(&'static str),
 }
 
-/// An option whose value is a number within two ends.
+/// An option whose value is a number from `least` to `most`.
 #[derive(Clone, Copy)]
 pub(crate) struct NumberOption {
     pub(crate) name: &'static str,
@@ -25,7 +25,7 @@ pub(crate) struct NumberOption {
     pub(crate) default: u64,
 }
 
-/// An option whose value is a number within two ends, and which says nothing where it is left out.
+/// An option whose value is a number from `least` to `most`, and that has no default.
 #[derive(Clone, Copy)]
 pub(crate) struct FreeOption {
     pub(crate) name: &'static str,
@@ -45,7 +45,7 @@ impl Command {
     ghost use Rattle.std.specs.Prelude.{◌↔◌, IsTrue, Contains};
     ghost use Rattle.strip_words.specs.Shown.{command_data};
 
-    /// Whether this is the name of an option that has a value.
+    /// Tells whether an option of this name with a value exists.
     pub(crate) fn has_valued(&self, name: &str) -> bool
         ensures { IsTrue result ↔ Contains (command_data self.now).valued name.now }
     {
@@ -57,7 +57,7 @@ impl Command {
         })
     }
 
-    /// Whether this is the name of an option that has no value.
+    /// Tells whether an option of this name without a value exists.
     pub(crate) fn has_flag(&self, name: &str) -> bool
         ensures { IsTrue result ↔ Contains (command_data self.now).flags name.now }
     {

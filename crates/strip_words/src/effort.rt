@@ -1,4 +1,4 @@
-// How a film is to be searched, as `solve` and `trial` say it alike.
+// The options of a search that `solve` and `trial` have in common.
 ghost use Rattle.std.specs.Prelude.{ℕ, Option, IfOk, IfErr};
 ghost use Rattle.strip_kind.specs.declared.kind.Kind.{Kind as StaticBound};
 ghost use Rattle.strip_words.specs.Words.{AreDistinct, options_in};
@@ -11,7 +11,7 @@ use crate::item::Item;
 use crate::solve::{BOUNDS, STEPS, TABLE, TRIES, kind_of};
 use strip_kind::Kind;
 
-/// What the options say that `solve` and `trial` have in common.
+/// The values of the options that `solve` and `trial` have in common.
 #[derive(Clone, Copy)]
 pub(crate) struct Effort {
     pub(crate) table: u64,
@@ -20,7 +20,7 @@ pub(crate) struct Effort {
     pub(crate) kind: Kind,
 }
 
-/// The numbers and the static bound that the items say.
+/// Reads the numbers and the kind of static bounds from the items.
 pub(crate) fn effort_of(items: &[Item]) -> Result<Effort, WordsFault>
     requires { AreDistinct (options_in (items_data items.now)) }
     ensures table { IfOk result (λ effort. IsChosen table_option (items_data items.now) effort.table) }

@@ -1,4 +1,4 @@
-// Why words gave no job.
+// Faults of the command line.
 ghost use Rattle.std.specs.Prelude.{◌≡◌};
 ghost use Rattle.strip_words.specs.declared.fault.WordsFault.TheVariants.{Memory as OutOfMemory};
 
@@ -6,10 +6,10 @@ use std::alloc::{AllocError, AllocFailed};
 use std::error::Error;
 use std::fmt;
 
-/// Why no job was read from the words.
+/// A reason why no job was read from the words.
 #[derive(Clone, Copy, Debug, PartialEq, Eq)]
 pub enum WordsFault {
-    /// They name no job.
+    /// The words name no job.
     BadWords,
     /// Memory ran out.
     Memory,

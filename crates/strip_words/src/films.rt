@@ -16,8 +16,8 @@ pub struct FilmFile {
     pub film: String,
 }
 
-/// The file that the words behind this one name, if it is a command that asks for a film's file and has no
-/// options. `BadWords` if they name none, and `Memory` if memory runs out.
+/// Reads the words that follow `word`, a command with a film's file and no options, and returns the file's name. It
+/// fails with `BadWords` if they don't name one file, and with `Memory` if memory runs out.
 pub(crate) fn film_file(
     alloc: Global,
     word: &'static str,

@@ -1,10 +1,10 @@
-// What may stand among the words between a command and `--`.
+// The words between a command and `--`, as items.
 ghost use Rattle.std.specs.Prelude.{◌≡◌, ◌↔◌, Some, IsTrue, IfSome, IfNone, option_map};
 ghost use Rattle.strip_words.specs.Words.{Word, Flag as AFlag, option_of, operand_of};
 ghost use Rattle.strip_words.specs.Options.{Gives};
 ghost use Rattle.strip_words.specs.Shown.{item_data};
 
-/// An operand, an option with its value as one word or as two, or an option that has no value.
+/// An operand, an option with its value in one word or in two, or an option without a value.
 #[derive(Clone, Copy)]
 pub(crate) enum Item<'w> {
     Operand(&'w str),
@@ -23,7 +23,7 @@ impl<'w> Item<'w> {
         }
     }
 
-    /// The name of an option.
+    /// Returns the name of the item's option, or none if it is an operand.
     pub(crate) fn option(&self) -> Option<&'w str>
         ensures { option_map (λ name. name.now) result ≡ option_of (item_data self.now) }
     {
@@ -33,7 +33,7 @@ impl<'w> Item<'w> {
         }
     }
 
-    /// The value that the item gives the option.
+    /// Returns the value that the item gives this option, or none if it gives none.
     pub(crate) fn value(&self, name: &str) -> Option<&'w str>
         ensures some { IfSome result (λ value. Gives name.now value.now (item_data self.now)) }
         ensures none { IfNone result ((value : Word) → ¬ Gives name.now value (item_data self.now)) }

@@ -1,31 +1,31 @@
-// Jobs.
+// The jobs that command words name.
 
 use crate::films::FilmFile;
 use crate::making::{GenJob, TrialJob};
 use crate::plans::PlanFiles;
 use crate::solve::SolveJob;
 
-/// What to do, as the command words name it.
+/// The job that the command words name.
 #[derive(Drop)]
 pub enum Job {
-    /// A film is to be solved.
+    /// Solve a film.
     Solve(SolveJob),
-    /// The order of a film's rows is to be priced.
+    /// Price the order of a film's rows.
     Price(FilmFile),
-    /// The film's text is to be printed with its scenes in a plan's order.
+    /// Print the film's text with its scenes in a plan's order.
     Arrange(PlanFiles),
-    /// A plan is to be checked.
+    /// Check a plan.
     Check(PlanFiles),
-    /// A plan is to be written in the newest format.
+    /// Write a plan in the newest format.
     Convert(PlanFiles),
-    /// The Day Out of Days report of a plan's order is to be printed.
+    /// Print the Day Out of Days report of a plan's order.
     Dood(PlanFiles),
-    /// The cost sheet of a plan's order is to be printed.
+    /// Print the cost sheet of a plan's order.
     Sheet(PlanFiles),
-    /// The page of a plan's order is to be printed.
+    /// Print the HTML page of a plan's order.
     Board(PlanFiles),
-    /// A film that is made from a number is to be printed.
+    /// Print the random film of a seed.
     Gen(GenJob),
-    /// A film that is made from a number is to be solved, and its plan checked.
+    /// Solve the random film of a seed, and check its plan.
     Trial(TrialJob),
 }

@@ -1,17 +1,17 @@
-//! Laws of the definitions. Each function does nothing: its contract is the law.
+//! Laws of the definitions: functions that do nothing when they run, each with a theorem as its contract.
 ghost use Rattle.std.specs.Prelude.{◌≡◌, ◌≤◌, List, IfSome};
 ghost use Rattle.strip_words.specs.Words.{Word};
 ghost use Rattle.strip_words.specs.Jobs.{JobData, NameJob};
 ghost use Rattle.strip_words.specs.Solve.{NameSolve, SolveData};
 ghost use Rattle.strip_words.specs.Gen.{GenData, IsSized, NameGen, NameTrial, TrialData};
 
-/// The same words name one job, of any kind.
+/// Words name at most one job.
 pub fn words_name_one_job()
     ensures { (words : List Word) (a b : JobData) → NameJob words a → NameJob words b → a ≡ b }
 {}
 
-/// The numbers of a job to solve and of a trial lie within the ends of their options, and a film that is
-/// made from a number has as many scenes and actors as an instance may have.
+/// The numbers of a job to solve and of a trial lie within the limits of their options. A film to be generated has as
+/// many scenes and actors as an instance may have.
 pub fn numbers_lie_within_their_ends()
     ensures workers { (words : List Word) (job : SolveData) → NameSolve words job
         → IfSome job.workers (λ workers. (1 ≤ workers) × (workers ≤ 64)) }

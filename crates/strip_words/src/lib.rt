@@ -1,4 +1,5 @@
-//! The command words, read into a job.
+//! The command line: words are read into a job, with its files and options. A law is a function that does nothing when
+//! it runs: its contract is a theorem that a caller obtains by calling it.
 #![tactic(auto)]
 
 mod command;

@@ -1,4 +1,4 @@
-// The words of the commands that make a film from a number.
+// The words of the commands that generate a film from a seed.
 ghost use Rattle.std.specs.Prelude.{◌≡◌, ◌∷◌, IfOk, IfErr, codes, length};
 ghost use Rattle.strip_words.specs.declared.fault.WordsFault.TheVariants.{BadWords as NoJob};
 ghost use Rattle.strip_words.specs.Gen.{GenData, NameFilm, NameGen, NameTrial, TrialData};
@@ -31,33 +31,33 @@ const TRIAL: Command = Command {
     ],
 };
 
-/// A film that is made from a number.
+/// A film to be generated from the seed `number`.
 #[derive(Clone, Copy)]
 pub struct GenJob {
     pub number: u64,
-    /// How many scenes it has, 1 to 200.
+    /// Number of scenes, 1 to 200.
     pub scenes: u64,
-    /// How many actors it has, 0 to 64.
+    /// Number of actors, 0 to 64.
     pub actors: u64,
 }
 
-/// A film that is made from a number, and how it is solved.
+/// A film to be generated from a seed, and the options of its search.
 #[derive(Clone, Copy)]
 pub struct TrialJob {
     pub film: GenJob,
     /// The greatest number of lines, 1 to 16,777,216.
     pub nodes: u64,
-    /// How many entries the table has, 64 to 4,194,304.
+    /// Number of entries of the transposition table, 64 to 4,194,304.
     pub table: u64,
-    /// How often the order that the search begins with is varied, 0 to 100,000,000, where the words say it.
+    /// Number of local-search moves on the initial order, 0 to 100,000,000, if the words give it.
     pub tries: Option<u64>,
-    /// In how many steps the bound is raised before the search, 1 to 1,000; nothing where the bound isn't raised so.
+    /// Number of steps in which a search by layers raises the bound, 1 to 1,000; none for a depth-first search.
     pub steps: Option<u64>,
-    /// The static bound.
+    /// The kind of static bounds.
     pub kind: Kind,
 }
 
-/// The film that the words behind `gen` name.
+/// Reads the words that follow `gen`, and returns the film to be generated. It fails with `BadWords` or `Memory`.
 pub(crate) fn gen_job(alloc: Global, later: &[String]) -> Result<GenJob, WordsFault>
     ensures named { IfOk result (λ film. NameGen (codes "gen" ∷ texts later.now) (gen_data film)) }
     ensures bad { IfErr result (λ e. e ≡ NoJob → (film : GenData) → ¬ NameGen (codes "gen" ∷ texts later.now) film) }
@@ -67,7 +67,7 @@ pub(crate) fn gen_job(alloc: Global, later: &[String]) -> Result<GenJob, WordsFa
     film_named(operands.as_slice())
 }
 
-/// The trial that the words behind `trial` name.
+/// Reads the words that follow `trial`, and returns the trial. It fails with `BadWords` or `Memory`.
 pub(crate) fn trial_job(alloc: Global, later: &[String]) -> Result<TrialJob, WordsFault>
     ensures named { IfOk result (λ job. NameTrial (codes "trial" ∷ texts later.now) (trial_data job)) }
     ensures bad { IfErr result (λ e. e ≡ NoJob → (job : TrialData)
@@ -89,7 +89,7 @@ pub(crate) fn trial_job(alloc: Global, later: &[String]) -> Result<TrialJob, Wor
     })
 }
 
-/// The film that three operands name.
+/// Reads the film to be generated from three operands: seed, scenes, actors.
 fn film_named(operands: &[&str]) -> Result<GenJob, WordsFault>
     requires { length operands.now ≡ 3 }
     ensures named { IfOk result (λ film. NameFilm (strs operands.now) (gen_data film)) }

@@ -12,8 +12,8 @@ use crate::plans::plan_files;
 use crate::solve::solve_job;
 use std::alloc::Global;
 
-/// The job that the words name, the program's own name not among them. `BadWords` where they name
-/// none, and `Memory` where memory runs out.
+/// Returns the job that the words name. The program's own name is not among the words. It fails with `BadWords` if they
+/// name none, and with `Memory` if memory runs out.
 pub fn job(alloc: Global, words: &[String]) -> Result<Job, WordsFault>
     ensures named { IfOk result (λ job. NameJob (texts words.now) (job_data job)) }
     ensures bad { IfErr result (λ e. e ≡ NoJob → NameNoJob (texts words.now)) }

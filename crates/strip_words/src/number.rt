@@ -2,7 +2,7 @@
 ghost use Rattle.std.specs.Prelude.{ℕ, IfSome, IfNone};
 ghost use Rattle.strip_words.specs.Options.{IsNumber};
 
-/// The number that the digits spell, where it lies within these ends.
+/// Returns the number that the digits spell, if it is from `least` to `most`.
 pub(crate) fn number_of(word: &str, least: u64, most: u64) -> Option<u64>
     ensures some { IfSome result (IsNumber least most word.now) }
     ensures none { IfNone result ((n : ℕ) → ¬ IsNumber least most word.now n) }

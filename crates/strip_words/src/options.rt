@@ -1,4 +1,4 @@
-// What the options among the items say.
+// The values of the options among the items.
 ghost use Rattle.std.specs.Prelude.{◌↔◌, ℕ, Option, IsTrue, IfOk, IfErr, IfSome, IfNone, Any, Contains};
 ghost use Rattle.strip_words.specs.Words.{Word, Flag as AFlag, AreDistinct, options_in};
 ghost use Rattle.strip_words.specs.Options.{Gives, IsLeftOut, IsChosen, IsGiven, IsPicked};
@@ -10,7 +10,7 @@ use crate::item::Item;
 use crate::number::number_of;
 
 impl NumberOption {
-    /// The option's number, or the default where it is left out.
+    /// Returns the option's number, or the default if the option is left out.
     pub(crate) fn chosen(&self, items: &[Item]) -> Result<u64, WordsFault>
         requires { AreDistinct (options_in (items_data items.now)) }
         ensures ok { IfOk result (IsChosen (number_data self.now) (items_data items.now)) }
@@ -24,7 +24,7 @@ impl NumberOption {
 }
 
 impl FreeOption {
-    /// The option's number, where it isn't left out.
+    /// Returns the option's number, or none if the option is left out.
     pub(crate) fn given(&self, items: &[Item]) -> Result<Option<u64>, WordsFault>
         requires { AreDistinct (options_in (items_data items.now)) }
         ensures ok { IfOk result (IsGiven (free_data self.now) (items_data items.now)) }
@@ -41,7 +41,7 @@ impl FreeOption {
 }
 
 impl ChoiceOption {
-    /// The option's value, or the default where it is left out.
+    /// Returns the option's value, or the default if the option is left out.
     pub(crate) fn picked<'w>(&self, items: &[Item<'w>]) -> Result<&'w str, WordsFault>
         requires { AreDistinct (options_in (items_data items.now)) }
         ensures ok { IfOk result (λ word. IsPicked (choice_data self.now) (items_data items.now) word.now) }
@@ -56,7 +56,7 @@ impl ChoiceOption {
     }
 }
 
-/// The value that the items give the option.
+/// Returns the value that the items give the option, or none if it is left out.
 pub(crate) fn value_of<'w>(items: &[Item<'w>], name: &str) -> Option<&'w str>
     ensures some { IfSome result (λ value. Any (Gives name.now value.now) (items_data items.now)) }
     ensures none { IfNone result (IsLeftOut name.now (items_data items.now)) }
@@ -69,14 +69,14 @@ pub(crate) fn value_of<'w>(items: &[Item<'w>], name: &str) -> Option<&'w str>
     None
 }
 
-/// Whether no item gives the option a value.
+/// Tells whether no item gives the option a value.
 pub(crate) fn is_left_out(items: &[Item], name: &str) -> bool
     ensures { IsTrue result ↔ IsLeftOut name.now (items_data items.now) }
 {
     value_of(items, name).is_none()
 }
 
-/// Whether the option that has no value stands among the items.
+/// Tells whether this option, which has no value, is among the items.
 pub(crate) fn has_flag(items: &[Item], name: &str) -> bool
     ensures { IsTrue result ↔ Contains (items_data items.now) (AFlag name.now) }
 {

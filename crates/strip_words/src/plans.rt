@@ -1,4 +1,4 @@
-// The words that name a film's file and a plan's.
+// The words that name a film's file and a plan's file.
 ghost use Rattle.std.specs.Prelude.{◌≡◌, ◌∷◌, IfOk, IfErr};
 ghost use Rattle.strip_words.specs.declared.fault.WordsFault.TheVariants.{BadWords as NoJob};
 ghost use Rattle.strip_words.specs.Plans.{NamePlanFiles, PlanFilesData};
@@ -9,15 +9,15 @@ use crate::command::Command;
 use crate::reader::read;
 use std::alloc::Global;
 
-/// A film's file and a plan's.
+/// A film's file and a plan's file.
 #[derive(Drop)]
 pub struct PlanFiles {
     pub film: String,
     pub plan: String,
 }
 
-/// The files that the words behind this one name, where it is a command that asks for a film's file and a
-/// plan's and has no options. `BadWords` where they name none, and `Memory` where memory runs out.
+/// Reads the words that follow `word`, a command with a film's file, a plan's file and no options, and returns the
+/// files' names. It fails with `BadWords` if they don't name two files, and with `Memory` if memory runs out.
 pub fn plan_files(
     alloc: Global,
     word: &'static str,

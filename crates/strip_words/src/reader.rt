@@ -1,4 +1,4 @@
-// The words behind a command, read as items.
+// The words that follow a command, read as items.
 ghost use Rattle.std.specs.Prelude.{◌≡◌, ◌≢◌, ◌↔◌, ◌⊎◌, ◌++◌, [], ◌∷◌, List, Option, All, IsTrue, IfOk, IfErr, Contains, codes};
 ghost use Rattle.strip_words.specs.declared.fault.WordsFault.TheVariants.{BadWords as NoJob};
 ghost use Rattle.strip_words.specs.Words.{Word, Item as ItemData, Joined as AJoined, IsPlain, BelongsTo, IsSpelled, AreDistinct, options_in, operand_of, operands_of};
@@ -11,14 +11,14 @@ use crate::command::Command;
 use crate::item::Item;
 use std::alloc::{AllocError, Global};
 
-/// The items behind a command's word, and the words behind `--` where it stands there.
+/// The items that follow a command's word, and the words after `--`, if `--` is there.
 #[derive(Drop)]
 pub(crate) struct Reading<'w> {
     pub(crate) items: Vec<Item<'w>>,
     pub(crate) rest: Option<&'w [String]>,
 }
 
-/// What the words behind the command's own spell.
+/// Reads the words that follow the command's own.
 pub(crate) fn read<'w>(
     alloc: Global,
     command: &Command,
@@ -43,7 +43,7 @@ pub(crate) fn read<'w>(
 }
 
 impl<'w> Reading<'w> {
-    /// The operands among the items and behind `--`.
+    /// Returns the operands among the items and after `--`.
     pub(crate) fn operands(&self, alloc: Global) -> Result<Vec<&'w str>, AllocError>
         ensures { IfOk result (λ words. strs words.items
             ≡ operands_of (items_data self.now.items.items) (rest_data self.now.rest)) }
@@ -74,7 +74,7 @@ fn are_filled(words: &[&str]) -> bool
     words.iter().all(|word| !word.is_empty())
 }
 
-/// Whether no option stands twice among the items.
+/// Tells whether no option is among the items twice.
 fn are_distinct(items: &[Item]) -> bool
     ensures { IsTrue result ↔ AreDistinct (options_in (items_data items.now)) }
 {
@@ -122,7 +122,7 @@ fn read_items<'w>(
     Ok(Reading { items, rest: None })
 }
 
-/// The item that begins with this word, and the words behind it.
+/// Reads the item that begins with this word, and returns it with the words after it.
 fn first_item<'w>(
     command: &Command,
     word: &'w str,
@@ -147,7 +147,7 @@ fn first_item<'w>(
     }
 }
 
-/// The value that stands first among the words, and the words behind it.
+/// Returns the value that is the first of the words, and the words after it.
 fn first_plain(words: &[String]) -> Result<(&str, &[String]), WordsFault>
     ensures ok { IfOk result (λ first. (texts words.now ≡ first.0.now ∷ texts first.1.now) × IsPlain first.0.now) }
     ensures bad { IfErr result (λ e. (value : Word) (behind : List Word) → texts words.now ≡ value ∷ behind
@@ -159,7 +159,7 @@ fn first_plain(words: &[String]) -> Result<(&str, &[String]), WordsFault>
     }
 }
 
-/// The option and its value that are this one word.
+/// Splits a word into an option and its value.
 fn cut<'w>(command: &Command, word: &'w str) -> Result<(&'w str, &'w str), WordsFault>
     requires { IsTrue (has_names (command_data command.now)) }
     ensures ok { IfOk result (λ parts. (word.now ≡ parts.0.now ++ 61 ∷ parts.1.now)
@@ -179,7 +179,7 @@ fn is_operand(word: &str) -> bool
     word == "-" || is_plain(word)
 }
 
-/// Whether the word isn't empty and no hyphen stands first.
+/// Tells whether the word isn't empty and doesn't begin with a hyphen.
 fn is_plain(word: &str) -> bool
     ensures { IsTrue result ↔ IsPlain word.now }
 {

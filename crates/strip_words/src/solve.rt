@@ -47,7 +47,7 @@ pub(crate) const NODES: NumberOption = NumberOption {
     default: 1_000_000,
 };
 
-/// The same where the program chooses the bounds and the steps.
+/// The option `--nodes` with its default under `--auto`.
 const NODES_OF_AUTO: NumberOption = NumberOption {
     default: 20_000,
     ..NODES
@@ -86,37 +86,39 @@ const STEAL: &str = "--steal";
 
 const AUTO: &str = "--auto";
 
-/// As many workers as there are processors.
+/// The value of `--workers` that stands for the number of processors.
 const ALL_WORKERS: &str = "auto";
 
-/// A film to be solved, and how.
+/// A film to be solved, and the options of its search.
 #[derive(Drop)]
 pub struct SolveJob {
-    /// The file that has the film.
+    /// The film's file.
     pub file: String,
-    /// How many workers search, 1 to 64, or as many as there are processors if it isn't said.
+    /// Number of workers, 1 to 64; none stands for the number of processors.
     pub workers: Option<u64>,
     /// The greatest number of lines, 1 to 16,777,216.
     pub nodes: u64,
-    /// How many entries the table has, 64 to 4,194,304.
+    /// Number of entries of the transposition table, 64 to 4,194,304.
     pub table: u64,
-    /// How often the order that the search begins with is varied, 0 to 100,000,000, where the words say it.
+    /// Number of local-search moves on the initial order, 0 to 100,000,000, if the words give it.
     pub tries: Option<u64>,
-    /// In how many steps the bound is raised before the search, 1 to 1,000; nothing where the bound isn't raised so.
+    /// Number of steps in which a search by layers raises the bound, 1 to 1,000; none for a depth-first search, and if
+    /// `auto` holds.
     pub steps: Option<u64>,
-    /// The static bound.
+    /// The kind of static bounds.
     pub kind: Kind,
-    /// Whether the plan's line rows are printed.
+    /// Whether the plan's line rows (its proof) are printed.
     pub proof: bool,
-    /// Whether it is told on standard error how the search gets on.
+    /// Whether the progress of the search is printed on standard error.
     pub progress: bool,
-    /// Whether several workers take tasks from a queue of their own first, and then from the others'.
+    /// Whether several workers have queues of tasks and steal from one another.
     pub steal: bool,
-    /// Whether the program chooses the bounds and the steps. Then the words say no table, steps, bounds or stealing.
+    /// Whether the program chooses the bounds and the steps. If so, the words don't give the table, steps, bounds or
+    /// stealing.
     pub auto: bool,
 }
 
-/// The job to solve that the words behind `solve` name.
+/// Reads the words that follow `solve`, and returns the job. It fails with `BadWords` or `Memory`.
 pub(crate) fn solve_job(alloc: Global, later: &[String]) -> Result<SolveJob, WordsFault>
     ensures named { IfOk result (λ job. NameSolve (codes "solve" ∷ texts later.now) (solve_data job)) }
     ensures bad { IfErr result (λ e. e ≡ NoJob → (job : SolveData)
@@ -148,8 +150,8 @@ pub(crate) fn solve_job(alloc: Global, later: &[String]) -> Result<SolveJob, Wor
     })
 }
 
-/// Whether the items leave the bounds and the steps to the program. `BadWords` if they do, but also say one of the
-/// options that it then chooses.
+/// Tells whether the items leave the bounds and the steps to the program. It fails with `BadWords` if they do, but also
+/// give one of the options that the program then chooses.
 fn auto_of(items: &[Item]) -> Result<bool, WordsFault>
     ensures flag { IfOk result (λ auto. IsTrue auto ↔ Contains (items_data items.now) (AFlag auto_flag)) }
     ensures chosen { IfOk result (λ auto. auto ≡ true → LeavesOpen (items_data items.now)) }
@@ -165,19 +167,18 @@ fn auto_of(items: &[Item]) -> Result<bool, WordsFault>
     }
 }
 
-/// Whether the items say none of the options that `--auto` leaves to the program.
+/// Tells whether the items give none of the options that `--auto` leaves to the program.
 fn leaves_open(items: &[Item]) -> bool
     ensures { IsTrue result ↔ LeavesOpen (items_data items.now) }
 {
-    // Without short circuits the result is one formula of four tests, and one lemma proves it.
+    // Without short circuits the result is one formula of four tests, so one lemma proves it.
     is_left_out(items, TABLE.name)
         & is_left_out(items, STEPS.name)
         & is_left_out(items, BOUNDS.name)
         & !has_flag(items, STEAL)
 }
 
-/// The greatest number of lines that the items say. Its default is less where the program chooses the bounds and the
-/// steps.
+/// Returns the greatest number of lines. Its default is less if the program chooses the bounds and the steps.
 fn nodes_of(items: &[Item], auto: bool) -> Result<u64, WordsFault>
     requires { AreDistinct (options_in (items_data items.now)) }
     ensures ok { IfOk result (IsChosen (nodes_for auto) (items_data items.now)) }
@@ -190,7 +191,7 @@ fn nodes_of(items: &[Item], auto: bool) -> Result<u64, WordsFault>
     }
 }
 
-/// How many workers the items say, or none if they are to be as many as there are processors.
+/// Returns the number of workers, or none if the items ask for as many as there are processors.
 fn workers_of(items: &[Item]) -> Result<Option<u64>, WordsFault>
     requires { AreDistinct (options_in (items_data items.now)) }
     ensures ok { IfOk result (AreWorkers (items_data items.now)) }
@@ -206,7 +207,7 @@ fn workers_of(items: &[Item]) -> Result<Option<u64>, WordsFault>
     }
 }
 
-/// The static bound that this word stands for.
+/// Returns the kind of static bounds that this word names.
 pub(crate) fn kind_of(word: &str) -> Kind
     requires { Contains bounds_option.choices word.now }
     ensures { bound_word result ≡ word.now }

@@ -1,11 +1,11 @@
-// What a search has at its end.
+// The result of a search.
 
 use strip_film::Line;
 
-/// What a search has at its end: an order of the film's scenes and what it costs, in units of money; a bound,
-/// in the same units, that no order pays less than; how many lines it held; these lines, in the order in
-/// which they were enlisted, each a set of scenes with a bound on the cost of finishing it; and whether it
-/// was cut short, as there were as many lines as may be.
+/// The result of a search: an order of the film's scenes, its cost in units of money, and a lower bound of every
+/// order's cost, in units of money. `held` is the number of lines, and `lines` has them in the order of their creation.
+/// A line is a set of scenes with a lower bound of the cost of finishing it. `spent` tells whether the search was cut
+/// short because the line budget is used up.
 #[derive(Debug, Drop)]
 pub struct Ended {
     pub order: Vec<u8>,

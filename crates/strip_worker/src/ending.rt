@@ -22,8 +22,9 @@ use strip_hand::Hand;
 use strip_io::Memory;
 use strip_lines::laws::the_rules_are_true;
 
-/// Closes the front up, once each part was claimed and worked in, and answers the number to which the line
-/// of all scenes was raised, in units of money. It answers `Memory` only where the hand was refused it.
+/// Raises the lines of the front (search frontier), after each part was claimed and worked on. It returns the bound to
+/// which it raised the line of all scenes, in units of money. It fails with `Memory` only if the hand was refused
+/// memory.
 pub fn close<H: Hand, F: Fn(u64, u64) -> u64>(
     kept: &StoredBound<F>,
     hand: &mut H,
@@ -47,10 +48,9 @@ pub fn close<H: Hand, F: Fn(u64, u64) -> u64>(
     Ok(number)
 }
 
-/// Tells how a search ended, by what it left: its best path, its lines, the number that closing its front
-/// up answered, and whether it was cut short. The lines are moved, and the order is copied; a turn for
-/// each line where it was cut short. Of any hand by which the search was closed and settled so, it ended as
-/// `EndsFrom` says, at no more than the least cost that the hand was told.
+/// Makes the result of a search from its best path, its lines, the bound that `close` returned, and whether it was cut
+/// short. It moves the lines, copies the order, and takes a turn for each line if the search was cut short. If a hand
+/// has closed and settled the search, `EndsFrom` holds of the result.
 pub fn tell<F: Fn(u64, u64) -> u64>(
     alloc: Global,
     kept: &StoredBound<F>,
@@ -79,8 +79,8 @@ pub fn tell<F: Fn(u64, u64) -> u64>(
     })
 }
 
-/// What is known of all scenes: the number that closing the front up answered, unless the search was cut
-/// short; then a turn for each line.
+/// Returns the bound known of all scenes: the number that `close` returned. If the search was cut short, it looks
+/// through the lines instead, with a turn for each.
 fn whole_bound<F: Fn(u64, u64) -> u64>(
     kept: &StoredBound<F>,
     lines: &[Line],
@@ -99,7 +99,7 @@ fn whole_bound<F: Fn(u64, u64) -> u64>(
     }
 }
 
-/// The greatest of the static bound of all scenes and the bounds of the lines of them.
+/// Returns the greatest of the static bound of all scenes and the bounds of their lines.
 fn known_of_all<F: Fn(u64, u64) -> u64>(kept: &StoredBound<F>, lines: &[Line]) -> u64
     requires { Keeps (F.pre kept.now.f) (F.post kept.now.f) kept.now.kind kept.now.film.now }
     ensures { result ≡ known (rules_of kept.now.kind kept.now.film.now) lines.now (all_scenes kept.now.film.now) }

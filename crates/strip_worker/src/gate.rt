@@ -1,10 +1,10 @@
-// What is told of a search on its way.
+// Reports of a running search.
 
 use strip_hand::Tally;
 use strip_kind::Kind;
 
-/// How a search stands: what the best order costs, and the bound of all orders that is proved so far, if there is
-/// one, in units of money; how many lines there are, and how many there may be.
+/// The state of a search: the best order's cost and the bound of all orders proved so far, if there is one, in units of
+/// money. There are `lines` lines, out of at most `most`.
 #[derive(Clone, Copy, Debug)]
 pub struct Standing {
     pub cost: u64,
@@ -13,8 +13,8 @@ pub struct Standing {
     pub most: u32,
 }
 
-/// A limit that a search by layers reached: its number, counted in whole steps, how many steps there are, and how the
-/// search stands.
+/// A limit that a search by layers reached: its number, counted in whole steps, the number of steps, and the state of
+/// the search.
 #[derive(Clone, Copy, Debug)]
 pub struct Limit {
     pub number: u64,
@@ -22,30 +22,31 @@ pub struct Limit {
     pub standing: Standing,
 }
 
-/// A stage of a search that has ended: the kind of its static bounds, and how the search stands.
+/// A finished stage of a search: the kind of its static bounds, and the state of the search.
 #[derive(Clone, Copy, Debug)]
 pub struct Stage {
     pub kind: Kind,
     pub standing: Standing,
 }
 
-/// What is told of a search on its way, by any of its workers; a worker goes on once the call returns.
+/// An observer of a running search, called by any of its workers. A worker goes on once the call returns.
 pub trait Gate: Sync {
-    /// The front was gone down: so many tasks are asked for, and so many workers walk them. It is called
-    /// once, before the first task.
+    /// Reports that the front was gone down: `wanted` tasks (subproblems) are to be walked by `workers` workers. It is
+    /// called once, before the first task.
     fn opened(&self, wanted: u32, workers: u32);
 
-    /// This worker, by number, begins the task of this part, where the search stands so. No bound is proved yet.
+    /// Reports that a worker, by number, begins the task of a part, and the state of the search. No bound is proved
+    /// yet.
     fn enter(&self, worker: u32, part: u32, standing: &Standing);
 
-    /// A search by layers reached this limit.
+    /// Reports that a search by layers reached a limit.
     fn reached(&self, limit: &Limit);
 
-    /// A stage of the search has ended.
+    /// Reports that a stage of the search has ended.
     fn ended(&self, stage: &Stage);
 }
 
-/// A gate that holds nobody.
+/// An observer that does nothing.
 #[derive(Drop)]
 pub struct OpenGate;
 
@@ -59,7 +60,7 @@ impl Gate for OpenGate {
     fn ended(&self, _stage: &Stage) {}
 }
 
-/// A worker of a search: its number, and the gate that it goes through.
+/// A worker of a search: its number and its observer.
 #[derive(Drop)]
 pub struct Worker<'g, G: Gate> {
     pub gate: &'g G,
@@ -67,7 +68,7 @@ pub struct Worker<'g, G: Gate> {
 }
 
 impl<'g, G: Gate> Worker<'g, G> {
-    /// Begins the task of this part, where the search has come so far.
+    /// Reports that the worker begins the task of a part, with the state of the search.
     pub(crate) fn begin(&self, part: u32, tally: Tally) {
         let standing = Standing {
             cost: tally.cost,

@@ -1,5 +1,5 @@
-//! The whole search of a film: what a worker does in it by any hand, how it ends, with a bound that is true
-//! of every order, and the search by one worker.
+//! The whole branch-and-bound search of a film: a worker's steps through any hand (a worker's view of the shared
+//! state), and the search by one worker. It ends with a proved lower bound of the cost of every order.
 #![tactic(auto)]
 
 mod ended;

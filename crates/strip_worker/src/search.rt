@@ -27,14 +27,13 @@ use strip_io::Memory;
 use strip_memo::Memo;
 use strip_world::{Limits, World};
 
-/// How many scenes a task has, where one worker walks them all.
+/// Number of scenes of a task if one worker walks all tasks.
 const TASK_SCENES: usize = 2;
 
-/// Searches the film for a cheapest order, with one worker: it goes down the front, walks each task that is
-/// asked for, and closes the front up. It begins with a complete path, holds at most `cap` lines, at most
-/// 16,777,216, and its table has so many entries, 64 to 4,194,304. The time may grow with the number of
-/// open paths of the film that the start leaves. The memo then has the static bounds that were asked for
-/// last.
+/// Searches for a cheapest order of the film with one worker: it goes down the front, walks each wanted task, and
+/// raises the front's lines. It begins with a complete path and holds at most `cap` lines, at most 16,777,216. Its
+/// table has `entries` entries, 64 to 4,194,304. The time may grow with the number of open paths that the initial path
+/// leaves. Afterwards the memo has the static bounds that were requested last.
 pub fn alone<F: Fn(u64, u64) -> u64>(
     alloc: Global,
     kept: &StoredBound<F>,
@@ -57,7 +56,7 @@ pub fn alone<F: Fn(u64, u64) -> u64>(
     alone_through(alloc, kept, memo, start, cap, entries, &OpenGate)
 }
 
-/// Searches as `alone` does, where the gate is told how the worker, whose number is 0, gets on.
+/// Searches as `alone` does, and reports progress to the gate. The worker's number is 0.
 pub fn alone_through<F: Fn(u64, u64) -> u64, G: Gate>(
     alloc: Global,
     kept: &StoredBound<F>,
@@ -94,13 +93,13 @@ pub fn alone_through<F: Fn(u64, u64) -> u64, G: Gate>(
     tell(alloc, kept, &best, world.into_lines(), number, walked.spent)
 }
 
-/// How many tasks of the front are asked for.
+/// Returns the number of tasks that are to be walked.
 pub fn asked_for(front: &Front) -> u32 {
     let wanted = front.wanted.iter().filter(|wanted| **wanted);
     u32::try_from(wanted.count()).unwrap_or(u32::MAX)
 }
 
-/// The world that the search opens with, where the worker has claimed the front.
+/// Returns the initial world (the whole search state), in which the worker has claimed the front.
 fn open<F: Fn(u64, u64) -> u64>(
     alloc: Global,
     kept: &StoredBound<F>,

@@ -1,4 +1,4 @@
-// What the walks of the tasks have found so far.
+// Results of the walks of the tasks so far.
 ghost use Rattle.std.specs.Prelude.{◌≡◌, ◌<◌, ◌||◌, ℕ, false, List, IfOk, length, max, replicate, slice_index};
 ghost use Rattle.strip_hand.specs.Hand.{HandData};
 ghost use Rattle.strip_front.specs.Front.{FrontData};
@@ -9,8 +9,8 @@ use std::alloc::Global;
 use strip_front::Front;
 use strip_io::Memory;
 
-/// For each task a number that is at most the cost of finishing what remains after it, in units of money, 0
-/// where nothing was found; and whether the front or a walk was cut short.
+/// For each task a lower bound of its remaining cost, in units of money, or 0 if it has no result; and whether the
+/// front or a walk was cut short.
 #[derive(Debug, Drop)]
 pub struct Walked {
     pub found: Vec<u64>,
@@ -18,9 +18,8 @@ pub struct Walked {
 }
 
 impl Walked {
-    /// What a worker begins with: nothing was found of any task of the front, and nothing was cut short. So
-    /// it has worked where it claimed nothing yet, and the front was gone down by another hand and wasn't cut
-    /// short.
+    /// Returns a worker's initial results: 0 for each task of the front, and nothing cut short. They fit a worker that
+    /// has claimed nothing, if another hand went down the front and wasn't cut short.
     pub fn new(alloc: Global, front: &Front) -> Result<Walked, Memory>
         ensures found { IfOk result (λ walked. walked.found.items ≡ replicate (length (front_data front.now).tasks) 0) }
         ensures spent { IfOk result (λ walked. walked.spent ≡ false) }
@@ -36,9 +35,8 @@ impl Walked {
     }
 }
 
-/// Puts what another worker found to what one has: of each task the greater number, and cut short where
-/// either was. A hand that takes over from both has then worked so, if each of them has. A turn for each
-/// task.
+/// Merges two workers' results: the greater bound of each task; `spent` if either was. If each hand has worked with its
+/// results, a hand that takes over from both has worked with the merged ones. It takes a turn for each task.
 pub fn merge(into: &mut Walked, from: &Walked)
     requires { length into.old.found.items ≡ length from.now.found.items }
     ensures long { length into.new.found.items ≡ length into.old.found.items }

@@ -1,4 +1,4 @@
-// What a worker does in a search: the way down the front, and the tasks.
+// A worker's share of a search: the way down the front, and the tasks.
 ghost use Rattle.std.specs.Prelude.{◌≡◌, IfErr, IfOk};
 ghost use Rattle.strip_io.specs.Counts.{Rose};
 ghost use Rattle.strip_bound.specs.StoredBound.{Keeps};
@@ -22,9 +22,9 @@ use strip_io::Memory;
 use strip_memo::Memo;
 use strip_walk::{Found, explore};
 
-/// Goes down the front, which the hand has claimed and nothing else, and answers what was found: nothing of
-/// any task yet, and whether the front was cut short. The hand has worked so where it knows no more lines
-/// than it made on the way. It takes a number for each task, and then the calls of `go_down`.
+/// Goes down the front, the only part that the hand has claimed, and returns 0 for each task and whether the front was
+/// cut short. `HasWorked` holds if the hand knows only lines that it made on the way. It takes a number for each task,
+/// and the calls of `go_down`.
 pub fn go_down_front<H: Hand, F: Fn(u64, u64) -> u64>(
     alloc: Global,
     kept: &StoredBound<F>,
@@ -48,10 +48,10 @@ pub fn go_down_front<H: Hand, F: Fn(u64, u64) -> u64>(
     Ok(walked)
 }
 
-/// Claims parts until none is left, and walks each task that is asked for, which the worker's gate is told
-/// of; with the front, which the caller went down, it does nothing. `walked` is what the hand found before,
-/// and then what it has found. It answers `Memory` only where the hand was refused it. The time may grow
-/// with the number of open paths that the start leaves.
+/// Claims parts until none is left, and walks each wanted task, after a report to the worker's gate. It skips the
+/// front, since the caller went down it. `walked` has the hand's earlier results, and then also the new ones. It fails
+/// with `Memory` only if the hand was refused memory. The time may grow with the number of open paths that the initial
+/// path leaves.
 pub fn work<H: Hand, F: Fn(u64, u64) -> u64, G: Gate>(
     kept: &StoredBound<F>,
     hand: &mut H,
@@ -79,7 +79,7 @@ pub fn work<H: Hand, F: Fn(u64, u64) -> u64, G: Gate>(
     Ok(())
 }
 
-/// Walks the task of a part that was claimed, where it is asked for.
+/// Walks the task of a claimed part, if it is wanted.
 fn walk_part<H: Hand, F: Fn(u64, u64) -> u64, G: Gate>(
     kept: &StoredBound<F>,
     hand: &mut H,
@@ -118,7 +118,7 @@ fn walk_part<H: Hand, F: Fn(u64, u64) -> u64, G: Gate>(
     Ok(())
 }
 
-/// Walks a task from its path on, where `part` is its number among the parts of the search.
+/// Walks a task from its path on. `part` is its number among the parts of the search.
 fn walk<H: Hand, F: Fn(u64, u64) -> u64>(
     kept: &StoredBound<F>,
     hand: &mut H,

@@ -1,4 +1,4 @@
-// Whether the words ask that it be told how the search gets on.
+// The request for progress rows.
 ghost use Rattle.std.specs.Prelude.{◌≡◌, ◌↔◌, true, IfOk};
 ghost use Rattle.strip_words.specs.Shown.{job_data, texts};
 ghost use Rattle.stripboard.specs.Asking.{AskForProgress, is_told};
@@ -8,7 +8,7 @@ use strip_io::Memory;
 use strip_words::laws::words_name_one_job;
 use strip_words::{Job, WordsFault, job};
 
-/// Whether the words name a job to solve of which it is to be told how it gets on.
+/// Tells whether the words name a job to solve that asks for progress rows.
 pub(crate) fn ask_for_progress(alloc: Global, words: &[String]) -> Result<bool, Memory>
     ensures { IfOk result (λ asked. (asked ≡ true) ↔ AskForProgress (texts words.now)) }
 {

@@ -1,4 +1,5 @@
-//! Prints the shooting order of a film that costs least.
+//! The program `stripboard`: an exact solver for talent scheduling. It prints a cheapest shooting order of a film, or
+//! its best order with a proved lower bound.
 #![tactic(auto)]
 
 mod asking;

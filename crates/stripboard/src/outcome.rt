@@ -1,4 +1,4 @@
-// A run of the program over a host, and how it ends.
+// A run of the program over a host.
 ghost use Rattle.std.specs.Prelude.{◌≡◌, IfOk, OnErr};
 ghost use Rattle.std.specs.Process.{exit_status};
 ghost use Rattle.strip_answer.specs.Headline.{IsHeadline};
@@ -16,8 +16,8 @@ use strip_io::Memory;
 use strip_progress::Progress;
 use strip_worker::{Gate, OpenGate};
 
-/// Runs the program `stripboard` with the words, files and output of this host, and gives its exit code. Where the words
-/// ask for it, it is told on standard error how the search gets on; else nothing is written there.
+/// Runs the program `stripboard` with the words, files and output of this host, and returns its exit code. It prints
+/// progress rows on standard error only if the words ask for them.
 pub fn run<R: rt::Files + Input + Print + Eprint + AllocGlobal + Threads + Wait + Sync>(
     rt: &R,
     host: &mut Host<R>,
@@ -28,7 +28,7 @@ pub fn run<R: rt::Files + Input + Print + Eprint + AllocGlobal + Threads + Wait 
     exit_code(run_host(rt, host))
 }
 
-/// Runs the program, and gives its status.
+/// Runs the program, and returns its status.
 fn run_host<R: rt::Files + Input + Print + Eprint + AllocGlobal + Threads + Wait + Sync>(
     rt: &R,
     host: &mut Host<R>,
@@ -45,7 +45,7 @@ fn run_host<R: rt::Files + Input + Print + Eprint + AllocGlobal + Threads + Wait
     }
 }
 
-/// Runs the program, and gives its status. The gate is told how a search gets on.
+/// Runs the program with reports of the search to the gate, and returns its status.
 fn run_through<R: rt::Files + Input + Print + AllocGlobal + Threads + Wait + Sync, G: Gate>(
     rt: &R,
     host: &mut Host<R>,

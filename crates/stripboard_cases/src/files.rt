@@ -1,4 +1,4 @@
-// The files at hand in a case.
+// The files that are available in a case.
 ghost use Rattle.std.specs.Prelude.{◌≡◌, ◌≤◌, ◌++◌, [], length, Ok, None, IfOk, IfSome, OnOk, string_bytes};
 ghost use Rattle.strip_io.specs.Held.{held_data};
 ghost use Rattle.strip_cases.specs.Met.{IsHeld};
@@ -8,9 +8,9 @@ use std::alloc::{AllocError, AllocFailed, Global};
 use strip_cases::{Base, Given, Held};
 use strip_io::{MemFiles, Memory};
 
-/// Why a file can't be given.
+/// A reason why a file can't be given.
 enum Lack {
-    /// The file of this name isn't at hand, or hasn't the row.
+    /// The file of this name isn't available, or doesn't have the row.
     File(String),
     Memory,
 }
@@ -27,8 +27,8 @@ impl<T: Drop> From<AllocFailed<T>> for Lack {
     }
 }
 
-/// Holds a given file, or answers the name of the file that it is made from and that isn't at hand, or hasn't
-/// the row.
+/// Stores a given file. If the file that it is made from isn't available, or doesn't have the row, it returns that
+/// file's name.
 pub(crate) fn give(
     alloc: Global,
     files: &mut Vec<Held>,
@@ -45,7 +45,7 @@ pub(crate) fn give(
     Ok(None)
 }
 
-/// The bytes of a given file.
+/// Returns the bytes of a given file.
 fn bytes_given(alloc: Global, files: &[Held], given: &Given) -> Result<Vec<u8>, Lack>
     ensures { IfOk result (λ bytes. HasBytes files.now given.now.base given.now.text.items bytes.items) }
 {
@@ -64,7 +64,7 @@ fn bytes_given(alloc: Global, files: &[Held], given: &Given) -> Result<Vec<u8>, 
     }
 }
 
-/// Holds the bytes under the name, in place of those that it had.
+/// Stores the bytes under the name, in place of its earlier bytes.
 pub(crate) fn hold(files: &mut Vec<Held>, name: String, bytes: Vec<u8>) -> Result<(), Memory>
     ensures { OnOk result (IsNowHeld (string_bytes name) bytes.items files.old.items files.new.items) }
 {
@@ -73,7 +73,7 @@ pub(crate) fn hold(files: &mut Vec<Held>, name: String, bytes: Vec<u8>) -> Resul
     Ok(())
 }
 
-/// The bytes of a file at hand.
+/// Returns the bytes of an available file.
 fn bytes_at_hand<'a>(files: &'a [Held], name: &String) -> Result<&'a [u8], Lack>
     ensures { IfOk result (λ bytes. IsHeld files.now (string_bytes name.now) bytes.now) }
 {
@@ -93,7 +93,7 @@ fn behind(alloc: Global, front: &[u8], text: &[u8]) -> Result<Vec<u8>, AllocErro
     Ok(bytes)
 }
 
-/// The text with other rows in place of one of its rows; none where it hasn't so many.
+/// Returns the text with `rows` in place of one of its rows, or none if it has fewer rows.
 fn within(
     alloc: Global,
     text: &[u8],
@@ -109,7 +109,7 @@ fn within(
     Ok((row <= number).then_some(bytes))
 }
 
-/// The files as a source whose reads give at most `piece` bytes each, and in which these reads fail.
+/// Makes a source of the files. A read returns at most `piece` bytes, and the reads with these numbers fail.
 pub(crate) fn source(
     alloc: Global,
     files: &[Held],

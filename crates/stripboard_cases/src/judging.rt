@@ -1,4 +1,4 @@
-// Case files that are judged: each of their cases is run.
+// Case files, of which all cases are run.
 ghost use Rattle.std.specs.Prelude.{◌≡◌, ◌↔◌, ◌+◌, ◌-◌, ◌^◌, ◌≤◌, min, false, List, [], ◌∷◌, ◌++◌, length, Option, Some, IfOk, IfSome, OnOk, string_bytes};
 ghost use Rattle.strip_words.specs.Shown.{texts};
 ghost use Rattle.strip_answer.specs.Run.{run_data};
@@ -13,10 +13,10 @@ use std::thread::Threads;
 use strip_cases::{Case, CaseFault, Cases, Given, Wrong, read_cases};
 use strip_io::{Failed, Files, LoadFault, Memory, Sink, load, send};
 
-/// How long a case file may be, in bytes.
+/// The greatest size of a case file, in bytes.
 const LONGEST: u64 = 16_777_216;
 
-/// How many cases were run, how many of them differ, and whether a file couldn't be read.
+/// Number of cases run and of those that differ, and whether a file couldn't be read.
 #[derive(Clone, Copy)]
 struct Tally {
     cases: u64,
@@ -24,9 +24,9 @@ struct Tally {
     is_unread: bool,
 }
 
-/// Runs all cases of the files with these names, and sends a row for each case that differs and for each file
-/// that can't be read, of which nothing is run, and a last row of how many. The status is 0 where none differs,
-/// 1 where some do, 2 where a file can't be read, and 8 where the rows can't be sent.
+/// Runs all cases of the named files. It sends a row for each case that differs, a row for each file that can't be
+/// read, and a last row with the counts. No case of an unreadable file is run. The status is 0 if no case differs, and
+/// 1 if some do. It is 2 if a file can't be read, and 8 if the rows can't be sent.
 pub fn judge<R: Threads + Wait + Sync, F: Files, S: Sink>(
     rt: &R,
     alloc: Global,
@@ -55,14 +55,14 @@ pub fn judge<R: Threads + Wait + Sync, F: Files, S: Sink>(
     }
 }
 
-/// The row that says how many cases were run, and how many of them differ.
+/// Returns the row with the number of cases run and of those that differ.
 fn last_row(alloc: Global, cases: u64, differing: u64) -> Result<String, AllocError>
     ensures { IfOk result (λ row. string_bytes row ≡ last_row cases differing) }
 {
     format!(in alloc; "{cases} cases, {differing} differ\n")
 }
 
-/// The status is 0 exactly where each file was read and no case differs.
+/// Returns the status: 0 exactly if each file was read and no case differs.
 fn status_of(tally: Tally) -> u8
     ensures zero { (result ≡ 0) ↔ ((tally.differing ≡ 0) × (tally.is_unread ≡ false)) }
     ensures status { result ≡ end_status tally.differing tally.is_unread }
@@ -76,7 +76,7 @@ fn status_of(tally: Tally) -> u8
     }
 }
 
-/// The rows of a case file: its fault, or a row for each case that differs.
+/// Returns the rows of a case file: its fault, or a row for each case that differs.
 fn judge_file<R: Threads + Wait + Sync, F: Files>(
     rt: &R,
     alloc: Global,
@@ -100,7 +100,7 @@ fn judge_file<R: Threads + Wait + Sync, F: Files>(
     }
 }
 
-/// The cases of a file of this name.
+/// Reads the cases of the file with this name.
 fn cases_of<F: Files>(alloc: Global, files: &mut F, name: &str) -> Result<Cases, CaseFault>
     ensures told { (F.state files.new).bytes ≡ (F.state files.old).bytes }
     ensures read { IfOk result (IsReadFrom ((F.state files.old).bytes name.now)) }
@@ -118,7 +118,7 @@ fn cases_of<F: Files>(alloc: Global, files: &mut F, name: &str) -> Result<Cases,
     }
 }
 
-/// Runs the cases, and answers a row for each that differs.
+/// Runs the cases, and returns a row for each that differs.
 fn judge_cases<R: Threads + Wait + Sync>(
     rt: &R,
     alloc: Global,
@@ -137,7 +137,7 @@ fn judge_cases<R: Threads + Wait + Sync>(
     Ok(rows)
 }
 
-/// Runs a case, and appends a row where it differs.
+/// Runs a case, and appends a row if it differs.
 fn judge_case<R: Threads + Wait + Sync>(
     rt: &R,
     alloc: Global,

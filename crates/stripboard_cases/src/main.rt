@@ -1,4 +1,5 @@
-//! Runs cases, and tells which of them differ from what they want.
+//! The program `stripboard_cases`: it runs cases (tests of the programs), and prints which of them differ from their
+//! expected results.
 #![tactic(auto)]
 
 mod files;

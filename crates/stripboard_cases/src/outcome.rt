@@ -1,4 +1,4 @@
-// A run of the cases over a host, and how it ends.
+// A run of the program over a host.
 ghost use Rattle.std.specs.Prelude.{◌≡◌, ◌⊎◌, IfOk};
 ghost use Rattle.std.specs.Process.{exit_status};
 ghost use Rattle.strip_host.specs.Run.{run_over};
@@ -13,8 +13,8 @@ use std::thread::Threads;
 use strip_host::{Host, exit_code};
 use strip_io::Memory;
 
-/// Runs the cases of the files that the host's words name, and prints the rows of `judge`. The exit code is
-/// its status, or 9 where memory ran out.
+/// Runs the cases of the files that the host's words name, and prints the rows of `judge`. The exit code is its status,
+/// or 9 if memory ran out.
 pub fn run<R: rt::Files + Input + Print + AllocGlobal + Threads + Wait + Sync>(
     rt: &R,
     host: &mut Host<R>,
@@ -25,7 +25,7 @@ pub fn run<R: rt::Files + Input + Print + AllocGlobal + Threads + Wait + Sync>(
     exit_code(run_cases(rt, host))
 }
 
-/// Runs the program `stripboard_cases`, and gives its status.
+/// Runs the program `stripboard_cases`, and returns its status.
 fn run_cases<R: rt::Files + Input + Print + AllocGlobal + Threads + Wait + Sync>(
     rt: &R,
     host: &mut Host<R>,

@@ -1,4 +1,4 @@
-// Cases that are run.
+// Runs of cases.
 ghost use Rattle.std.specs.Prelude.{◌≡◌, [], Ok, None, Some, IfOk, OnOk};
 ghost use Rattle.strip_io.specs.Held.{held_data};
 ghost use Rattle.strip_io.specs.Memory.{memory_sink_data};
@@ -15,7 +15,7 @@ use strip_cases::{Action, Case, Given, Held, Program, Step, difference};
 use strip_io::{MemFiles, MemSink, Memory};
 use strip_worker::OpenGate;
 
-/// Runs a case, and answers how its first step that differs does. The shared files are at hand in it.
+/// Runs a case with the shared files, and returns how its first differing step differs.
 pub(crate) fn run_case<R: Threads + Wait + Sync>(
     rt: &R,
     alloc: Global,
@@ -31,7 +31,7 @@ pub(crate) fn run_case<R: Threads + Wait + Sync>(
     }
 }
 
-/// Holds the given files, and answers which couldn't be made.
+/// Stores the given files, and returns a message on the first that couldn't be made.
 fn give_all(alloc: Global, files: &mut Vec<Held>, all: &[Given]) -> Result<Option<String>, Memory>
     ensures { result ≡ Ok None → InTurn IsGiven all.now files.old.items files.new.items }
 {
@@ -43,7 +43,7 @@ fn give_all(alloc: Global, files: &mut Vec<Held>, all: &[Given]) -> Result<Optio
     Ok(None)
 }
 
-/// Gives the files and runs the steps, and answers how the first that differs does.
+/// Stores the files and runs the steps, and returns how the first differing one differs.
 fn do_all<R: Threads + Wait + Sync>(
     rt: &R,
     alloc: Global,
@@ -62,7 +62,7 @@ fn do_all<R: Threads + Wait + Sync>(
     Ok(None)
 }
 
-/// Gives the file or runs the step, which is one more.
+/// Stores the file or runs the step, and counts it in `steps`.
 fn do_action<R: Threads + Wait + Sync>(
     rt: &R,
     alloc: Global,
@@ -92,7 +92,7 @@ fn no_file(alloc: Global, name: &String) -> Result<String, Memory> {
     Ok(format!(in alloc; "no file '{name}', or no such row of it")?)
 }
 
-/// Runs a step, and answers how it differs from what is wanted of it.
+/// Runs a step, and returns how it differs from its expected results.
 fn run_step<R: Threads + Wait + Sync>(
     rt: &R,
     alloc: Global,
@@ -112,7 +112,7 @@ fn run_step<R: Threads + Wait + Sync>(
     difference(alloc, &step.wanted, status, out.taken(), files)
 }
 
-/// Runs the program, and answers its status.
+/// Runs the program, and returns its status.
 fn run_program<R: Threads + Wait + Sync>(
     rt: &R,
     alloc: Global,
@@ -131,7 +131,7 @@ fn run_program<R: Threads + Wait + Sync>(
     }
 }
 
-/// Holds what was printed under the name, where there is one.
+/// Stores the output under the name, if there is one.
 fn keep(
     alloc: Global,
     files: &mut Vec<Held>,

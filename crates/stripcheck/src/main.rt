@@ -1,4 +1,4 @@
-//! Tells whether a plan's lines justify its bound.
+//! The program `stripcheck`: a checker that accepts a plan (certificate) if its lines justify its bound.
 #![tactic(auto)]
 
 mod outcome;

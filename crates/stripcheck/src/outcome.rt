@@ -1,4 +1,4 @@
-// A run of the program over a host, and how it ends.
+// A run of the program over a host.
 ghost use Rattle.std.specs.Prelude.{◌≡◌};
 ghost use Rattle.std.specs.Process.{exit_status};
 ghost use Rattle.strip_answer.specs.Headline.{IsHeadline};
@@ -11,7 +11,7 @@ use std::rt;
 use strip_check_command::report;
 use strip_host::Host;
 
-/// Runs the program `stripcheck` with the words, files and output of this host, and gives its exit code.
+/// Runs the program `stripcheck` with the words, files and output of this host, and returns its exit code.
 pub fn run<R: rt::Files + Input + Print + AllocGlobal>(rt: &R, host: &mut Host<R>) -> ExitCode
     ensures headline { IsHeadline audit_claims (run_over (texts host.old.words.items) host.old.files.held
         host.new.files.held host.old.out.faults host.new.out.faults) (exit_status result) }

@@ -1,4 +1,4 @@
-// Films of the rows, and their bounds with arrivals.
+// Films from the rows of tables, and their bounds with arrivals.
 ghost use Rattle.strip_bound.specs.Tables.{AreTables};
 
 use std::alloc::Global;
@@ -9,7 +9,7 @@ use strip_kind::Kind;
 use strip_mask::Mask;
 use strip_pay::Pair;
 
-/// The film of these lists.
+/// Makes the film of these lists.
 pub(crate) fn film_of(
     alloc: Global,
     casts: &[u64],
@@ -27,14 +27,15 @@ pub(crate) fn film_of(
     Ok(film)
 }
 
-/// The bound of the set, none where it has a number that is no scene.
+/// Returns the bound with arrivals of the set, or none if the set has a number that is no scene.
 pub(crate) fn kept_bound(film: &Film, tables: &BoundTables, set: Mask) -> Option<u64>
     requires { AreTables film.now tables.now }
 {
     kept_reach(film, tables, set, u64::MAX)
 }
 
-/// A number as far as is needed, or the bound.
+/// Returns the bound with arrivals, or a lower bound of it that reaches `need`; none if the set has a number that is no
+/// scene.
 pub(crate) fn kept_reach(film: &Film, tables: &BoundTables, set: Mask, need: u64) -> Option<u64>
     requires { AreTables film.now tables.now }
 {

@@ -1,5 +1,5 @@
-// What a group and one newcomer are paid for waiting at least, along all lists of the set. Another program
-// tried every list.
+// The least pay for waiting of a group and one newcomer, over all lists of a set. An independent program tried every
+// list.
 use crate::values::value_of;
 use std::alloc::Global;
 use std::test::Fail;
@@ -172,7 +172,7 @@ fn one_newcomer_is_paid_what_the_cheapest_list_pays(rt: HostRuntime) -> Result<(
     Ok(())
 }
 
-/// Whether the company keeps the limits and has this value.
+/// Tells whether the company keeps the limits and has this value.
 fn has_least(alloc: Global, company: &Company) -> Result<bool, Memory> {
     let (set, group) = (Mask(company.set), Mask(company.group));
     let newcomer = Mask(company.newcomer);

@@ -1,4 +1,4 @@
-// Values of small films, and of films at the limits, that another program worked out from the definition.
+// Values of small films, and of films at the limits, which an independent program computed from the definition.
 use crate::values::value_of;
 use std::alloc::Global;
 use std::test::Fail;
@@ -541,7 +541,7 @@ fn films_at_the_limits_have_their_values(rt: HostRuntime) -> Result<(), Fail> {
     Ok(())
 }
 
-/// Whether the film keeps the limits and its group and newcomers have this value.
+/// Tells whether the film keeps the limits and its group and newcomers have this value.
 fn has_value(alloc: Global, film: &Film) -> Result<bool, Memory> {
     let (set, group, newcomers) = (Mask(film.set), Mask(film.group), Mask(film.newcomers));
     let value = value_of(

@@ -1,5 +1,5 @@
-// The bound with arrivals of every set of small films, and what finishing the sets costs at least. Another
-// program worked out both, by the definition and by trying what is shot first.
+// The bound with arrivals of every set of small films, and the least cost of finishing the set. An independent program
+// computed both, by the definition and by trying every first scene.
 ghost use Rattle.strip_bound.specs.Tables.{AreTables};
 ghost use Rattle.strip_film.specs.Film.{LiesIn};
 
@@ -10,7 +10,7 @@ use strip_bound::BoundTables;
 use strip_film::{Film, step};
 use strip_mask::Mask;
 
-// A film, the sum of the bounds of all its sets, and the sum of what finishing them costs.
+// A film, the sum of the bounds of all its sets, and the sum of the sets' finishing costs.
 #[derive(Drop)]
 struct Row {
     casts: &'static [u64],
@@ -408,7 +408,7 @@ fn no_bound_of_more_films_is_above_the_cost(rt: HostRuntime) -> Result<(), Fail>
     Ok(())
 }
 
-/// Whether each set's bound is at most what finishing it costs, and both add up to what they should.
+/// Tells whether each set's bound is at most its finishing cost, and both have the expected sums.
 fn is_bounded(alloc: Global, row: &Row) -> Result<bool, Fail> {
     let film = film_of(alloc, row.casts, row.days, row.rates, row.holds, &[])?;
     let tables = BoundTables::of(alloc, &film)?;
@@ -416,7 +416,7 @@ fn is_bounded(alloc: Global, row: &Row) -> Result<bool, Fail> {
     Ok(sums(&film, &tables, costs.as_slice()) == Some((row.bounds, row.costs)))
 }
 
-/// What the bounds of all sets add up to, and these costs; none where a bound is above its cost.
+/// Returns the sum of the bounds of all sets, and the sum of these costs, or none if a bound is greater than its cost.
 fn sums(film: &Film, tables: &BoundTables, costs: &[u64]) -> Option<(u64, u64)>
     requires { AreTables film.now tables.now }
 {
@@ -434,7 +434,7 @@ fn sums(film: &Film, tables: &BoundTables, costs: &[u64]) -> Option<(u64, u64)>
     Some((bounds, total))
 }
 
-/// What finishing each set of at most seven scenes costs at least, by number of the set.
+/// Returns the least finishing cost of each set of at most seven scenes, by the set's number.
 fn costs_of(alloc: Global, film: &Film) -> Result<Vec<u64>, AllocError> {
     film.keeps_limits();
     let mut costs = Vec::new(alloc);
@@ -449,7 +449,7 @@ fn costs_of(alloc: Global, film: &Film) -> Result<Vec<u64>, AllocError> {
     Ok(costs)
 }
 
-/// What finishing the set of at most seven scenes costs at least, by what finishing the sets below it costs.
+/// Returns the least finishing cost of a set of at most seven scenes, from those of the smaller sets.
 fn cost_of(film: &Film, set: Mask, below: &[u64]) -> u64
     requires { LiesIn film.now set.0 }
 {

@@ -1,6 +1,7 @@
-//! Tests: what no clause says of bounds, by calls that no command makes. Bounds and open firsts of small films, worked by hand; the
-//! value of a group and its newcomers, and the bound with arrivals by the newcomers whom each group takes, against values, bounds,
-//! costs and lists that another program worked out; and a store of bounds that workers share.
+//! Tests of static bounds, for properties that no contract states, by calls that no command makes. They cover bounds
+//! and open firsts (successors that the dominance rule lets through) of small films, worked by hand. Values of a group
+//! and its newcomers, and bounds with arrivals, are compared with results of an independent program. A shared store of
+//! bounds is tested with several threads.
 #![tactic(auto)]
 
 #[cfg(test)]

@@ -1,5 +1,5 @@
-// The bound with arrivals by the newcomers whom each group takes: those whom it meets. Another program chose them and
-// worked out the bounds by the definition.
+// The bound with arrivals, by the newcomers that each group takes: those who share scenes with it. An independent
+// program chose them and computed the bounds by the definition.
 ghost use Rattle.strip_bound.specs.Tables.{AreTables};
 
 use crate::cases::{film_of, kept_bound};
@@ -20,7 +20,7 @@ struct Row {
     sum: u64,
 }
 
-// Actors at random. Some sets have more newcomers than a group takes, some have one or none.
+// Random actors. Some sets have more newcomers than a group takes, some have one or none.
 static MIXED: [Row; 4] = [
     Row {
         casts: &[0x4, 0xa0, 0xd0, 0x77, 0x5, 0x2],
@@ -56,7 +56,7 @@ static MIXED: [Row; 4] = [
     },
 ];
 
-// Story lines, whose actors share scenes. Some newcomers meet no one of the group.
+// Story lines, whose actors share scenes. Some newcomers share no scene with the group.
 static LINES: [Row; 3] = [
     Row {
         casts: &[0x4c, 0x91, 0x142, 0xa9, 0x103, 0x3c],
@@ -211,7 +211,7 @@ fn has_bounds(alloc: Global, row: &Row) -> Result<bool, Fail> {
     Ok(are_bounds(&film, &tables, row.bounds, row.sum))
 }
 
-/// Whether the sets have these bounds, and all of them this sum.
+/// Tells whether the sets have these bounds, and all sets of the first six scenes have this sum.
 fn are_bounds(film: &Film, tables: &BoundTables, bounds: &[(u64, u64)], sum: u64) -> bool
     requires { AreTables film.now tables.now }
 {
@@ -223,7 +223,7 @@ fn are_bounds(film: &Film, tables: &BoundTables, bounds: &[(u64, u64)], sum: u64
     sum_of(film, tables) == Some(sum)
 }
 
-/// The sum of the bounds of all sets of the first six scenes, none where there are fewer scenes.
+/// Returns the sum of the bounds of all sets of the first six scenes, or none if there are fewer scenes.
 fn sum_of(film: &Film, tables: &BoundTables) -> Option<u64>
     requires { AreTables film.now tables.now }
 {

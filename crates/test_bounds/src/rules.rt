@@ -1,4 +1,4 @@
-// Which scenes are left open to be shot first, worked by hand.
+// Open firsts of small films, worked by hand.
 use crate::cases::film_of;
 use std::alloc::Global;
 use std::test::Fail;
@@ -24,7 +24,7 @@ static ROWS: [Row; 6] = [
         set: 0b110,
         open: 0b110,
     },
-    // Whoever plays in the last scene plays in one of the others, and each of these rules it out.
+    // Each actor of the last scene is in one of the others, and each of these rules the last scene out.
     Row {
         casts: &[0b01, 0b10, 0b11],
         days: &[1, 1, 1],
@@ -32,7 +32,7 @@ static ROWS: [Row; 6] = [
         set: 0b111,
         open: 0b011,
     },
-    // Two equal casts: the lesser rules the greater out.
+    // Two equal casts: the lesser scene rules the greater out.
     Row {
         casts: &[0b1, 0b1],
         days: &[1, 1],
@@ -40,7 +40,7 @@ static ROWS: [Row; 6] = [
         set: 0b11,
         open: 0b01,
     },
-    // The first scene would rule out the second, and waits for the third.
+    // The first scene would rule out the second, but it has to follow the third.
     Row {
         casts: &[0b001, 0b011, 0b100],
         days: &[1, 1, 1],
@@ -55,7 +55,7 @@ static ROWS: [Row; 6] = [
         set: 0b111,
         open: 0b110,
     },
-    // Nothing remains.
+    // No scene remains.
     Row {
         casts: &[0b1],
         days: &[1],
@@ -88,7 +88,7 @@ fn of_two_equal_casts_the_lesser_rules(rt: HostRuntime) -> Result<(), Fail> {
     Ok(())
 }
 
-// None where the set has a number that is no scene.
+// Returns none if the set has a number that is no scene.
 fn opens(film: &Film, set: Mask) -> Option<u64> {
     film.keeps_limits();
     if !set.lies_below(film.scenes() as u32) {

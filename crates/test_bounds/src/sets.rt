@@ -1,7 +1,7 @@
-// Sets of numbers, gone over.
+// Iteration over sets of numbers.
 use strip_mask::{Mask, sum_over};
 
-/// Whether the set has these numbers, in this order.
+/// Tells whether the iteration over the set gives these numbers, in this order.
 fn goes_over(set: Mask, numbers: &[u32]) -> bool {
     if set.size() as usize != numbers.len() || set.iter().count() != numbers.len() {
         return false;

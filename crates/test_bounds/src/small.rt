@@ -1,4 +1,4 @@
-// Bounds of small films that were worked by hand, each asked for through a stored bound.
+// Bounds of small films, worked by hand; each is requested through a stored bound.
 ghost use Rattle.strip_bound.specs.Tables.{AreTables};
 
 use crate::cases::film_of;
@@ -19,7 +19,7 @@ struct Row {
     bounds: [u64; 4],
 }
 
-// The bounds are the plain one, that with pairs, that with groups, and that with arrivals.
+// The bounds are of the kinds plain, pairs, groups and arrivals, in this order.
 static ROWS: [Row; 9] = [
     Row {
         casts: &[0b11, 0b01, 0b10],
@@ -53,7 +53,7 @@ static ROWS: [Row; 9] = [
         set: 0b1110,
         bounds: [3, 4, 6, 6],
     },
-    // Scenes of some days.
+    // Scenes of several days.
     Row {
         casts: &[0b11, 0b01, 0b10],
         days: &[1, 2, 3],
@@ -71,7 +71,7 @@ static ROWS: [Row; 9] = [
         set: 0b111111110,
         bounds: [8, 12, 24, 36],
     },
-    // Seven: three pairs and a single one, a group of six and a single one, or all seven.
+    // Seven: three pairs and a single actor, a group of six and a single one, or all seven.
     Row {
         casts: &[0x7f, 0x01, 0x02, 0x04, 0x08, 0x10, 0x20, 0x40],
         days: &[1; 8],
@@ -91,7 +91,7 @@ static ROWS: [Row; 9] = [
         set: 0x1ffe,
         bounds: [12, 18, 42, 58],
     },
-    // Thirteen: the last one is in a group of his own, or one of the last three.
+    // Thirteen: the last actor is in a group of his own, or in one of the last three.
     Row {
         casts: &[
             0x1fff, 0x01, 0x02, 0x04, 0x08, 0x10, 0x20, 0x40, 0x80, 0x100, 0x200, 0x400, 0x800,
@@ -105,7 +105,7 @@ static ROWS: [Row; 9] = [
     },
 ];
 
-// Every set of three scenes of two actors each, with hold rates of their own.
+// All sets of the triangle, three scenes of two actors each, with hold rates of their own.
 static HELD: [(u64, [u64; 4]); 8] = [
     (0b000, [0, 0, 0, 0]),
     (0b001, [3, 3, 3, 3]),
@@ -117,7 +117,7 @@ static HELD: [(u64, [u64; 4]); 8] = [
     (0b111, [12, 12, 12, 12]),
 ];
 
-// The same where the hold rates are the rates.
+// All sets of the triangle, with hold rates equal to the rates.
 static PAID: [(u64, [u64; 4]); 8] = [
     (0b000, [0, 0, 0, 0]),
     (0b001, [3, 3, 3, 3]),
@@ -129,7 +129,7 @@ static PAID: [(u64, [u64; 4]); 8] = [
     (0b111, [12, 12, 12, 12]),
 ];
 
-/// Whether the sets of the triangle with these hold rates have these bounds.
+/// Tells whether the sets of the triangle with these hold rates have these bounds.
 fn triangle_has_bounds(
     alloc: Global,
     holds: &'static [u64],
@@ -197,7 +197,7 @@ fn are_kept(film: &Film, tables: &BoundTables, set: Mask, bounds: [u64; 4]) -> b
         && kept(film, tables, Kind::Arrivals, set) == Some(arrivals)
 }
 
-// None where the set has a number that is no scene.
+// Returns none if the set has a number that is no scene.
 fn kept_plain(film: &Film, tables: &BoundTables, set: Mask) -> Option<u64>
     requires { AreTables film.now tables.now }
 {

@@ -1,5 +1,6 @@
-// The bound with arrivals where thirteen are on location and none, three or five are still to come, also at
-// the limits of a film, and how far it reaches. Another program worked out the bounds of its stages.
+// The bound with arrivals if thirteen actors are on location, and none, three or five are still to come. Some films are
+// at the limits. Requests are tested that the bound reaches, and others. An independent program computed the bounds of
+// its stages.
 ghost use Rattle.strip_bound.specs.Tables.{AreTables};
 
 use crate::cases::{film_of, kept_bound, kept_reach};
@@ -9,8 +10,8 @@ use strip_bound::BoundTables;
 use strip_film::Film;
 use strip_mask::Mask;
 
-// The stages are the plain bound, then groups of seven with none, one and two newcomers at most, then groups
-// of ten with as many.
+// The stages are the plain bound, then groups of seven with at most none, one and two newcomers, then groups of ten
+// likewise.
 #[derive(Drop)]
 struct Row {
     casts: &'static [u64],
@@ -125,7 +126,7 @@ fn thirteen_on_location_have_their_bound(rt: HostRuntime) -> Result<(), Fail> {
     Ok(())
 }
 
-/// Whether the set has this bound, and it is reached wherever it may be.
+/// Tells whether the set has this bound, and each request is reached exactly if the bound reaches it.
 fn has_bound(alloc: Global, row: &Row) -> Result<bool, Fail> {
     let film = film_of(alloc, row.casts, row.days, row.rates, row.holds, &[])?;
     let tables = BoundTables::of(alloc, &film)?;
@@ -146,7 +147,7 @@ fn is_reached(film: &Film, tables: &BoundTables, set: Mask, stages: [u64; 7], bo
     kept_reach(film, tables, set, 0).is_some() && kept_bound(film, tables, set) == Some(bound)
 }
 
-/// Whether what was reached is no more than the bound, and as far as was needed exactly where the bound is.
+/// Tells whether `reached` is at most the bound, and reaches `need` exactly if the bound does.
 fn is_far_enough(reached: u64, need: u64, bound: u64) -> bool {
     reached <= bound && (reached >= need) == (bound >= need)
 }

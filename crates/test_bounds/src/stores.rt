@@ -1,4 +1,4 @@
-// Stores of the bounds of the triangle, a film of three scenes of two of three actors each.
+// Shared stores of the bounds of the triangle: a film of three scenes and three actors, with two actors in each scene.
 ghost use Rattle.std.specs.Prelude.{◌≡◌};
 ghost use Rattle.strip_film.specs.Film.{LiesIn};
 ghost use Rattle.strip_bound.specs.StoredBound.{Keeps};
@@ -36,7 +36,7 @@ fn all_of(film: &Film) -> Mask
     film.all()
 }
 
-/// What a store answers of all scenes, asked for 1, for the bound and for 1 again.
+/// Returns a store's answers for the set of all scenes, if it is asked for 1, for the bound, and for 1 again.
 fn asked_thrice<R: Wait, N: Bounded, F: Fn(u64, u64) -> u64>(
     rt: &R,
     alloc: Global,
@@ -53,8 +53,7 @@ fn asked_thrice<R: Wait, N: Bounded, F: Fn(u64, u64) -> u64>(
     Ok([first, whole, store.reach(rt, kept, all, 1)])
 }
 
-/// How often the bound is worked out by a store of this kind that is asked thrice; none where an answer is
-/// wrong.
+/// Returns how often a store of this kind computes the bound if it is asked three times, or none if an answer is wrong.
 fn times_asked<R: Wait>(rt: &R, alloc: Global, kind: Kind) -> Result<Option<u64>, Fail> {
     let film = triangle(alloc)?;
     let tables = BoundTables::of(alloc, &film)?;
@@ -92,7 +91,7 @@ fn a_bound_is_worked_out_once(rt: HostRuntime) -> Result<(), Fail> {
     Ok(())
 }
 
-/// What a stored bound answers of a set, asked for each of these in a thread.
+/// Returns the answers of a stored bound for a set, with one thread for each of these requests.
 fn reached<R: Threads + Wait + Sync, F: Fn(u64, u64) -> u64 + Sync>(
     rt: &R,
     kept: &StoredBound<F>,
@@ -113,7 +112,7 @@ fn reached<R: Threads + Wait + Sync, F: Fn(u64, u64) -> u64 + Sync>(
     Ok(all)
 }
 
-/// The same of all scenes, where the threads share a store.
+/// Returns the answers for the set of all scenes, if the threads share a store.
 fn reached_by_store<
     R: Threads + Wait + Sync,
     N: Bounded + Send + Sync,
@@ -138,7 +137,7 @@ fn workers_share_a_store(rt: HostRuntime) -> Result<(), Fail> {
     Ok(())
 }
 
-/// Whether four workers that share a store reach what they ask for.
+/// Tells whether four workers that share a store reach the values that they ask for.
 fn is_shared<R: Threads + Wait + Sync>(rt: &R, alloc: Global) -> Result<bool, Fail> {
     let film = triangle(alloc)?;
     let tables = BoundTables::of(alloc, &film)?;
@@ -164,7 +163,7 @@ fn is_shared_of<R: Threads + Wait + Sync>(
     Ok(are_reached(&all, static_bound(film, tables, kind, all_of(film))))
 }
 
-/// Whether each of four numbers is at most the bound, and the first one is the bound.
+/// Tells whether each of the four numbers is at most the bound, and the first one equals it.
 fn are_reached(all: &[u64], bound: u64) -> bool {
     all.len() == 4 && all.iter().all(|value| *value <= bound) && all[0] == bound
 }

@@ -1,4 +1,4 @@
-// The value of a group and its newcomers, of lists that may break the limits.
+// Values of a group and its newcomers, for lists that may break the limits.
 ghost use Rattle.std.specs.Prelude.{◌≡◌, ℕ, ◌<◌, ◌≤◌, All, IsTrue, false, sum, true};
 ghost use Rattle.strip_mask.specs.Set.{has};
 
@@ -7,7 +7,8 @@ use strip_arrivals::ArrivalsTable;
 use strip_io::Memory;
 use strip_mask::Mask;
 
-/// The value of the group and its newcomers on the set, where the film and they keep the limits.
+/// Returns the value of the group and its newcomers on the set, if the film, the group and the newcomers keep the
+/// limits.
 pub(crate) fn value_of(
     alloc: Global,
     casts: &[u64],
@@ -37,21 +38,21 @@ pub(crate) fn value_of(
     Ok(Some(table.value(set, group, newcomers)))
 }
 
-/// Whether no actor is in both.
+/// Tells whether no actor is in both sets.
 fn are_apart(group: Mask, newcomers: Mask) -> bool
     ensures { IsTrue result → (actor : ℕ) → has newcomers.0 actor ≡ true → has group.0 actor ≡ false }
 {
     group.meet(newcomers).is_empty()
 }
 
-/// Whether each scene has days.
+/// Tells whether each scene has days.
 fn have_days(days: &[u64]) -> bool
     ensures { IsTrue result → All (λ count. 0 < count) days.now }
 {
     days.iter().all(|count| *count > 0)
 }
 
-/// Whether the numbers add up to no more than this.
+/// Tells whether the sum of the numbers is at most `most`.
 fn is_within(numbers: &[u64], most: u64) -> bool
     ensures { IsTrue result → sum numbers.now ≤ most }
 {

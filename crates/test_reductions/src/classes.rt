@@ -1,5 +1,5 @@
-// Instances and the classes that they are reduced to, worked by hand from the three steps: an actor is
-// dropped, two scenes are joined, two actors are joined.
+// Instances and their classes, worked by hand from the three steps of a reduction: to drop an actor, to join two
+// scenes, to join two actors.
 use crate::lists::{Lists, instance_of};
 use std::alloc::Global;
 use std::test::Fail;
@@ -7,7 +7,7 @@ use strip_film::Film;
 use strip_pay::Pair;
 use strip_reduce::reduce;
 
-/// A film, the scenes of each class, what is set apart, and the film of the classes.
+/// A film, the scenes of each class, the cost set apart, and the film of the classes.
 pub(crate) struct Reduction {
     pub(crate) film: Lists,
     classes: &'static [&'static [u16]],
@@ -15,7 +15,7 @@ pub(crate) struct Reduction {
     left: Lists,
 }
 
-// Actors are dropped, and what follows.
+// Actors are dropped, with further steps.
 static DROPS: [Reduction; 6] = [
     // One scene of one actor: he is dropped with its days.
     Reduction {
@@ -55,7 +55,7 @@ static DROPS: [Reduction; 6] = [
             pairs: &[],
         },
     },
-    // Without the actor of one scene the first and the last have equal casts.
+    // Without the actor who has one scene, the first and the last scene have equal casts.
     Reduction {
         film: Lists {
             casts: &[0b0011, 0b0110, 0b0101, 0b1011],
@@ -112,7 +112,7 @@ static DROPS: [Reduction; 6] = [
             pairs: &[],
         },
     },
-    // The actors of one scene, 3 and 4, are dropped before any scenes are joined.
+    // Actors 3 and 4, with one scene each, are dropped before any scenes are joined.
     Reduction {
         film: Lists {
             casts: &[0b01011, 0b00011, 0b10011, 0b00011, 0b00110, 0b00101],
@@ -133,9 +133,9 @@ static DROPS: [Reduction; 6] = [
     },
 ];
 
-// Scenes are joined, and what follows.
+// Scenes are joined, with further steps.
 static JOINS: [Reduction; 7] = [
-    // Nobody plays: the scenes are one class.
+    // Nobody works: the scenes are one class.
     Reduction {
         film: Lists {
             casts: &[0, 0],
@@ -154,8 +154,8 @@ static JOINS: [Reduction; 7] = [
             pairs: &[],
         },
     },
-    // The first and the last scene are joined, so that actor 1 has one scene and is dropped; then the
-    // scenes have equal casts.
+    // The first and the last scene are joined, so actor 1 has one scene and is dropped; then the scenes have equal
+    // casts.
     Reduction {
         film: Lists {
             casts: &[0b11, 0b01, 0b11],
@@ -174,7 +174,7 @@ static JOINS: [Reduction; 7] = [
             pairs: &[],
         },
     },
-    // Two scenes of equal cast, and nothing else to do.
+    // Two scenes of equal cast, and no further step.
     Reduction {
         film: Lists {
             casts: &[0b011, 0b110, 0b101, 0b011],
@@ -193,7 +193,7 @@ static JOINS: [Reduction; 7] = [
             pairs: &[],
         },
     },
-    // The first two scenes are joined, so that actor 3 has one scene and is dropped.
+    // The first two scenes are joined, so actor 3 has one scene and is dropped.
     Reduction {
         film: Lists {
             casts: &[0b1001, 0b1001, 0b0011, 0b0110, 0b0101],
@@ -231,7 +231,7 @@ static JOINS: [Reduction; 7] = [
             pairs: &[],
         },
     },
-    // Three scenes of one cast and two of another, one after the other.
+    // Three scenes of one cast and two of another, which alternate.
     Reduction {
         film: Lists {
             casts: &[0b110, 0b011, 0b110, 0b011, 0b110, 0b101],
@@ -250,8 +250,8 @@ static JOINS: [Reduction; 7] = [
             pairs: &[],
         },
     },
-    // The scenes of actor 3 are joined first, as theirs is the least number; he is dropped, and scene 2
-    // has their cast before the scenes of actor 4 are joined and he is dropped too.
+    // The scenes of actor 3 are joined first, since they have the least number, and he is dropped. Then scene 2 has
+    // their cast, before the scenes of actor 4 are joined and he is dropped too.
     Reduction {
         film: Lists {
             casts: &[
@@ -274,9 +274,9 @@ static JOINS: [Reduction; 7] = [
     },
 ];
 
-// Some scenes stand in pairs.
+// Films with pairs (precedence constraints).
 static PAIRED: [Reduction; 4] = [
-    // The first scene stands in a pair: of the three of its cast the two others are joined.
+    // The first scene is in a pair: of the three scenes with its cast, the two others are joined.
     Reduction {
         film: Lists {
             casts: &[0b011, 0b011, 0b110, 0b101, 0b011],
@@ -295,8 +295,8 @@ static PAIRED: [Reduction; 4] = [
             pairs: &[(0, 2)],
         },
     },
-    // Scene 2 is joined to the first: in the pairs the numbers above 2 are one lower. Both scenes of the
-    // other equal cast stand in pairs.
+    // Scene 2 is joined to the first: in the pairs the numbers above 2 are one lower. Both scenes of the other equal
+    // cast are in pairs.
     Reduction {
         film: Lists {
             casts: &[0b011, 0b110, 0b011, 0b101, 0b110],
@@ -315,7 +315,7 @@ static PAIRED: [Reduction; 4] = [
             pairs: &[(2, 1), (2, 3)],
         },
     },
-    // Nobody plays, and two of the scenes stand in a pair.
+    // Nobody works, and two of the scenes are in a pair.
     Reduction {
         film: Lists {
             casts: &[0, 0, 0, 0],
@@ -355,7 +355,7 @@ static PAIRED: [Reduction; 4] = [
     },
 ];
 
-// Actors work in the same scenes.
+// Actors with the same scenes.
 static ALIKE: [Reduction; 4] = [
     // Actors 0 and 3 work in the same scenes, at other rates.
     Reduction {
@@ -414,7 +414,7 @@ static ALIKE: [Reduction; 4] = [
             pairs: &[],
         },
     },
-    // All three steps: actor 4 is dropped, the last scene joined to the first, actor 3 counted in actor 1.
+    // All three steps: actor 4 is dropped, the last scene is joined to the first, and actor 3 is joined to actor 1.
     Reduction {
         film: Lists {
             casts: &[0b01011, 0b01110, 0b00101, 0b11011],
@@ -435,7 +435,7 @@ static ALIKE: [Reduction; 4] = [
     },
 ];
 
-/// The tables. Each is read in a function of its own, so that no proof has them all in it.
+/// Returns the tables. Each is read in a function of its own, so that no proof contains them all.
 pub(crate) fn tables() -> [&'static [Reduction]; 4] {
     [drops(), joins(), paired(), alike()]
 }

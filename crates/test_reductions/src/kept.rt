@@ -1,12 +1,12 @@
-// Films with hold rates and pairs of scenes: their cheapest orders were found by another program,
-// from first and last positions.
+// Films with hold rates and pairs of scenes. An independent program found their cheapest orders, from first and last
+// positions.
 use crate::lists::{Lists, film_of, instance, instance_of, pairs_of, with_pairs};
 use std::alloc::Global;
 use std::test::Fail;
 use strip_exhaustive::cheapest_order;
 use strip_model::{Instance, Pair, is_order, keeps_pairs, pay};
 
-/// A film, the first of its cheapest orders, and what that pays.
+/// A film, the first of its cheapest orders, and the pay of this order.
 pub(crate) struct Kept {
     pub(crate) film: Lists,
     order: &'static [u8],
@@ -206,7 +206,7 @@ static MORE: [Kept; 8] = [
     },
 ];
 
-/// The films. Each table is read in a function of its own, so that no proof has both in it.
+/// Returns the films. Each table is read in a function of its own, so that no proof contains both.
 pub(crate) fn films() -> [&'static [Kept]; 2] {
     [first(), more()]
 }
@@ -247,7 +247,7 @@ fn is_cheapest(alloc: Global, row: &Kept) -> Result<bool, Fail> {
     )
 }
 
-/// Whether it is an order that pays this, and keeps the pairs or not.
+/// Tells whether `order` is an order that pays `paid`, and that keeps the pairs if and only if `keeps` holds.
 pub(crate) fn is_priced(inst: &Instance, order: &[u16], paid: u64, keeps: bool) -> bool {
     if !is_order(inst, order) {
         return false;
@@ -255,7 +255,7 @@ pub(crate) fn is_priced(inst: &Instance, order: &[u16], paid: u64, keeps: bool) 
     pay(inst, order) == paid && keeps_pairs(inst, order) == keeps
 }
 
-// A film's scene numbers as an instance's.
+// Widens a film's scene numbers to an instance's.
 fn widened(alloc: Global, order: &[u8]) -> Result<Vec<u16>, Fail> {
     let mut scenes = Vec::new(alloc);
     for &scene in order {
@@ -275,7 +275,7 @@ fn triangle(alloc: Global) -> Result<Instance, Fail> {
     )
 }
 
-// Orders, what they pay, and whether they keep the pairs.
+// Orders, their pay, and whether they keep the pairs.
 static PRICED: [([u16; 3], u64, bool); 6] = [
     ([0, 1, 2], 13, false),
     ([0, 2, 1], 14, true),
@@ -303,7 +303,7 @@ fn prices_orders_that_keep_the_pairs_or_not(rt: HostRuntime) -> Result<(), Fail>
     Ok(())
 }
 
-// Pairs, and whether they fit.
+// Lists of pairs, and whether they are valid.
 static FITTING: [(&'static [(u16, u16)], bool); 9] = [
     (&[], true),
     (&[(0, 1), (2, 1)], true),
@@ -332,7 +332,7 @@ fn tells_pairs_that_fit(rt: HostRuntime) -> Result<(), Fail> {
     Ok(())
 }
 
-// A chain of 199 pairs fits 200 scenes, and no longer fits once it is closed.
+// A chain of 199 pairs is valid for 200 scenes, and invalid once it is closed to a cycle.
 #[test]
 fn tells_a_chain_from_a_ring(rt: HostRuntime) -> Result<(), Fail> {
     let alloc = rt.alloc();

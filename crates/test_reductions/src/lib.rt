@@ -1,5 +1,5 @@
-//! Tests: what no clause says of reductions, by calls that no command makes. Films reduced to their classes and back, worked by
-//! hand, and their cheapest orders.
+//! Tests of reductions (preprocessing to classes), for properties that no contract states, by calls that no command
+//! makes. Films are reduced to their classes and back, worked by hand, and their cheapest orders are compared.
 #![tactic(auto)]
 
 #[cfg(test)]

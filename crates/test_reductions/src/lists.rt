@@ -1,11 +1,11 @@
-// Films written as plain lists, and the instances and films that are made of them.
+// Films as plain lists, and the instances and films made from them.
 use std::alloc::Global;
 use std::test::Fail;
 use strip_film::Film;
 use strip_mask::Mask;
 use strip_model::{Actor, Instance, Pair, Scene};
 
-/// For each scene its cast and days, for each actor his rate and hold rate, and the pairs.
+/// The cast and days of each scene, the rate and hold rate of each actor, and the pairs.
 pub(crate) struct Lists {
     pub(crate) casts: &'static [u64],
     pub(crate) days: &'static [u64],
@@ -29,7 +29,7 @@ pub(crate) fn film_of(alloc: Global, lists: &Lists) -> Result<Film, Fail> {
     Ok(film)
 }
 
-/// The instance without pairs.
+/// Makes the instance without pairs.
 pub(crate) fn instance(
     alloc: Global,
     casts: &[u64],
@@ -51,8 +51,7 @@ pub(crate) fn instance(
     Ok(inst)
 }
 
-/// So many casts of two actors each: the first `kinds` pairs of 13 actors in lexicographic order, by
-/// turns.
+/// Returns a cast of two actors for each scene: in turn, the first `kinds` pairs of 13 actors in lexicographic order.
 pub(crate) fn casts_of_two(alloc: Global, scenes: usize, kinds: usize) -> Result<Vec<u64>, Fail> {
     let twos = twos(alloc)?;
     let mut casts = Vec::new(alloc);
@@ -64,7 +63,7 @@ pub(crate) fn casts_of_two(alloc: Global, scenes: usize, kinds: usize) -> Result
     Ok(casts)
 }
 
-// The 78 pairs of 13 actors, as casts.
+// Returns the 78 pairs of 13 actors, as casts.
 fn twos(alloc: Global) -> Result<Vec<u64>, Fail> {
     let mut casts = Vec::new(alloc);
     for first in 0..13 {

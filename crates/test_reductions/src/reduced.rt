@@ -1,5 +1,4 @@
-// Films beside their reductions: what these cost, the way back from their orders, and how many classes
-// there may be.
+// Films compared with their reductions: the costs, the scenes of the classes' orders, and the number of classes.
 ghost use Rattle.std.specs.Prelude.{◌↔◌, ◌<◌, All, IsTrue};
 
 use crate::classes::{Reduction, joins, tables};
@@ -41,8 +40,8 @@ fn all_cost_the_same(alloc: Global, table: &[Reduction]) -> Result<bool, Fail> {
     Ok(true)
 }
 
-// Whether the cheapest order of the classes, with what is set apart, pays as little as the cheapest of
-// the scenes, and on the way back is an order of these that keeps the pairs and pays as much.
+// Tells whether the cheapest order of the classes, plus the cost set apart, pays as little as the cheapest order of the
+// scenes. Its scenes have to be an order that keeps the pairs and pays as much.
 fn costs_the_same(alloc: Global, lists: &Lists) -> Result<bool, Fail> {
     let inst = instance_of(alloc, lists)?;
     let least = least_pay(alloc, lists)?;
@@ -67,7 +66,7 @@ fn is_as_cheap(
     Ok(best.pay.checked_add(reduced.apart) == Some(least) && is_priced(inst, &order, least, true))
 }
 
-// The scenes of an order of the classes.
+// Returns the scenes of an order of the classes.
 fn way_back(alloc: Global, reduced: &Reduced, order: &[u8]) -> Result<Vec<u16>, Fail> {
     if !lie_below(order, reduced.film.scenes()) {
         return Err("an order of the classes".into());
@@ -82,7 +81,7 @@ fn lie_below(order: &[u8], count: usize) -> bool
     order.iter().all(|class| (*class as usize) < count)
 }
 
-// A row of the table of joins, an order of its classes, and their scenes.
+// The index of a row of the table of joins, an order of its classes, and the scenes of this order.
 const WAYS_BACK: [(usize, &[u8], &[u16]); 7] = [
     (0, &[0], &[0, 1]),
     (1, &[0], &[0, 2, 1]),
@@ -114,7 +113,7 @@ fn classes_are_written_as_their_scenes(rt: HostRuntime) -> Result<(), Fail> {
     Ok(())
 }
 
-// Orders, and what they are turned to.
+// Orders, and their oriented form: the order or its reverse.
 const ORIENTED: [(&[u8], &[u8]); 7] = [
     (&[], &[]),
     (&[0], &[0]),
@@ -142,8 +141,8 @@ fn orders_are_turned_round_where_they_end_lower(rt: HostRuntime) -> Result<(), F
     Ok(())
 }
 
-// Whether a film of 200 scenes and so many casts of two actors has as many classes, with all scenes in them; or so
-// many classes are too many.
+// Tells whether a film of 200 scenes with `kinds` casts of two actors has `kinds` classes that contain all scenes. If
+// `too_many` holds, it has to fail with this number of classes instead.
 fn has_classes(alloc: Global, kinds: usize, too_many: bool) -> Result<bool, Fail> {
     let casts = casts_of_two(alloc, 200, kinds)?;
     let inst = instance(alloc, &casts, &[1; 200], &[1; 13], &[1; 13])?;

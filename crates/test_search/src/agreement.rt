@@ -1,5 +1,5 @@
-// What searches find that begin with the greedy order, which wasn't improved, compared with the plain program,
-// which tries every order.
+// Results of searches that begin with the greedy order, without local search, compared with a program that tries every
+// order.
 ghost use Rattle.std.specs.Prelude.{◌≤◌};
 
 use crate::instances::{EIGHT, Film, PAIRED, RANDOM, TRIANGLE, WORKED, instance};
@@ -13,7 +13,8 @@ use strip_reduce::reduce;
 use strip_start::{greedy, improve};
 use strip_worker::Ended;
 
-/// Whether what a search found with at most so many lines is true of a film whose cheapest orders cost `least`.
+/// Tells whether the result of a search with at most `nodes` lines is true of a film with cheapest orders of cost
+/// `least`.
 fn agrees(ended: &Ended, nodes: u32, least: u64) -> bool {
     if ended.spent {
         ended.bound <= least && least <= ended.cost && ended.held == nodes as u64
@@ -22,7 +23,7 @@ fn agrees(ended: &Ended, nodes: u32, least: u64) -> bool {
     }
 }
 
-/// Whether it agrees with few lines, 1 to 20, and with so many that it runs to its end.
+/// Tells whether searches agree with 1 to 20 lines, and with enough lines to end.
 fn agrees_with_lines(
     alloc: Global,
     film: &Classes,
@@ -42,7 +43,7 @@ fn agrees_with_lines(
     Ok(!ended.spent && agrees(&ended, 1_000_000, least))
 }
 
-/// Whether it agrees by all kinds of bounds, with a small table and a large one.
+/// Tells whether searches agree for all kinds of bounds, with a small table and a large one.
 fn agrees_by_all_kinds(alloc: Global, text: &str, pairs: &[(u16, u16)]) -> Result<bool, Fail> {
     let film = reduce(alloc, &instance(alloc, text, pairs)?)?.film;
     let least = cheapest_order(alloc, &film)?.pay;
@@ -100,7 +101,7 @@ fn eight_classes_cost_the_least(rt: HostRuntime) -> Result<(), Fail> {
     Ok(())
 }
 
-/// Whether the search ran to its end, with this cost, order and lines.
+/// Tells whether the search ended with this cost, order and lines.
 fn is_closed(ended: &Ended, cost: u64, order: &[u8], lines: &[Line]) -> bool {
     !ended.spent
         && ended.cost == cost
@@ -110,8 +111,8 @@ fn is_closed(ended: &Ended, cost: u64, order: &[u8], lines: &[Line]) -> bool {
         && ended.lines.as_slice() == lines
 }
 
-// The lines of the triangle whose second scene comes last. The actors get 12 for the days that they work. Two
-// orders keep the pairs: in one b waits a day, in the other, which begins with the third scene, c does.
+// The lines of the triangle with its second scene last. The actors' days of work cost 12. Two orders keep the pairs: in
+// one b waits a day, in the other, which begins with the third scene, c does.
 static THREE: [Line; 3] = [
     Line { set: 7, bound: 14 },
     Line { set: 6, bound: 11 },

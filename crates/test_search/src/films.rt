@@ -1,10 +1,10 @@
-// Films made of lists.
+// Films made from lists.
 use std::alloc::Global;
 use std::test::Fail;
 use strip_film::Film;
 use strip_pay::Pair;
 
-/// The film of these lists, none where they aren't within the limits.
+/// Makes the film of these lists, or returns none if they break the limits.
 pub(crate) fn film_of(
     alloc: Global,
     casts: &[u64],
@@ -21,7 +21,7 @@ pub(crate) fn film_of(
     Ok(Film::of(casts, days, rates, holds, pairs))
 }
 
-/// A film whose actors get as much for waiting as for work, without pairs.
+/// Makes a film without pairs, in which waiting is paid like work.
 pub(crate) fn film(
     alloc: Global,
     casts: &[u64],
@@ -35,7 +35,7 @@ pub(crate) fn film(
 /// The casts of the triangle: three scenes of two actors each.
 pub(crate) const CASTS: [u64; 3] = [0b011, 0b110, 0b101];
 
-/// The triangle, one day a scene.
+/// Makes the triangle, with a day for each scene.
 pub(crate) fn triangle(
     alloc: Global,
     rates: &[u64],
@@ -51,7 +51,7 @@ pub(crate) fn plain_triangle(alloc: Global) -> Result<Film, Fail> {
     triangle(alloc, &[1, 2, 3], &[1, 2, 3], &[])
 }
 
-/// Four actors in a ring: each shares a scene with the one before and one with the next.
+/// Makes a ring of four actors: each shares a scene with the one before and one with the next.
 pub(crate) fn ring(alloc: Global) -> Result<Film, Fail> {
     film(
         alloc,
@@ -61,7 +61,7 @@ pub(crate) fn ring(alloc: Global) -> Result<Film, Fail> {
     )
 }
 
-/// Eight scenes whose casts are pairs of five actors.
+/// Makes a film of eight scenes, with pairs of five actors as casts.
 pub(crate) fn eight(alloc: Global) -> Result<Film, Fail> {
     let casts = [
         0b00011, 0b00101, 0b01001, 0b10001, 0b00110, 0b01010, 0b10010, 0b01100,

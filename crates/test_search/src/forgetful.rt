@@ -1,4 +1,4 @@
-// A hand that drops its notes.
+// A hand without table entries.
 ghost use Rattle.std.specs.Prelude.{◌≡◌, ◌≤◌, ℕ, length};
 ghost use Rattle.strip_film.specs.Film.{LiesIn};
 ghost use Rattle.strip_film.specs.Path.{IsComplete};
@@ -14,7 +14,7 @@ use strip_io::Memory;
 use strip_mask::Mask;
 use strip_world::World;
 
-/// The hand of a world's worker 0, but for its notes: none of them comes into the table.
+/// The hand of a world's worker 0 that drops its notes: no entry comes into the table.
 #[derive(Drop)]
 pub(crate) struct Forgetful {
     pub(crate) world: World,

@@ -1,16 +1,16 @@
-// Films, as texts and with pairs of scenes.
+// Films, as texts with pairs of scenes.
 use std::alloc::Global;
 use std::test::Fail;
 use strip_instance::read_instance;
 use strip_model::{Instance, Pair};
 
-/// A film's text, and the pairs of its scenes: of each, the first is shot before the other.
+/// A film's text, and the pairs of its scenes: the first of each pair is shot before the second.
 pub(crate) struct Film {
     pub(crate) text: &'static str,
     pub(crate) pairs: &'static [(u16, u16)],
 }
 
-/// The instance of the text, with these pairs.
+/// Makes the instance of the text, with these pairs.
 pub(crate) fn instance(alloc: Global, text: &str, pairs: &[(u16, u16)]) -> Result<Instance, Fail> {
     let inst = read_instance(alloc, text.as_bytes())?;
     let mut list = Vec::new(alloc);
@@ -26,33 +26,33 @@ pub(crate) fn instance(alloc: Global, text: &str, pairs: &[(u16, u16)]) -> Resul
 pub(crate) const TRIANGLE: &str = "scene,days,a,b,c\nrate,,1,2,3\n\
     s1,1,x,x,.\ns2,1,.,x,x\ns3,1,x,.,x\n";
 
-// Days of waiting cost another rate.
+// Days of waiting have rates of their own.
 pub(crate) const HELD_TRIANGLE: &str = "scene,days,a,b,c\nrate,,1,2,3\nhold,,5,1,4\n\
     s1,1,x,x,.\ns2,1,.,x,x\ns3,1,x,.,x\n";
 
-// Days of waiting alone cost anything.
+// Only days of waiting cost anything.
 pub(crate) const WAITING_TRIANGLE: &str = "scene,days,a,b,c\nrate,,0,0,0\nhold,,1,1,1\n\
     s1,1,x,x,.\ns2,1,.,x,x\ns3,1,x,.,x\n";
 
-/// Four actors in a ring: each shares a scene with the one before and one with the next.
+/// A ring of four actors: each shares a scene with the one before and one with the next.
 pub(crate) const RING: &str = "scene,days,a,b,c,d\nrate,,1,2,3,4\n\
     s1,1,x,.,.,x\ns2,1,x,x,.,.\ns3,1,.,x,x,.\ns4,1,.,.,x,x\n";
 
-/// Eight scenes whose casts are pairs of five actors, and which are as many classes.
+/// Eight scenes in eight classes, with pairs of five actors as casts.
 pub(crate) const EIGHT: &str = "scene,days,a,b,c,d,e\nrate,,1,2,3,4,5\n\
     s1,1,x,x,.,.,.\ns2,1,x,.,x,.,.\ns3,1,x,.,.,x,.\ns4,1,x,.,.,.,x\n\
     s5,1,.,x,x,.,.\ns6,1,.,x,.,x,.\ns7,1,.,x,.,.,x\ns8,1,.,.,x,x,.\n";
 
-/// Small films without pairs: what an actor or a scene can be, rings, and all pairs of four actors.
+/// Small films without pairs: special cases of actors and scenes, rings, and all pairs of four actors.
 pub(crate) static WORKED: [&'static str; 14] = [
     TRIANGLE,
     HELD_TRIANGLE,
     WAITING_TRIANGLE,
     "scene,days,a1,a2\nrate,,10,20\ns1,1,x,.\ns2,1,.,x\ns3,1,x,x\n",
     "scene,days,a\nrate,,100\ns1,2,x\n",
-    // nobody plays
+    // nobody works
     "scene,days\nrate,\ns1,1\ns2,2\n",
-    // two scenes of one cast apart in the file
+    // two scenes of one cast, not adjacent in the file
     "scene,days,a,b,c\nrate,,1,2,3\ns1,1,x,x,.\ns2,1,.,x,x\ns3,1,x,.,x\ns4,1,x,x,.\n",
     "scene,days,a,c\nrate,,5,7\ns1,1,x,x\ns2,1,x,.\ns3,1,x,x\n",
     // one actor is paid nothing, and another works nowhere
@@ -62,11 +62,11 @@ pub(crate) static WORKED: [&'static str; 14] = [
     "scene,days,a,b,c\r\nrate,each,1,2,3\r\n HOLD ,waiting, 05 ,1,4\r\n\
         s1,1,x,x,.\r\ns2,1,.,x,x\r\ns3,1,x,.,x\r\n",
     RING,
-    // a ring of six, whose waiting costs the other way round
+    // a ring of six, in which the rates for waiting are in reverse
     "scene,days,a,b,c,d,e,f\nrate,,1,2,3,4,5,6\nhold,,6,5,4,3,2,1\n\
         s1,2,x,x,.,.,.,.\ns2,1,.,x,x,.,.,.\ns3,3,.,.,x,x,.,.\n\
         s4,1,.,.,.,x,x,.\ns5,2,.,.,.,.,x,x\ns6,1,x,.,.,.,.,x\n",
-    // the six pairs of four actors
+    // all six pairs of four actors
     "scene,days,a,b,c,d\nrate,,1,2,3,4\n\
         s1,1,x,x,.,.\ns2,1,x,.,x,.\ns3,1,x,.,.,x\ns4,1,.,x,x,.\ns5,1,.,x,.,x\ns6,1,.,.,x,x\n",
 ];
@@ -161,7 +161,7 @@ pub(crate) static PAIRED: [Film; 13] = [
             s1,1,x,.,.,.,x,x\ns2,3,.,x,.,x,x,.\ns3,1,.,.,.,x,.,x\ns4,5,x,.,x,x,.,.\ns5,2,.,.,.,x,x,x\ns6,5,.,.,x,.,.,.\n",
         pairs: &[(0, 5), (3, 2), (3, 4), (3, 5), (4, 5), (5, 2)],
     },
-    // the six pairs of four actors, of which three have an order of their own
+    // all six pairs of four actors, with three precedence constraints
     Film {
         text: "scene,days,a,b,c,d\nrate,,1,2,3,4\n\
             s1,1,x,x,.,.\ns2,1,x,.,x,.\ns3,1,x,.,.,x\ns4,1,.,x,x,.\ns5,1,.,x,.,x\ns6,1,.,.,x,x\n",

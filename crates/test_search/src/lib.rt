@@ -1,6 +1,7 @@
-//! Tests: what no clause says of the parts of a search, by calls that no command makes. Films and their paths, the running state,
-//! the orders that a search begins with, the table, the world and the trimming of lines on films that were worked by hand; that a search whose hand drops
-//! its notes makes more lines, and how many one by ranks makes; and that searches from a start that wasn't improved agree with the program that tries every order.
+//! Tests of the parts of a search, for properties that no contract states, by calls that no command makes. Films, paths
+//! (partial schedules), initial orders, the transposition table, the world (search state) and trimmed lines are worked
+//! by hand. Some tests count lines: a search without table entries makes more, as does one without ranks. Searches from
+//! an initial order without local search are compared with a program that tries every order.
 #![tactic(auto)]
 
 #[cfg(test)]

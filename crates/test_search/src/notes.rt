@@ -1,4 +1,4 @@
-// What the table saves: a search whose hand drops its notes makes more lines.
+// Savings of the transposition table: a search without its entries makes more lines.
 ghost use Rattle.strip_film.specs.Path.{IsComplete};
 ghost use Rattle.strip_film.specs.Shown.{path_data};
 ghost use Rattle.strip_bound.specs.StoredBound.{Keeps};
@@ -18,7 +18,7 @@ use strip_mask::Mask;
 use strip_start::{greedy, improve};
 use strip_world::{Limits, World};
 
-/// What a search comes to: the cost of its best order and its bound, in units of money, and its lines.
+/// The result of a search: the cost of its best order and its bound, in units of money, and its number of lines.
 #[derive(Clone, Copy, Debug)]
 struct Outcome {
     cost: u64,
@@ -26,12 +26,12 @@ struct Outcome {
     lines: u64,
 }
 
-/// How many lines a search may make, and how many entries its table has.
+/// The greatest number of lines of a search, and the number of entries of its table.
 const CAP: u32 = 10_000;
 
 const ENTRIES: u32 = 65_536;
 
-/// The end of a search that drops its notes.
+/// Runs a search that drops its notes (table entries).
 fn without_notes<F: Fn(u64, u64) -> u64>(
     alloc: Global,
     kept: &StoredBound<F>,
@@ -62,7 +62,7 @@ fn without_notes<F: Fn(u64, u64) -> u64>(
     })
 }
 
-/// The end of the search itself.
+/// Runs a search with notes.
 fn with_notes<F: Fn(u64, u64) -> u64>(
     alloc: Global,
     kept: &StoredBound<F>,
@@ -79,8 +79,8 @@ fn with_notes<F: Fn(u64, u64) -> u64>(
     })
 }
 
-/// What both searches come to by static bounds of this kind, the one with notes first. They begin with the
-/// same order.
+/// Runs both searches with static bounds of this kind from one initial order. The result of the search with notes comes
+/// first.
 fn both(alloc: Global, film: &Film, kind: Kind) -> Result<[Outcome; 2], Fail> {
     let tables = BoundTables::of(alloc, film)?;
     let kept = StoredBound::new(film, kind, |q, need| {
@@ -92,7 +92,7 @@ fn both(alloc: Global, film: &Film, kind: Kind) -> Result<[Outcome; 2], Fail> {
     Ok([noting, forgetful])
 }
 
-/// Whether both searches ran to their ends at this cost, with so many lines each.
+/// Tells whether both searches ended with this cost, and with these numbers of lines.
 fn have_ended(ends: &[Outcome; 2], cost: u64, lines: [u64; 2]) -> bool {
     let [noting, forgetful] = ends;
     noting.cost == cost
@@ -103,8 +103,8 @@ fn have_ended(ends: &[Outcome; 2], cost: u64, lines: [u64; 2]) -> bool {
         && forgetful.lines == lines[1]
 }
 
-// A cheapest order costs 51. What is noted of the scenes that one path leaves rules out other paths that leave
-// the same. The numbers of lines are those of another program of the same rules.
+// A cheapest order costs 51. The entry of a set that remains after one path rules out other paths with this set. An
+// independent program of the same rules gives these numbers of lines.
 #[test]
 fn notes_save_lines(rt: HostRuntime) -> Result<(), Fail> {
     let alloc = rt.alloc();

@@ -1,4 +1,4 @@
-// Films, their paths and what these pay, worked by hand.
+// Films, their paths and the paths' pay, worked by hand.
 ghost use Rattle.std.specs.Prelude.{IfOk};
 ghost use Rattle.strip_film.specs.Path.{IsPath};
 ghost use Rattle.strip_film.specs.Shown.{path_data};
@@ -28,7 +28,7 @@ pub(crate) fn path(film: &Film, scenes: &[u32]) -> Result<Path, Fail>
     Ok(path)
 }
 
-// A film whose scenes take a day each, a path of it, and what that pays.
+// A film with scenes of one day each, one of its paths, and the path's pay.
 struct Paid {
     casts: &'static [u64],
     rates: &'static [u64],
@@ -75,7 +75,7 @@ static STEPS: [Paid; 5] = [
     },
 ];
 
-// Of the last two, one pays less for waiting, and one pays for waiting alone.
+// In the last two films waiting has rates of its own. In the very last, only waiting is paid.
 static OTHERS: [Paid; 7] = [
     Paid {
         casts: &[0b11, 0b01, 0b10],
@@ -150,7 +150,7 @@ fn pays_for_each_step(rt: HostRuntime) -> Result<(), Fail> {
     Ok(())
 }
 
-/// Who plays in what remains after the path, and who is on location then.
+/// Returns the actors of the scenes that remain after the path, and those who are then on location.
 fn who_is_there(film: &Film, path: &Path) -> (Mask, Mask)
     requires { IsPath film.now (path_data path.now) }
 {
@@ -172,7 +172,7 @@ fn ready_after(film: &Film, scenes: &[u32]) -> Result<Mask, Fail> {
     Ok(ready(film, path.rest()))
 }
 
-// Paths, and the scenes that are ready after them.
+// Paths, and the scenes that may come next by the pairs.
 static READY: [(&'static [u32], u64); 3] = [(&[], 0b101), (&[0], 0b100), (&[0, 2], 0b010)];
 
 fn are_ready(film: &Film) -> Result<bool, Fail> {
@@ -193,7 +193,7 @@ fn tells_which_scenes_are_ready(rt: HostRuntime) -> Result<(), Fail> {
     Ok(())
 }
 
-// Lists that a film may not have.
+// Lists that make no film.
 struct Lists {
     casts: &'static [u64],
     days: &'static [u64],
@@ -284,7 +284,7 @@ fn refuses_each_broken_limit(rt: HostRuntime) -> Result<(), Fail> {
     Ok(())
 }
 
-// A scene before itself, one that isn't there, a pair twice, and a cycle.
+// A pair of a scene with itself, a pair with an unknown scene, a duplicate pair, and a cycle.
 static UNKEPT: [&'static [Pair]; 4] = [
     &[Pair { first: 1, then: 1 }],
     &[Pair { first: 0, then: 3 }],
@@ -317,14 +317,14 @@ fn refuses_pairs_that_cannot_be_kept(rt: HostRuntime) -> Result<(), Fail> {
     Ok(())
 }
 
-/// 64 scenes of all 64 actors.
+/// Makes a film of 64 scenes, each with all 64 actors.
 fn largest(alloc: Global) -> Result<Film, Fail> {
     let mut days = [314; 64];
     days[63] = 18;
     film(alloc, &[u64::MAX; 64], &days, &[1_000_000_000; 64])
 }
 
-/// Whether a copy of the film has the path of all 64 scenes, which pays this.
+/// Tells whether a copy of the film has the path of all 64 scenes, and this path pays `paid`.
 fn pays_as_a_whole(film: &Film, paid: u64) -> Result<bool, Fail> {
     let mut order = [0; 64];
     for scene in 0..64 {
@@ -335,7 +335,7 @@ fn pays_as_a_whole(film: &Film, paid: u64) -> Result<bool, Fail> {
     Ok(whole.rest().is_empty() && whole.paid() == paid)
 }
 
-// The whole costs all days at the rate of all actors.
+// All days, at the rate of all actors.
 #[test]
 fn takes_the_largest_film(rt: HostRuntime) -> Result<(), Fail> {
     let largest = largest(rt.alloc())?;

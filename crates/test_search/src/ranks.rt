@@ -1,13 +1,13 @@
-// What it saves to go first to what promises most: a search by numbers makes more lines.
+// Savings of ranks (the search order of children by promise): a search by scene numbers makes more lines.
 use crate::films::eight;
 use crate::paths::path;
 use crate::searched::searched;
 use std::test::Fail;
 use strip_kind::Kind;
 
-// From an order that costs 83, where a cheapest one costs 51. With groups a path goes first by its step with
-// the static bound of what then remains: 21 lines, and by scene numbers it would be 71. Both are numbers of
-// another program of the same rules.
+// The initial order costs 83, and a cheapest order 51. With group bounds, children are ordered by step plus static
+// bound of the rest, which takes 21 lines; by scene numbers it would take 71. An independent program of the same rules
+// gives both numbers.
 #[test]
 fn ranks_save_lines(rt: HostRuntime) -> Result<(), Fail> {
     let alloc = rt.alloc();

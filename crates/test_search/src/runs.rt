@@ -1,5 +1,5 @@
-// The runs in which a path is varied. On this film each of the three runs leads to a cheaper order than the run before; the
-// expected order was found by another program of the same steps.
+// The runs of local search. On this film each of the three runs leads to a cheaper order than the run before. An
+// independent program of the same steps found the expected order.
 use crate::films::film_of;
 use std::alloc::Global;
 use std::test::Fail;
@@ -8,10 +8,10 @@ use strip_film::{Film, Path};
 use strip_pay::Pair;
 use strip_start::{greedy, improve, vary, vary_beside};
 
-/// The tries of three runs.
+/// Number of moves in three runs.
 const TRIES: u32 = 300_000;
 
-/// The order that the last run leads to, and what it pays.
+/// The order that the last run leads to, and its pay.
 const ORDER: [u8; 24] = [
     21, 0, 10, 5, 11, 12, 13, 2, 15, 8, 17, 1, 18, 7, 14, 22, 20, 4, 3, 16, 23, 6, 9, 19,
 ];

@@ -1,4 +1,4 @@
-// A search of a film by one worker.
+// The search of a film by one worker.
 ghost use Rattle.std.specs.Prelude.{◌≤◌};
 ghost use Rattle.strip_bound.specs.StoredBound.{Keeps};
 ghost use Rattle.strip_film.specs.Path.{IsComplete};
@@ -13,7 +13,7 @@ use strip_mask::Mask;
 use strip_memo::Memo;
 use strip_worker::{Ended, alone};
 
-/// The end of a search of the film, by static bounds of this kind, that begins with this path.
+/// Runs a search of the film with static bounds of this kind, from this path.
 pub(crate) fn searched(
     alloc: Global,
     film: &Film,
@@ -33,7 +33,7 @@ pub(crate) fn searched(
     searched_by(alloc, &kept, start, nodes, entries)
 }
 
-/// The same by static bounds that are stored.
+/// Runs a search with a stored bound, from this path.
 pub(crate) fn searched_by<F: Fn(u64, u64) -> u64>(
     alloc: Global,
     kept: &StoredBound<F>,

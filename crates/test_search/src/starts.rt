@@ -1,6 +1,5 @@
-// The orders that a search begins with. The first two films are worked by hand; what the others give was
-// found by a program of the definition alone, which tries each move of an order in turn and adds up what
-// each actor gets from his first scene to his last.
+// The initial orders of a search. The first two films are worked by hand. An independent program of the definition
+// found the other orders: it tries each move of an order in turn, and sums each actor's pay from first to last scene.
 use crate::films::film_of;
 use std::alloc::Global;
 use std::test::Fail;
@@ -21,8 +20,7 @@ struct Row {
 }
 
 static ROWS: [Row; 6] = [
-    // The first step is the least at 10, and then both scenes cost 30. With the first scene shot last nobody
-    // waits.
+    // The least first step is 10, and then both scenes cost 30. If the first scene is moved to the end, nobody waits.
     Row {
         casts: &[0b01, 0b10, 0b11],
         days: &[1, 1, 1],
@@ -34,8 +32,8 @@ static ROWS: [Row; 6] = [
         improved: &[1, 2, 0],
         improved_pays: 60,
     },
-    // The pair forbids that move and all others of the first scene; with the second shot last nobody waits
-    // either.
+    // The pair forbids that move and all others of the first scene. If the second scene is moved to the end, nobody
+    // waits either.
     Row {
         casts: &[0b01, 0b10, 0b11],
         days: &[1, 1, 1],
@@ -58,7 +56,7 @@ static ROWS: [Row; 6] = [
         improved: &[1, 2, 3, 0],
         improved_pays: 22,
     },
-    // The pair forbids the one better move.
+    // The pair forbids the only better move.
     Row {
         casts: &[0b1001, 0b0011, 0b0110, 0b1100],
         days: &[1, 1, 1, 1],
@@ -70,7 +68,7 @@ static ROWS: [Row; 6] = [
         improved: &[1, 2, 0, 3],
         improved_pays: 24,
     },
-    // Two moves: the scene at the third place goes to the end, and then the one at the first.
+    // Two moves: the third scene of the order goes to the end, and then the first.
     Row {
         casts: &[0b1001, 0b0011, 0b0110, 0b1100],
         days: &[1, 1, 1, 1],
@@ -101,7 +99,7 @@ static ROWS: [Row; 6] = [
     },
 ];
 
-// 64 moves, and two more would be better.
+// After 64 moves, two more would be better.
 static CUT_OFF: Row = Row {
     casts: &[131, 39, 10, 172, 4, 165, 97, 80, 33, 198, 178, 59],
     days: &[6, 7, 7, 3, 4, 3, 2, 8, 5, 8, 1, 8],

@@ -1,4 +1,4 @@
-// A path that is moved in place, worked by hand on three scenes of two actors each.
+// A running state, updated in place, worked by hand on three scenes of two actors each.
 ghost use Rattle.std.specs.Prelude.{◌≡◌, ℕ, ◌<◌, length, IsTrue};
 ghost use Rattle.strip_film.specs.Running.{IsRunning};
 ghost use Rattle.strip_film.specs.Shown.{running_data};
@@ -7,7 +7,7 @@ use crate::films::plain_triangle;
 use std::test::Fail;
 use strip_film::{Film, Path, Running, laws, ready};
 
-/// Whether the state is as worked by hand after a scene, after a second one, and when that was taken back.
+/// Tells whether the state is as worked by hand after a scene, after a second one, and after that is taken back.
 fn moves(film: &Film) -> bool {
     let mut state = Running::of(film, &Path::start(film));
     let first = takes(&mut state, film, 0) && is_after_the_first(&state, film);
@@ -39,7 +39,7 @@ fn takes(state: &mut Running, film: &Film, scene: u32) -> bool
     true
 }
 
-// False where nothing was shot.
+// Returns false if no scene was shot.
 fn takes_back(state: &mut Running, film: &Film) -> bool
     requires { IsRunning film.now (running_data state.old) }
     ensures { IsRunning film.now (running_data state.new) }

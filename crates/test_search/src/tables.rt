@@ -1,10 +1,11 @@
-// A stripe of the table: rows of puts that were worked by hand, and the hash with long multiplication.
+// A stripe (shard) of the transposition table: sequences of insertions worked by hand, and the hash by long
+// multiplication.
 
 use std::test::Fail;
 use strip_film::{Known, Noted};
 use strip_table::{Stripe, bucket_of, stripe_of};
 
-// The number of a line, its set and its bound, and what a put of them is to answer.
+// A line's number, set and bound, and the expected answer to its insertion.
 struct Put(u32, u64, u64, Noted);
 
 static ONE_BUCKET: [Put; 7] = [
@@ -52,7 +53,7 @@ fn keeps_two_buckets_apart(rt: HostRuntime) -> Result<(), Fail> {
     Ok(())
 }
 
-// These sets belong to bucket 1 of three. 1 and 4 have one scene, 7 and 35 three, the others two.
+// These sets belong to bucket 1 of three. Sets 1 and 4 have one scene, 7 and 35 three, the others two.
 static THREE_BUCKETS: [Put; 7] = [
     Put(0, 7, 1, Noted::Fresh),
     Put(1, 4, 2, Noted::Fresh),

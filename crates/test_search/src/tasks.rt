@@ -1,4 +1,4 @@
-// The tasks that a search of a film is parted into.
+// The tasks (subproblems) of a film's search.
 ghost use Rattle.std.specs.Prelude.{◌≤◌};
 ghost use Rattle.strip_bound.specs.StoredBound.{Keeps};
 
@@ -11,7 +11,7 @@ use strip_front::{Front, make_front};
 use strip_kind::Kind;
 use strip_mask::Mask;
 
-/// Whether the front's tasks are the paths along these scenes, in this order.
+/// Tells whether the front's tasks are the paths of these scenes, in this order.
 fn are_along(front: &Front, scenes: &[&[u8]]) -> bool {
     if front.tasks().len() != scenes.len() {
         return false;
@@ -24,8 +24,8 @@ fn are_along(front: &Front, scenes: &[&[u8]]) -> bool {
     true
 }
 
-/// Whether the tasks of the film, of so many scenes at most and with static bounds of this kind, are the
-/// paths along these scenes.
+/// Tells whether the film's tasks are the paths of these scenes, with at most `most` scenes each and static bounds of
+/// this kind.
 fn has_tasks(
     alloc: Global,
     film: &Film,
@@ -55,11 +55,12 @@ fn makes_tasks<F: Fn(u64, u64) -> u64>(
     Ok(are_along(&front, scenes))
 }
 
-// The path of the scenes 1 and 0 pays less than that of 0 and 1, and stands in its place.
+// The path of the scenes 1, 0 pays less than that of 0, 1, and replaces it.
 static PAIRS: [&'static [u8]; 6] = [&[1, 0], &[0, 2], &[0, 3], &[1, 2], &[1, 3], &[2, 3]];
 
-// The pairs pay 10, 15, 13, 9, 13 and 14. Of 1, 0, 2 at 19 and 1, 2, 0 at 17, of 1, 0, 3 at 19 and 0, 3, 1 at
-// 19, of 0, 2, 3 at 25 and 0, 3, 2 at 19 the one that pays less stands in the first one's place; 1, 2, 3 pays 17.
+// The pairs pay 10, 15, 13, 9, 13 and 14. Of two triples with the same scenes, the cheaper one takes the place of the
+// first: 1, 2, 0 at 17 for 1, 0, 2 at 19, and 0, 3, 2 at 19 for 0, 2, 3 at 25. The triples 1, 0, 3 and 0, 3, 1 both pay
+// 19, so the first stays. 1, 2, 3 pays 17.
 static TRIPLES: [&'static [u8]; 4] = [&[1, 2, 0], &[1, 0, 3], &[0, 3, 2], &[1, 2, 3]];
 
 // With the last scene the triples pay 24, 24, 22 and 22: the third is the first of the cheapest.
@@ -83,7 +84,7 @@ fn tasks_have_up_to_four_scenes(rt: HostRuntime) -> Result<(), Fail> {
     Ok(())
 }
 
-// The order of another program of the same rules.
+// An independent program of the same rules gives this order.
 static BY_PROMISE: [&'static [u8]; 6] = [&[0, 3], &[1, 2], &[1, 0], &[2, 3], &[0, 2], &[1, 3]];
 
 #[test]

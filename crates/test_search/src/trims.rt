@@ -1,4 +1,4 @@
-// Films whose lines were trimmed by hand.
+// Lines of films, trimmed by hand.
 ghost use Rattle.std.specs.Prelude.{◌≡◌, IfOk};
 ghost use Rattle.strip_bound.specs.StoredBound.{Keeps};
 ghost use Rattle.strip_lines.specs.Lines.{AreJustified, rules_of};
@@ -60,7 +60,7 @@ fn trimmed_by<F: Fn(u64, u64) -> u64>(
     Ok(lines)
 }
 
-// No step leads on to the set of the second line, and the first is lower than the third.
+// No step leads to the set of the second line, and the first line has a lesser bound than the third.
 #[test]
 fn a_triangle_needs_one_line(rt: HostRuntime) -> Result<(), Fail> {
     let film = triangle(rt.alloc())?;
@@ -74,7 +74,7 @@ fn a_triangle_needs_one_line(rt: HostRuntime) -> Result<(), Fail> {
     Ok(())
 }
 
-// The whole set leads on to each of the others, to the last two by way of another.
+// The set of all scenes leads to each other set, to the last two through another set.
 #[test]
 fn a_ring_needs_all_lines(rt: HostRuntime) -> Result<(), Fail> {
     let film = ring(rt.alloc())?;

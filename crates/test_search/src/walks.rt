@@ -1,4 +1,4 @@
-// A search over a hand: its front, its tasks as they are claimed, and its front again.
+// A search through a hand: down the front, then its tasks as they are claimed, then up the front.
 ghost use Rattle.std.specs.Prelude.{◌≡◌, IfOk, Some};
 ghost use Rattle.strip_bound.specs.StoredBound.{Keeps};
 ghost use Rattle.strip_lines.specs.Lines.{rules_of};
@@ -18,7 +18,7 @@ use strip_hand::Hand;
 use strip_memo::Memo;
 use strip_walk::explore;
 
-/// Searches over a hand with which nobody claimed anything yet, and answers the bound that it comes to.
+/// Searches through a hand of a search in which nothing was claimed yet, and returns the resulting bound.
 pub(crate) fn search<H: Hand, F: Fn(u64, u64) -> u64>(
     alloc: Global,
     kept: &StoredBound<F>,
@@ -39,7 +39,7 @@ pub(crate) fn search<H: Hand, F: Fn(u64, u64) -> u64>(
     Ok(bound)
 }
 
-/// Claims the front and goes down it. Nothing was found of any task yet.
+/// Claims the front and goes down it. No task has a result yet.
 fn begin<H: Hand, F: Fn(u64, u64) -> u64>(
     alloc: Global,
     kept: &StoredBound<F>,
@@ -65,7 +65,7 @@ fn begin<H: Hand, F: Fn(u64, u64) -> u64>(
     Ok(found)
 }
 
-/// Claims a part, where one is left.
+/// Claims a part, or fails if none is left.
 fn claimed<H: Hand>(hand: &mut H) -> Result<u32, Fail>
     requires { H.is_sound hand.old }
     ensures sound { H.is_sound hand.new }
@@ -78,7 +78,7 @@ fn claimed<H: Hand>(hand: &mut H) -> Result<u32, Fail>
     }
 }
 
-/// Claims as many parts as there are tasks, and walks each task that is asked for.
+/// Claims as many parts as there are tasks, and walks each wanted task.
 fn take_tasks<H: Hand, F: Fn(u64, u64) -> u64>(
     alloc: Global,
     kept: &StoredBound<F>,
@@ -102,7 +102,7 @@ fn take_tasks<H: Hand, F: Fn(u64, u64) -> u64>(
     Ok(())
 }
 
-/// Claims a task, and walks it where it is asked for.
+/// Claims a task, and walks it if it is wanted.
 fn take_task<H: Hand, F: Fn(u64, u64) -> u64>(
     kept: &StoredBound<F>,
     hand: &mut H,

@@ -1,6 +1,6 @@
-// Worlds of small films: the replies to a run of events, and events that may not come. The triangle's three
-// scenes are each shot with two of three actors; its tasks are the paths of the scenes 0 and 1, of 0 and 2,
-// and of 2 and 1, and each order of it costs 13 or 14. All numbers are worked by hand.
+// Worlds (search states) of small films: the replies to a run of events, and events that aren't allowed. In the
+// triangle each of three scenes has two of three actors. Its tasks are the paths of the scenes 0 and 1, of 0 and 2, and
+// of 2 and 1. Each of its orders costs 13 or 14. All numbers are worked by hand.
 ghost use Rattle.std.specs.Prelude.{◌≤◌, IfOk};
 ghost use Rattle.strip_film.specs.Path.{IsComplete};
 ghost use Rattle.strip_film.specs.Shown.{path_data};
@@ -47,7 +47,7 @@ fn world<F: Fn(u64, u64) -> u64>(
     Ok(world)
 }
 
-/// The complete path along these scenes.
+/// Makes the complete path of these scenes.
 fn order(film: &Film, scenes: &[u32]) -> Result<Path, Fail>
     ensures { IfOk result (λ path. IsComplete film.now (path_data path)) }
 {
@@ -58,7 +58,7 @@ fn order(film: &Film, scenes: &[u32]) -> Result<Path, Fail>
     Ok(path)
 }
 
-/// The reply to an event, where it may come.
+/// Returns the reply to an event, or none if the event isn't allowed.
 fn reply<F: Fn(u64, u64) -> u64>(
     kept: &StoredBound<F>,
     world: &mut World,
@@ -82,11 +82,11 @@ fn known(line: u32, set: u64, bound: u64) -> Known {
     Known { line, set, bound }
 }
 
-/// An event, and its reply, none where it may not come.
+/// An event and its reply, or none if the event isn't allowed.
 #[derive(Drop)]
 struct Step(Event, Option<Reply>);
 
-/// Whether the events are replied so, one after the other.
+/// Tells whether the events get these replies in turn.
 fn are_replied<F: Fn(u64, u64) -> u64>(
     kept: &StoredBound<F>,
     world: &mut World,
@@ -118,7 +118,7 @@ fn raise(who: u32, bound: u64) -> Event {
     }
 }
 
-// One line, which worker 0 makes and worker 1 raises, and which can't be raised further.
+// A line that worker 0 makes and worker 1 raises, and that can't be raised further.
 fn nine_events(start: Path) -> [Event; 9] {
     let note = Event::Note {
         who: 0,
@@ -137,7 +137,7 @@ fn nine_events(start: Path) -> [Event; 9] {
     ]
 }
 
-// The replies to eight of them; the last may not come.
+// The replies to eight of the events; the last event isn't allowed.
 fn nine_steps(start: Path) -> [Step; 9] {
     let [look, front, task, whole, raised, note, same, other, above] = nine_events(start);
     let hit = Reply::Probed(Probe::Hit(known(0, 7, 13)));
@@ -154,7 +154,7 @@ fn nine_steps(start: Path) -> [Step; 9] {
     ]
 }
 
-// A run takes the eight events that may come, and stops at the ninth.
+// A run takes the eight allowed events, and stops at the ninth.
 fn runs_eight_of_nine<F: Fn(u64, u64) -> u64>(
     alloc: Global,
     kept: &StoredBound<F>,
@@ -183,7 +183,7 @@ fn has_line_of_13(world: &World) -> bool {
     world.least() == 13 && world.lines() == [Line { set: 7, bound: 13 }].as_slice()
 }
 
-// The first scene pays 3, and to finish costs 10 at least: no less than 13, which was told.
+// The first scene pays 3, and finishing costs at least 10: the sum reaches 13, the cost that was told.
 fn rules_out_by_its_bound<F: Fn(u64, u64) -> u64>(
     alloc: Global,
     kept: &StoredBound<F>,
@@ -224,7 +224,7 @@ fn worlds_by_pairs(rt: HostRuntime) -> Result<(), Fail> {
     Ok(())
 }
 
-// With one line at most, the second is refused: behind the first four events.
+// With at most one line, the second is refused. These events follow the first four.
 fn spends_its_lines<F: Fn(u64, u64) -> u64>(
     alloc: Global,
     kept: &StoredBound<F>,
@@ -247,7 +247,7 @@ fn spends_its_lines<F: Fn(u64, u64) -> u64>(
     Ok(are_replied(kept, &mut world, &steps))
 }
 
-/// Takes the events, each where it may come.
+/// Takes the events that are allowed.
 fn take_all<F: Fn(u64, u64) -> u64>(kept: &StoredBound<F>, world: &mut World, events: &[Event])
     requires sound { IsSound world.old }
     requires keeps { Keeps (F.pre kept.now.f) (F.post kept.now.f) kept.now.kind kept.now.film.now }
@@ -260,8 +260,8 @@ fn take_all<F: Fn(u64, u64) -> u64>(kept: &StoredBound<F>, world: &mut World, ev
     }
 }
 
-// The world of the triangle with plain bounds and an order that costs 14, in which worker 0 has the front and
-// worker 1 the first task, and the empty path and that of scene 1 are enlisted, with the bounds 12 and 9.
+// The world of the triangle with plain bounds and an order of cost 14. Worker 0 has claimed the front, and worker 1 the
+// first task. The empty path and that of scene 1 are enlisted, with the bounds 12 and 9.
 fn begun<F: Fn(u64, u64) -> u64>(alloc: Global, kept: &StoredBound<F>) -> Result<World, Fail>
     requires keeps { Keeps (F.pre kept.now.f) (F.post kept.now.f) kept.now.kind kept.now.film.now }
     ensures sound { IfOk result IsSound }
@@ -302,8 +302,8 @@ fn unknown_workers(start: Path, first: Path) -> [Event; 7] {
     ]
 }
 
-// An unfinished path; a line that isn't there, and bounds that nothing justifies; a set that isn't in the
-// film; notes of a line that isn't there, of another set, and above the line's bound.
+// An unfinished path; an unknown line, and bounds that nothing justifies; a set outside the film; notes of an unknown
+// line, of another set, and above the line's bound.
 fn unfit(unfinished: Path) -> [Event; 9] {
     [
         Event::Offer {
@@ -375,9 +375,8 @@ fn refuses_events<F: Fn(u64, u64) -> u64>(
     Ok(none_may_come(kept, &world, &unknown) && none_may_come(kept, &world, &unfit))
 }
 
-// Paths that may not be enlisted: in a task of another worker, one that nobody claimed, one that isn't
-// there, the last path again, one before it, one that isn't of the front, one of another task, one with
-// nothing remaining, one of the task without a probe.
+// Paths that may not be enlisted: in a task of another worker, in an unclaimed task, in an unknown one; the last path
+// again, one before it; a path outside the front, one of another task, a complete one, one of the task without a probe.
 static PATHS: [(u32, u32, &'static [u32]); 9] = [
     (1, 0, &[1]),
     (0, 3, &[2, 1]),
@@ -420,7 +419,7 @@ fn refuses_paths_of_other_films<F: Fn(u64, u64) -> u64>(
     Ok(none_may_come(kept, &world, &events) && world.allows(kept, &own))
 }
 
-// The path of a task may be enlisted once a set that remains after it was looked up.
+// The path of a task may be enlisted once its remaining set was looked up.
 fn asks_for_a_probe<F: Fn(u64, u64) -> u64>(
     alloc: Global,
     kept: &StoredBound<F>,
@@ -480,13 +479,13 @@ fn lets_open_paths_through<F: Fn(u64, u64) -> u64>(
     Ok(!world.allows(kept, &closed) && world.allows(kept, &opening))
 }
 
-/// The reply that a line of this number was made.
+/// Returns the reply for a new line with this number.
 fn listed(line: u32) -> Option<Reply> {
     Some(Reply::Listed(Listed::Line(line)))
 }
 
-// The ranks of the ring's scenes are 21, 23, 22 and 21, so the front's paths come in the order of the scenes
-// 0, 3, 2 and 1.
+// The ranks of the ring's scenes are 21, 23, 22 and 21. So the front has the paths of the scenes 0, 3, 2 and 1, in this
+// order.
 fn enlists_by_rank<F: Fn(u64, u64) -> u64>(
     alloc: Global,
     kept: &StoredBound<F>,
@@ -527,7 +526,7 @@ fn worlds_by_groups(rt: HostRuntime) -> Result<(), Fail> {
     Ok(())
 }
 
-// The scenes of one actor each come before that of both.
+// The scenes of one actor come before the scene of both.
 #[test]
 fn paths_that_are_not_open(rt: HostRuntime) -> Result<(), Fail> {
     let alloc = rt.alloc();

@@ -1,10 +1,10 @@
-// Canonical texts, worked by hand and by another program from the rules of the format.
+// Canonical texts, worked by hand, and by an independent program from the rules of the format.
 use std::alloc::Global;
 use std::test::Fail;
 use strip_instance::{read_instance, write_instance};
 use strip_model::{Actor, Instance, Pair, Scene};
 
-// Texts, and the canonical texts of what they say.
+// Texts, and the canonical texts of their instances.
 const CANONICAL: [(&str, &str); 12] = [
     // the film of docs/FORMATS.md
     (
@@ -31,7 +31,7 @@ const CANONICAL: [(&str, &str); 12] = [
         "scene,days,\"a b\"\nrate,,5\n#'\\;,1,X\n",
         "scene,days,a b\nrate,,5\n#'\\;,1,x\n",
     ),
-    // a hold row, only where some hold rate differs from the rate
+    // a hold row, only if some hold rate differs from the rate
     (
         "scene,days,a,b,c\nrate,,1,2,3\nhold,,5,1,4\ns1,1,x,x,\ns2,1,,x,x\ns3,1,x,,x\n",
         "scene,days,a,b,c\nrate,,1,2,3\nhold,,5,1,4\ns1,1,x,x,.\ns2,1,.,x,x\ns3,1,x,.,x\n",
@@ -59,7 +59,7 @@ const CANONICAL: [(&str, &str); 12] = [
     ),
 ];
 
-// The films that texts say in all their spellings.
+// Films with texts in all spellings of the format.
 #[rattlefmt::skip]
 const SPELLED: [(&str, &str); 11] = [
     ("\u{feff}scene,days,a,b\r\nrate,,10,20\r\n s1 , 1 , x , .\r\ns2,1,X,x\r\n", "scene,days,a,b\nrate,,10,20\ns1,1,x,.\ns2,1,x,x\n"),
@@ -91,7 +91,7 @@ const SPELLED_TOO: [(&str, &str); 12] = [
     ("scene,days,Ann Lee,\"Bo, Jr\",\"Zoë \"\"Z\"\"\"\nrate,,900,0,1000000000\nhold,,900,450,0\n\"INT. HOUSE, DAY\",2,x,x,.\nEXT. ROAD,1,x,.,.\n\"12A \"\"Küche\"\"\",99,.,x,x\n日本 🎬,10,.,.,.\n", "scene,days,Ann Lee,\"Bo, Jr\",\"Zoë \"\"Z\"\"\"\nrate,,900,0,1000000000\nhold,,900,450,0\n\"INT. HOUSE, DAY\",2,x,x,.\nEXT. ROAD,1,x,.,.\n\"12A \"\"Küche\"\"\",99,.,x,x\n日本 🎬,10,.,.,.\n"),
 ];
 
-// Whether the canonical text is written of what the text says, and of what it says itself.
+// Tells whether the text is read and written as the canonical text, and the canonical text as itself.
 fn is_canonical(alloc: Global, text: &str, canonical: &str) -> Result<bool, Fail> {
     Ok(is_written(alloc, text, canonical)? && is_written(alloc, canonical, canonical)?)
 }

@@ -1,6 +1,6 @@
-//! Tests: what no clause says of texts. That the calls succeed where memory is left; streams that are cut short, fail and
-//! stop in the middle; texts worked by hand, of calls that no command makes; and the whole program, over files that never fail
-//! and by the words on workers.
+//! Tests of texts, files and sinks, for properties that no contract states. Calls succeed if memory is left, and
+//! streams may be cut short, fail or stop in the middle. Texts worked by hand are read and written by calls that no
+//! command makes. The whole program runs over files that never fail, and with several workers.
 #![tactic(auto)]
 
 #[cfg(test)]

@@ -25,7 +25,7 @@ fn ends_so(alloc: Global, name: &str, status: u8, printed: &str) -> Result<bool,
     Ok(code == status && out.taken() == printed.as_bytes())
 }
 
-// A name that was never added is an empty file there, which is no film.
+// A name that was never added is an empty file here, which is no film.
 #[test]
 fn files_that_never_fail(rt: HostRuntime) -> Result<(), Fail> {
     assert!(&rt; ends_so(rt.alloc(), "film.csv", 0, SOLVED)?);

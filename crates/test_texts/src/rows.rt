@@ -1,4 +1,4 @@
-// Rows of texts, read and written, and what a fault tells, worked by hand.
+// Rows of texts, read and written, and the fields of faults, worked by hand.
 use std::alloc::Global;
 use std::test::Fail;
 use strip_answer::{Answer, Status, told_row};
@@ -6,7 +6,7 @@ use strip_instance::InstanceFault;
 use strip_io::Memory;
 use strip_text::{Row, Rows, Text, Told};
 
-// A text, and its rows: a bar behind each field, a slash behind each row.
+// A text, and its rows: a bar after each field, a slash after each row.
 const READ: [(&str, &str); 15] = [
     ("", ""),
     ("\u{feff}", ""),
@@ -46,7 +46,7 @@ fn reads_as(alloc: Global, text: &str, expected: &str) -> Result<bool, Memory> {
         }
         show(&mut shown, &row)?;
     }
-    // At the end it stays.
+    // After the last row, nothing changes.
     let count = rows.number();
     Ok(!rows.read(&mut row)? && rows.number() == count && shown.as_str() == expected)
 }
@@ -84,7 +84,7 @@ fn writes_rows(rt: HostRuntime) -> Result<(), Fail> {
     Ok(())
 }
 
-/// Whether the words and what was told make this row.
+/// Tells whether the word and the fault's fields make this row.
 fn is_told(alloc: Global, word: &'static [u8], told: Told<'_>, row: &str) -> Result<bool, Memory> {
     Ok(told_row(alloc, word, told)?.as_slice() == row.as_bytes())
 }

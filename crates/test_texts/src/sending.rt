@@ -1,4 +1,4 @@
-// The rows of lines, sent to sinks that take them in pieces, and to sinks that fail.
+// Line rows, sent to sinks that take them in pieces, and to sinks that fail.
 ghost use Rattle.std.specs.Prelude.{◌≤◌};
 
 use std::alloc::Global;
@@ -7,7 +7,7 @@ use strip_film::Line;
 use strip_io::{Failed, MemSink};
 use strip_proof::{line_text, send_lines};
 
-// Lines of large and small sets, with bounds of all lengths.
+// Returns lines of large and small sets, with bounds of all lengths.
 fn lines(alloc: Global) -> Result<Vec<Line>, Fail> {
     let mut lines = Vec::new(alloc);
     for number in 0..200u64 {
@@ -18,7 +18,7 @@ fn lines(alloc: Global) -> Result<Vec<Line>, Fail> {
     Ok(lines)
 }
 
-// Their rows, made one by one.
+// Returns the rows of the lines, made one by one.
 fn rows(alloc: Global, lines: &[Line]) -> Result<Vec<u8>, Fail> {
     let mut rows = Vec::new(alloc);
     for line in lines {
@@ -27,7 +27,7 @@ fn rows(alloc: Global, lines: &[Line]) -> Result<Vec<u8>, Fail> {
     Ok(rows)
 }
 
-// Whether a sink that takes so many bytes at a time gets these rows.
+// Tells whether a sink that takes at most this many bytes at a time receives these rows.
 fn are_sent(alloc: Global, lines: &[Line], rows: &[u8], piece: usize) -> Result<bool, Fail>
     requires { 1 ≤ piece }
 {
@@ -48,7 +48,7 @@ fn lines_are_sent_as_their_rows(rt: HostRuntime) -> Result<(), Fail> {
     Ok(())
 }
 
-// Whether a sink whose third write fails gets so many of the bytes of these rows.
+// Tells whether a sink with a failing third write receives this many of the rows' bytes.
 fn is_cut_short(
     alloc: Global,
     lines: &[Line],

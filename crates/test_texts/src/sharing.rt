@@ -1,10 +1,12 @@
-// That as many workers search as the words say, that they do so at once, and that they steal exactly where the words say so.
+// Tests of several workers: the words set their number, they search at the same time, and they steal exactly if the
+// words say so.
 //
-// Each of four actors shares a scene with the one before and one with the next, by plain bounds. Their days of work cost 20.
-// Between the four scenes in any order they wait two days or more, so that no order costs less than 22. The scenes 2 and 3 cost
-// 9 at first, and the others then 12 or more; 1 and 4 cost 13, and the others 8. Both sums are below 22, so that several workers,
-// whose tasks have three scenes, are asked for four: each scene can be the last. One worker, whose tasks have two, is asked for
-// all six of these, as each first scene with the others costs 20.
+// The film is a ring: each of four actors shares a scene with the one before and one with the next. Bounds are plain.
+// The actors' days of work cost 20. Between the four scenes they wait at least two days in any order, so each order
+// costs at least 22. The scenes 2 and 3 cost 9 if they come first, and the others then at least 12; 1 and 4 cost 13,
+// and the others 8. Both sums are below 22. So several workers, whose tasks have three scenes, have four wanted tasks:
+// each scene can be the last. One worker, whose tasks have two scenes, has all six wanted, since each first scene with
+// the others costs 20.
 use std::alloc::{AllocError, Global};
 use std::sync::Wait;
 use std::sync::atomic::{AtomicBool, AtomicU32, Ordering};
@@ -17,7 +19,8 @@ use strip_worker::{Gate, Limit, Stage, Standing};
 const RING: &str = "scene,days,a,b,c,d\nrate,,1,2,3,4\n\
     s1,1,x,.,.,x\ns2,1,x,x,.,.\ns3,1,.,x,x,.\ns4,1,.,.,x,x\n";
 
-/// Holds whoever begins the first task until so many others were begun, for a bounded number of turns.
+/// A gate that holds the worker who begins the first task until `awaited` other tasks were begun, for a bounded number
+/// of turns.
 #[derive(Drop)]
 struct Holding {
     awaited: u32,
@@ -25,7 +28,7 @@ struct Holding {
     begun: AtomicU32,
     // The other tasks in the order in which they were begun, a digit each.
     order: AtomicU32,
-    // Whether as many as were awaited were begun in time.
+    // Whether the awaited tasks were begun in time.
     met: AtomicBool,
 }
 
@@ -40,7 +43,7 @@ impl Holding {
         }
     }
 
-    /// Waits until as many as are awaited were begun.
+    /// Waits until the awaited tasks were begun.
     fn hold(&self) {
         for _turn in 0..400_000_000u64 {
             if self.begun.load(Ordering::SeqCst) >= self.awaited {
@@ -80,7 +83,7 @@ fn words_of(alloc: Global, text: &str) -> Result<Vec<String>, AllocError> {
     Ok(words)
 }
 
-/// The status of the program by these words over the ring's file.
+/// Returns the status of the program with these words over the ring's file.
 fn status_of<R: Threads + Wait + Sync>(
     rt: &R,
     alloc: Global,
@@ -94,8 +97,8 @@ fn status_of<R: Threads + Wait + Sync>(
     Ok(run(rt, alloc, &words, &mut files, &mut out, gate))
 }
 
-/// How many workers are told of, and the order in which the other tasks are begun, where by these words the search ends and so
-/// many of them are begun while the first is held.
+/// Returns the number of workers, and the order in which the other tasks are begun. It fails if the search doesn't end,
+/// or if fewer than `awaited` of these tasks are begun while the first is held.
 fn seen<R: Threads + Wait + Sync>(
     rt: &R,
     alloc: Global,
@@ -121,8 +124,8 @@ const STEALING: &str = "solve ring.csv --bounds plain --workers 2 --steal";
 
 const THREE: &str = "solve ring.csv --bounds plain --workers 3";
 
-// While one of two workers is held, the other takes the tasks by their numbers, where they come from a counter. Queues are dealt
-// to by turns, so that he has 2 and 4, and takes these first, and then 3 from the queue of the one who is held.
+// While one of two workers is held, the other takes the tasks of a counter by their numbers. Queues are filled in turn,
+// so his own has 2 and 4; he takes these first, and then steals 3.
 #[test]
 fn tasks_are_shared_as_the_words_say(rt: HostRuntime) -> Result<(), Fail> {
     let alloc = rt.alloc();

@@ -11,12 +11,12 @@ use strip_io::{Disk, Failed, Files, HostFiles, HostSink, LoadFault, Memory, load
 
 const TEXT: &[u8; 8] = b"abcdefgh";
 
-// A reader of the text, a few bytes at a time.
+// A reader of the text, with at most `most` bytes in a read.
 #[derive(Drop)]
 struct Reader {
     place: u64,
     most: usize,
-    // The number of the read that fails, and whether seeks do.
+    // The number of the read that fails, and whether seeks fail.
     failing: u64,
     stuck: bool,
     calls: u64,
@@ -49,10 +49,10 @@ impl Seek for Reader {
     }
 }
 
-// A disk on which each name is that of the text, of which a read gives at most three bytes.
+// A disk on which every name is that of the text. A read gives at most three bytes.
 #[derive(Drop)]
 struct OneText {
-    // The read of the file opened first that fails, and whether no file can be sought.
+    // The number of the read that fails in the first opened file, and whether seeks fail.
     failing: u64,
     stuck: bool,
     noted: Log<String, ()>,
@@ -77,7 +77,7 @@ impl Disk for OneText {
     }
 }
 
-// The files of such a disk, of which one is held.
+// Returns the files of such a disk, which has the file `held`.
 fn files_of(alloc: Global, failing: u64, stuck: bool) -> Result<HostFiles<OneText>, Memory> {
     let words = vec![in alloc; String::from_str(alloc, "held")?]?;
     let noted = Log::new();
@@ -89,13 +89,13 @@ fn files_of(alloc: Global, failing: u64, stuck: bool) -> Result<HostFiles<OneTex
     HostFiles::new(alloc, disk, &words)
 }
 
-// A writer that keeps what it takes, a few bytes at a time.
+// A writer that stores what it takes, with at most `most` bytes in a write.
 #[derive(Drop)]
 struct Writer {
     taken: [u8; 8],
     len: usize,
     most: usize,
-    // The numbers of the write that fails and of that which takes nothing.
+    // The number of the write that fails, and of the write that takes nothing.
     failing: u64,
     stopping: u64,
     calls: u64,
@@ -135,7 +135,7 @@ impl Write for Writer {
     }
 }
 
-// Whether a read at a place gives so many bytes, or fails, and this is what was read into then.
+// Tells whether a read at this place gives `count` bytes, or fails for none, and leaves `text` in the buffer.
 fn reads_so(
     files: &mut HostFiles<OneText>,
     at: u64,
@@ -180,7 +180,8 @@ fn a_failed_read_is_no_end(rt: HostRuntime) -> Result<(), Fail> {
     Ok(())
 }
 
-// Whether the text, sent to the writer, ends so, and the writer then holds this, in so many writes.
+// Tells whether sending the text to the writer has this result, and the writer then has these bytes, after this many
+// writes.
 fn takes(writer: Writer, end: Result<(), Failed>, taken: &[u8; 8], calls: u64) -> bool {
     let mut out = HostSink::over(writer);
     let found = send(&mut out, TEXT);

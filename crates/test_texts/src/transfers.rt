@@ -1,4 +1,4 @@
-// What no clause says: that the calls succeed where memory is left, and a few texts worked by hand.
+// Loads and sends that have to succeed if memory is left, with a few texts worked by hand.
 ghost use Rattle.std.specs.Prelude.{◌≤◌, ◌^◌};
 
 use std::alloc::Global;
@@ -13,7 +13,7 @@ use strip_io::{
 // Longer than one piece of a load, which is 4096 bytes.
 const LONG: usize = 5000;
 
-/// Whether the file's text, of at most so many bytes, is loaded as this.
+/// Tells whether the file is loaded as `text`, under this limit in bytes.
 fn loads<F: Files>(
     alloc: Global,
     files: &mut F,
@@ -26,7 +26,7 @@ fn loads<F: Files>(
     Ok(load(alloc, files, name, limit)?.as_slice() == text)
 }
 
-/// Whether the file isn't loaded, for this fault.
+/// Tells whether loading the file fails with this fault.
 fn fails<F: Files>(alloc: Global, files: &mut F, name: &str, limit: u64, fault: LoadFault) -> bool
     requires { limit ≤ 2 ^ 30 }
 {
@@ -80,8 +80,8 @@ fn files_without_faults_hold_each_name(rt: HostRuntime) -> Result<(), Fail> {
     Ok(())
 }
 
-/// Whether a sink of so much room, whose writes of these numbers fail, is sent the alphabet and four digits so, and
-/// gets this.
+/// Sends the alphabet and four digits to a sink with this room, in which the writes with these numbers fail. It tells
+/// whether the result is `end` and the sink has `taken`.
 fn is_sent(
     alloc: Global,
     room: usize,

@@ -1,6 +1,6 @@
-// The book of the triangle, a film of three scenes of two of three actors each, by bounds of pairs. Its
-// orders cost 13 to 15. The bound of all scenes is 12, and each first step with the bound of what then
-// remains pays 13. All numbers are worked by hand.
+// The book (shared list of lines) of the triangle: a film of three scenes and three actors, with two actors in each
+// scene. Bounds are of pairs. Its orders cost 13 to 15. The bound of all scenes is 12, and each first step plus the
+// bound of the rest is 13. All numbers are worked by hand.
 ghost use Rattle.std.specs.Prelude.{◌≡◌, ℕ, ◌+◌, ◌<◌, ◌≤◌, true, Some, IfOk, IfSome, IsTrue, length};
 ghost use Rattle.strip_mask.specs.Set.{has, without};
 ghost use Rattle.strip_film.specs.Film.{LiesIn, all_scenes};
@@ -32,7 +32,7 @@ pub(crate) fn triangle(alloc: Global) -> Result<Film, Fail> {
     film_of(alloc, &[0b011, 0b110, 0b101], &[1, 1, 1], &[1, 2, 3], &[])
 }
 
-/// What became of two paths, and the static bounds of what remains after each.
+/// The results of enlisting two paths, and the static bounds of their remaining sets.
 #[derive(Debug, Drop)]
 struct Enlisted {
     line: u32,
@@ -50,8 +50,8 @@ impl Enlisted {
     }
 }
 
-/// Enlists the path without a scene in the front, and then that of one scene, where they may be and the
-/// first gets a line.
+/// Enlists the empty path in the front, and then the path of scene `first`. It returns none if either isn't allowed, or
+/// the empty path gets no line.
 fn enlist_two<F: Fn(u64, u64) -> u64>(
     kept: &StoredBound<F>,
     book: &Book,
@@ -100,7 +100,7 @@ fn enlist_two<F: Fn(u64, u64) -> u64>(
     })
 }
 
-/// Whether each step to an open first of all scenes reaches the bound with that of what then remains.
+/// Tells whether the step of each open first of all scenes, plus the bound of the rest, reaches the number.
 pub(crate) fn each_first_reaches<F: Fn(u64, u64) -> u64>(kept: &StoredBound<F>, number: u64) -> bool
     requires keeps { Keeps (F.pre kept.now.f) (F.post kept.now.f) kept.now.kind kept.now.film.now }
     ensures { IsTrue result → (scene : ℕ) → has (open_firsts kept.now.film.now (all_scenes kept.now.film.now)) scene
@@ -120,7 +120,7 @@ pub(crate) fn each_first_reaches<F: Fn(u64, u64) -> u64>(kept: &StoredBound<F>, 
     true
 }
 
-/// Raises the line of all scenes, where each first step reaches the bound.
+/// Raises the line of all scenes to the number, if each first step justifies that.
 pub(crate) fn raise_whole<F: Fn(u64, u64) -> u64>(
     kept: &StoredBound<F>,
     book: &Book,
@@ -147,8 +147,8 @@ pub(crate) fn raise_whole<F: Fn(u64, u64) -> u64>(
     true
 }
 
-/// Whether a worker's note of the line of all scenes in a table of 64 entries is fresh, and another worker finds it by its set and
-/// nothing by another one.
+/// Tells whether a worker's note of the line of all scenes is new in a table of 64 entries. Another worker has to find
+/// it by its set, and nothing by another set.
 fn is_found<R: Wait, N: Named>(
     rt: &R,
     alloc: Global,
@@ -177,8 +177,9 @@ fn is_found<R: Wait, N: Named>(
     Ok(noted == Noted::Fresh && same == Probe::Hit(found) && none == Probe::Miss)
 }
 
-/// The lines of a book with room for one and a task of two scenes, in whose front two paths are enlisted; the first one's line is
-/// raised to 13, and then found by another worker, and the second is told that the lines are spent.
+/// Returns the lines of a book with room for one line and a task of two scenes, after two paths of the front are
+/// enlisted. The first path's line is raised to 13, and another worker finds it; for the second path the line budget is
+/// used up.
 fn lines_of_one<R: Wait, F: Fn(u64, u64) -> u64>(
     rt: &R,
     alloc: Global,

@@ -1,5 +1,5 @@
-// What the hub of one worker finds of what that of another did: the line of all scenes, which each first
-// step justifies at 60, and the least cost. The start path pays 70, and the other 60.
+// Two workers' hubs (hands on the shared state): the second finds the line of all scenes and the least cost of the
+// first. Each first step justifies 60. The initial path pays 70, and the other path 60.
 ghost use Rattle.std.specs.Prelude.{◌≡◌, ◌≤◌, ℕ, suc, None, IfOk};
 ghost use Rattle.strip_film.specs.Film.{all_scenes};
 ghost use Rattle.strip_film.specs.Path.{IsComplete};
@@ -29,13 +29,13 @@ use strip_least::Least;
 use strip_mask::Mask;
 use strip_stripes::{Named, Stripes};
 
-/// Two actors who work alone and then together: at 10 and at 20 a day, and as much for a day of waiting.
+/// Makes a film of two actors who work alone and then together, at 10 and 20 a day, also for waiting.
 fn meeting(alloc: Global) -> Result<Film, Fail> {
     film_of(alloc, &[0b01, 0b10, 0b11], &[1, 1, 1], &[10, 20], &[])
 }
 
-/// What the first worker was told of its note and its offer; and the second of all scenes, and of the
-/// least cost before that offer and behind it.
+/// The replies to the first worker's note and offer; the second worker's entry of all scenes, and the least costs it is
+/// told before and after the offer.
 #[derive(Debug, Drop)]
 struct Told {
     noted: Noted,
@@ -109,7 +109,7 @@ fn enlist_whole<H: Hand, F: Fn(u64, u64) -> u64>(
     }
 }
 
-/// Raises the line of all scenes, where each first step reaches the bound.
+/// Raises the line of all scenes, if each first step justifies the bound.
 fn raise_to<H: Hand, F: Fn(u64, u64) -> u64>(
     kept: &StoredBound<F>,
     hand: &mut H,
@@ -157,7 +157,7 @@ fn note_whole<H: Hand, F: Fn(u64, u64) -> u64>(
     Ok(noted)
 }
 
-/// The first worker makes and notes a line, and then offers a path; the second asks behind each.
+/// The first worker makes and notes a line, and then offers a path; the second asks after each of these.
 fn take_turns<H: Hand, F: Fn(u64, u64) -> u64>(
     kept: &StoredBound<F>,
     first: &mut H,
@@ -184,7 +184,7 @@ fn take_turns<H: Hand, F: Fn(u64, u64) -> u64>(
     })
 }
 
-/// What two workers are told with passes that are split from these.
+/// Returns the replies to two workers with passes that are split from these.
 fn share<N: Named, R: Wait, F: Fn(u64, u64) -> u64>(
     rt: &R,
     alloc: Global,
@@ -229,8 +229,7 @@ fn share<N: Named, R: Wait, F: Fn(u64, u64) -> u64>(
     take_turns(kept, &mut first, &mut second, path)
 }
 
-/// What two workers are told in a search that begins with a path and has the front and one task of two
-/// scenes.
+/// Returns the replies to two workers in a search from `start`, with the front and one task of two scenes.
 fn shared<R: Wait, F: Fn(u64, u64) -> u64>(
     rt: &R,
     alloc: Global,

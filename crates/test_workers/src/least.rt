@@ -1,4 +1,4 @@
-// The least cost and the next part, as several workers use them.
+// The least cost and the next part, used by several workers.
 ghost use Rattle.std.specs.Prelude.{◌≡◌, ◌<◌, All, IfOk, IfSome, length};
 ghost use Rattle.strip_film.specs.Path.{IsComplete, IsPath};
 ghost use Rattle.strip_film.specs.Shown.{path_data};
@@ -12,7 +12,7 @@ use strip_film::{Film, Path, laws, ready};
 use strip_least::{Least, LeastPass};
 use strip_pay::Pair;
 
-/// The film of these lists, in which an actor gets as much for a day of waiting as for one of work.
+/// Makes the film of these lists, in which waiting is paid like work.
 pub(crate) fn film_of(
     alloc: Global,
     casts: &[u64],
@@ -29,13 +29,12 @@ pub(crate) fn film_of(
     Ok(film)
 }
 
-/// A film of three scenes, a day each, the first and the second with an actor of their own, the third
-/// with both.
+/// Makes a film of three scenes, a day each. The first and the second have an actor of their own, the third has both.
 fn film(alloc: Global, pairs: &[Pair]) -> Result<Film, Fail> {
     film_of(alloc, &[0b01, 0b10, 0b11], &[1, 1, 1], &[10, 20], pairs)
 }
 
-/// The path of these scenes, if it is complete.
+/// Makes the path of these scenes, or returns none if it isn't complete.
 fn complete(film: &Film, scenes: &[u32]) -> Option<Path>
     ensures { IfSome result (λ path. IsComplete film.now (path_data path)) }
 {
@@ -57,7 +56,7 @@ pub(crate) fn path(film: &Film, scenes: &[u32]) -> Result<Path, Fail>
     Ok(path)
 }
 
-/// The path of the first scene and then the second, if they can be shot so: a task of two scenes.
+/// Makes the path of the first scene and then the second, a task of two scenes, if the pairs allow it.
 pub(crate) fn task_of_two(film: &Film) -> Option<Path>
     ensures path { IfSome result (λ task. IsPath film.now (path_data task)) }
     ensures two { IfSome result (λ task. length (path_data task).scenes ≡ 2) }
@@ -74,15 +73,15 @@ pub(crate) fn task_of_two(film: &Film) -> Option<Path>
     Some(one.extend(film, 1))
 }
 
-/// What two passes are told, offer and claim.
+/// The results of two passes.
 #[derive(Debug, Drop)]
 struct Seen {
-    /// What the second pass is told, the first one offers and the second one then is told and offers, and its best path, each
-    /// before anything is joined; and what it is told and its best path behind a join.
+    /// Costs in turn. Before a join: the second pass looks, the first offers, the second looks and offers, and its best
+    /// path pays. After the join: the second looks, and its best path pays.
     told: [u64; 7],
-    /// What the first, the second and twice the first pass claim.
+    /// The parts that the first, the second and twice the first pass claim.
     claims: [Option<u32>; 4],
-    /// What the best path of both paid.
+    /// The pay of the joined best path.
     paid: u64,
 }
 
@@ -149,7 +148,7 @@ fn claim_all(alloc: Global, least: &Least, pass: LeastPass) -> Result<Vec<u32>, 
     Err(AllocError)
 }
 
-/// So many new passes.
+/// Splits off `count` new passes.
 fn deal(
     alloc: Global,
     least: &Least,
@@ -167,7 +166,7 @@ fn deal(
     Ok(passes)
 }
 
-/// What each pass claims in a thread of its own, beside the others.
+/// Returns the parts that each pass claims, in a thread for each.
 fn claim_beside<R: Threads + Sync>(
     rt: &R,
     alloc: Global,
@@ -189,7 +188,7 @@ fn are_numbers_below(count: u32, claims: &[u32]) -> bool {
     claims.len() == count as usize && (0..count).zip(claims).all(|(part, claim)| part == *claim)
 }
 
-/// What four workers claim of a thousand parts, by rising number.
+/// Returns the parts of a thousand that four workers claim, in rising order.
 fn claimed_by_four<R: Threads + Sync>(
     rt: &R,
     alloc: Global,

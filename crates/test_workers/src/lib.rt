@@ -1,4 +1,5 @@
-//! Tests: what several workers are told who act at once, by calls that no command makes.
+//! Tests of the shared state of a parallel search, for what several workers are told who act at once, by calls that no
+//! command makes.
 #![tactic(auto)]
 
 #[cfg(test)]

@@ -1,4 +1,4 @@
-// The rows that come to a standard error, of several searches.
+// Progress rows of several searches on standard error.
 use std::alloc::Global;
 use std::fmt::Display;
 use std::io::{self, ErrorKind};
@@ -11,7 +11,7 @@ use strip_kind::Kind;
 use strip_progress::Progress;
 use strip_worker::{Gate, Limit, Stage, Standing};
 
-/// A standard error that counts the rows that come to it, keeps the first, and says each time that it failed.
+/// A standard error that counts its rows, keeps the first, and reports a failure each time.
 #[derive(Drop)]
 struct FailingError {
     alloc: Global,
@@ -32,7 +32,7 @@ impl FailingError {
         self.rows.load(Ordering::SeqCst)
     }
 
-    /// Whether this was the first row.
+    /// Tells whether the first row is `row`.
     fn begins(&self, row: &str) -> bool {
         match self.first.get() {
             Some(first) => first.as_str() == row,
@@ -54,7 +54,7 @@ impl Eprint for FailingError {
     }
 }
 
-/// How a search stands with this bound.
+/// Makes the state of a search with this bound.
 fn standing(bound: Option<u64>) -> Standing {
     Standing {
         cost: 104_319,
@@ -64,7 +64,7 @@ fn standing(bound: Option<u64>) -> Standing {
     }
 }
 
-/// Begins as many tasks, each by this worker.
+/// Begins `tasks` tasks, each by this worker.
 fn walk<G: Gate>(gate: &G, worker: u32, tasks: u32) {
     let standing = standing(None);
     for part in 0..tasks {
@@ -72,18 +72,18 @@ fn walk<G: Gate>(gate: &G, worker: u32, tasks: u32) {
     }
 }
 
-/// Two workers begin forty tasks each of eighty, in threads of their own.
+/// Two workers begin forty of eighty tasks each, in threads of their own.
 fn walk_beside<R: Threads + Sync, G: Gate>(rt: &R, gate: &G) {
     gate.opened(80, 2);
     thread::join(rt, || walk(gate, 0, 40), || walk(gate, 1, 40));
 }
 
-/// The same, told on any standard error.
+/// Reports such a search on any standard error.
 fn tell_beside<R: Threads + Sync, E: Eprint + Sync>(rt: &R, host: &E) {
     walk_beside(rt, &Progress::new(host));
 }
 
-/// How many rows come where one worker begins so many of the tasks that are asked for.
+/// Returns the number of rows if one worker begins `tasks` of the wanted tasks.
 fn rows_of(alloc: Global, tasks: u32, wanted: u32) -> u32 {
     let host = FailingError::new(alloc);
     let gate = Progress::new(&host);
@@ -92,8 +92,8 @@ fn rows_of(alloc: Global, tasks: u32, wanted: u32) -> u32 {
     host.rows()
 }
 
-/// How many rows come with the limits of so many steps, each reached three times, and with two limits past the last
-/// step.
+/// Returns the number of rows with the limits of `steps` steps. Each limit is reached three times, and two lie beyond
+/// the last step.
 fn limit_rows_of(alloc: Global, steps: u32) -> u32 {
     let host = FailingError::new(alloc);
     let gate = Progress::new(&host);
@@ -138,11 +138,11 @@ fn a_worker_counts_once(rt: HostRuntime) -> Result<(), Fail> {
 #[test]
 fn limits_have_few_rows(rt: HostRuntime) -> Result<(), Fail> {
     let alloc = rt.alloc();
-    // Each number from 0 to the steps reaches a fortieth of its own.
+    // Each number from 0 to the number of steps reaches a fortieth of its own.
     assert!(&rt; limit_rows_of(alloc, 1) == 2);
     assert!(&rt; limit_rows_of(alloc, 17) == 18);
     assert!(&rt; limit_rows_of(alloc, 40) == 41);
-    // 41 fortieths have a first number, from 0 to 40.
+    // Each of the 41 fortieths, 0 to 40, has a first number.
     assert!(&rt; limit_rows_of(alloc, 41) == 41);
     assert!(&rt; limit_rows_of(alloc, 412) == 41);
     Ok(())
@@ -153,7 +153,7 @@ fn the_first_limit_has_a_row(rt: HostRuntime) -> Result<(), Fail> {
     let host = FailingError::new(rt.alloc());
     let gate = Progress::new(&host);
     let standing = standing(Some(85_504));
-    // Of 80 steps, 2 are a fortieth: 0 and 1 reach none, 5 and 4 two.
+    // Of 80 steps, two make a fortieth: 0 and 1 reach none, 5 and 4 reach two.
     for number in [1, 0, 5, 4, 1] {
         gate.reached(&Limit {
             number,

@@ -1,4 +1,4 @@
-// What takers are given at the queues of a pool: each from its own first, and each number once.
+// Work-stealing queues of a pool: each taker empties its own queue first, and gets each number once.
 ghost use Rattle.std.specs.Prelude.{◌≡◌, ◌≤◌, ℕ, IfOk};
 ghost use Rattle.strip_steal.specs.Rule.{times};
 ghost use Rattle.strip_steal.specs.Taker.{IsTaker, taker_queues};
@@ -10,7 +10,7 @@ use std::thread;
 use std::thread::Threads;
 use strip_steal::{Taken, Taker, pool};
 
-/// The numbers from 1 to this one.
+/// Returns the numbers from 1 to `last`.
 fn numbers(alloc: Global, last: u32) -> Result<Vec<u32>, AllocError>
     ensures { IfOk result (λ numbers. (number : ℕ) → times number numbers.items ≤ 1) }
 {
@@ -21,26 +21,26 @@ fn numbers(alloc: Global, last: u32) -> Result<Vec<u32>, AllocError>
     Ok(numbers)
 }
 
-/// The number at this place, from the queue at this place; none behind the last.
+/// Returns the number at this place, from the queue at this place, or none beyond the last one.
 fn expected(numbers: &[u32], queues: &[u32], place: usize) -> Option<Taken> {
     let number = *numbers.get(place)?;
     let from = *queues.get(place)?;
     Some(Taken { number, from })
 }
 
-/// Whether the answers are these numbers, each from the queue at its place, and then none.
+/// Tells whether the answers are these numbers, each from the queue at its place, and then none.
 fn are_answers(answers: &[Option<Taken>], numbers: &[u32], queues: &[u32]) -> bool {
     answers.iter().enumerate().all(|(place, answer)| *answer == expected(numbers, queues, place))
 }
 
-/// Whether a list is of these numbers, each from the queue at its place.
+/// Tells whether a list has these numbers, each from the queue at its place.
 fn is_list(list: &[Taken], numbers: &[u32], queues: &[u32]) -> bool {
     list.len() == numbers.len()
         && list.iter().enumerate().all(|(place, one)| Some(*one)
             == expected(numbers, queues, place))
 }
 
-/// Whether the first of two takers is given all of five numbers, and the second one then none.
+/// Tells whether the first of two takers gets all five numbers, and then the second gets none.
 fn first_is_given_all<R: Wait>(rt: &R, alloc: Global) -> Result<bool, Fail> {
     let numbers = numbers(alloc, 5)?;
     let mut queues = pool(alloc, 2, numbers.as_slice())?;
@@ -68,8 +68,8 @@ fn a_taker_is_given_what_others_left(rt: HostRuntime) -> Result<(), Fail> {
     Ok(())
 }
 
-/// Whether three takers in turn are each given what is in their own queue, and then what is left. They
-/// are gathered in another order than that of their queues.
+/// Tells whether each of three takers gets the numbers of its own queue first, and then those that are left. They are
+/// gathered in another order than that of their queues.
 fn three_take_in_turn<R: Wait>(rt: &R, alloc: Global) -> Result<bool, Fail> {
     let numbers = numbers(alloc, 7)?;
     let mut queues = pool(alloc, 3, numbers.as_slice())?;
@@ -101,7 +101,7 @@ fn takers_in_turn_are_given_their_own_numbers(rt: HostRuntime) -> Result<(), Fai
     Ok(())
 }
 
-/// Takes until it is given none.
+/// Takes until the queues are empty.
 fn take_all<R: Wait>(rt: &R, taker: Taker) -> Taker
     requires { IsTaker taker }
     ensures taker { IsTaker result }
@@ -116,7 +116,7 @@ fn take_all<R: Wait>(rt: &R, taker: Taker) -> Taker
     taker
 }
 
-/// Each takes in a thread of its own, beside the other, until it is given none.
+/// Both take until the queues are empty, each in a thread of its own.
 fn both_take_all<R: Threads + Wait + Sync>(rt: &R, first: Taker, second: Taker) -> (Taker, Taker)
     requires first { IsTaker first }
     requires second { IsTaker second }
@@ -136,7 +136,7 @@ fn both_take_all<R: Threads + Wait + Sync>(rt: &R, first: Taker, second: Taker) 
     )
 }
 
-/// Whether the lists have each number from 1 to this one once, and no other.
+/// Tells whether the lists have each number from 1 to `last` once, and no other.
 fn have_each_once(
     alloc: Global,
     last: u32,
@@ -156,7 +156,7 @@ fn have_each_once(
     )
 }
 
-/// Whether two takers are given each of two hundred numbers once, in a thread each.
+/// Tells whether two takers, in a thread each, get each of two hundred numbers once.
 fn two_are_given_each_once<R: Threads + Wait + Sync>(rt: &R, alloc: Global) -> Result<bool, Fail> {
     let numbers = numbers(alloc, 200)?;
     let mut queues = pool(alloc, 2, numbers.as_slice())?;

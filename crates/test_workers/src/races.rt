@@ -1,10 +1,9 @@
-// Races of several workers on the ring, a film of five scenes and five actors, each of whom shares a scene
-// with the one before and one with the next, by plain bounds. The actors get 30 for the days that they
-// work. The order of the rows costs 45, since the fifth actor waits three days, at 5 each. Where the first
-// one alone waits he waits three, at 1 each, and an order costs 33. Between two days that follow one another
-// two actors or more have one scene on either side, as the ring has two ways from the scenes before to those
-// behind. So the distances of the actors' scenes add up to eight days or more, of which five don't make
-// anybody wait; and each of the other three costs 1 or more, so that no order costs less.
+// Races (parallel searches) on the ring: a film of five scenes and five actors, each of whom shares a scene with the
+// one before and one with the next. Bounds are plain. The actors' days of work cost 30. The order of the rows costs 45,
+// since the fifth actor waits three days, at 5 each. If only the first actor waits, three days at 1 each, an order
+// costs 33. No order costs less. The ring has two ways from earlier to later scenes. So at least two actors have scenes
+// on both sides of any point between two consecutive days. The distances between the actors' scenes then add up to at
+// least eight days. Five of these days cause no waiting, and each of the other three costs at least 1.
 ghost use Rattle.std.specs.Prelude.{◌≤◌};
 ghost use Rattle.strip_bound.specs.StoredBound.{Keeps};
 ghost use Rattle.strip_film.specs.Path.{IsComplete};
@@ -35,8 +34,8 @@ fn ring(alloc: Global) -> Result<Film, Fail> {
     )
 }
 
-/// The end of a race of so many workers, with a table of 64 entries and at most so many lines, that begins
-/// with the order of the rows, where they take tasks from one counter or from queues.
+/// Runs a race from the order of the rows, with `workers` workers, a table of 64 entries, and at most `cap` lines. The
+/// workers take tasks from a counter, or from queues if `steal` holds.
 fn raced<R: Threads + Wait + Sync>(
     rt: &R,
     alloc: Global,
@@ -63,7 +62,7 @@ fn raced<R: Threads + Wait + Sync>(
     raced_by(rt, alloc, &kept, &start, limits, steal)
 }
 
-/// The end of a race by static bounds that are stored.
+/// Runs a race with a stored bound.
 fn raced_by<R: Threads + Wait + Sync, F: Fn(u64, u64) -> u64 + Sync>(
     rt: &R,
     alloc: Global,
@@ -81,7 +80,7 @@ fn raced_by<R: Threads + Wait + Sync, F: Fn(u64, u64) -> u64 + Sync>(
     Ok(ended)
 }
 
-/// Whether a race of so many workers ends with the least cost and proves it.
+/// Tells whether a race ends with the least cost and proves it.
 fn is_won<R: Threads + Wait + Sync>(
     rt: &R,
     alloc: Global,
@@ -94,8 +93,7 @@ fn is_won<R: Threads + Wait + Sync>(
     Ok(!ended.spent && ended.cost == 33 && ended.bound == 33)
 }
 
-/// Whether a race of so many workers runs out where so few lines may be made that they don't prove the
-/// least cost.
+/// Tells whether a race uses up its lines. With `cap` lines the least cost can't be proved.
 fn runs_out<R: Threads + Wait + Sync>(
     rt: &R,
     alloc: Global,
@@ -120,9 +118,9 @@ fn a_race_ends_with_the_least_cost(rt: HostRuntime) -> Result<(), Fail> {
     Ok(())
 }
 
-// Each path with fewer scenes than a task gets a line, one for each set that can remain. Two workers have
-// tasks of three scenes and 1 + 5 + 10 lines before them, and 64 tasks of four scenes and 10 lines more. So
-// with one line the front is cut short, and with as many as it makes the workers begin and can make none.
+// Each path with fewer scenes than a task gets a line, one for each possible remaining set. Two workers have tasks of
+// three scenes, after 1 + 5 + 10 lines; 64 workers have tasks of four scenes, after 10 more. With one line the front is
+// cut short. With exactly the front's lines, the workers begin and can make none.
 #[test]
 fn a_race_runs_out_of_lines(rt: HostRuntime) -> Result<(), Fail> {
     let alloc = rt.alloc();

@@ -1,6 +1,5 @@
-// Four workers that make and raise ten thousand lines of one book: each begins 2,500 parts, whose tasks
-// are the path without a scene, and enlists that path in each. A book doesn't ask that the parts of two
-// passes differ.
+// Four workers that make and raise ten thousand lines of one book. Each begins 2,500 parts, whose tasks are the empty
+// path, and enlists this path in each. A book doesn't require that the parts of two passes differ.
 ghost use Rattle.std.specs.Prelude.{◌≡◌, ℕ, suc, ◌+◌, ◌<◌, ◌≤◌, All, IfOk, IfSome, length, vec_len};
 ghost use Rattle.strip_bound.specs.StoredBound.{Keeps};
 ghost use Rattle.strip_book.specs.Pass.{IsPassOf, known};
@@ -25,7 +24,7 @@ const WORKERS: u32 = 4;
 
 const SHARE: u32 = 2500;
 
-/// Begins a part, makes a line of the path without a scene, and raises it to 13; whether that went so.
+/// Begins a part, makes a line of the empty path, and raises it to 13. It tells whether all of this succeeded.
 fn make_line<F: Fn(u64, u64) -> u64>(
     kept: &StoredBound<F>,
     book: &Book,
@@ -57,7 +56,7 @@ fn make_line<F: Fn(u64, u64) -> u64>(
     raise_whole(kept, book, pass, line, 13)
 }
 
-/// Makes a line in each part, and answers the pass where all went so.
+/// Makes a line in each part, and returns the pass if all succeeded.
 fn make_lines<F: Fn(u64, u64) -> u64>(
     kept: &StoredBound<F>,
     book: &Book,
@@ -76,7 +75,7 @@ fn make_lines<F: Fn(u64, u64) -> u64>(
     Some(pass)
 }
 
-/// Each pass makes its lines in a thread of its own, beside the others.
+/// Each pass makes its lines in a thread of its own.
 fn make_beside<R: Threads + Sync, F: Fn(u64, u64) -> u64 + Sync>(
     rt: &R,
     kept: &StoredBound<F>,
@@ -99,7 +98,7 @@ fn make_beside<R: Threads + Sync, F: Fn(u64, u64) -> u64 + Sync>(
     )
 }
 
-/// The passes of four workers, each with a desk of its own, behind their work.
+/// Returns the passes of four workers after their work, each with a desk of its own.
 fn make_all<R: Threads + Sync, F: Fn(u64, u64) -> u64 + Sync>(
     rt: &R,
     alloc: Global,
@@ -121,7 +120,7 @@ fn make_all<R: Threads + Sync, F: Fn(u64, u64) -> u64 + Sync>(
     make_beside(rt, kept, book, passes)
 }
 
-/// Takes in the passes of all workers, where each made its lines.
+/// Joins the passes of all workers, if each made its lines.
 fn gather(book: &Book, pass: BookPass, passes: Vec<Option<BookPass>>) -> Option<BookPass>
     requires pass { IsPassOf book.now pass }
     requires weight { (known pass).weight + vec_len passes ≡ full_weight }
@@ -160,8 +159,8 @@ fn are_all_raised(lines: &[Line]) -> bool {
 
 const TRIANGLE: &str = "scene,days,a,b,c\nrate,,1,2,3\ns1,1,x,x,.\ns2,1,.,x,x\ns3,1,x,.,x\n";
 
-/// Whether the checker accepts a plan of the triangle in the order of its rows, which costs 13, with
-/// these lines.
+/// Tells whether the checker accepts a plan of the triangle with these lines. The plan has the order of the rows, which
+/// costs 13.
 fn is_accepted(alloc: Global, lines: Vec<Line>) -> Result<bool, Fail> {
     let inst = read_instance(alloc, TRIANGLE.as_bytes())?;
     let plan = Plan {
