@@ -13,9 +13,9 @@ else
 fi
 
 cp "$repository/HANDLES" "$work/"
-crates="strip_io strip_mask strip_pay strip_film strip_rule strip_group strip_bound"
+crates="strip_io strip_mask strip_model strip_film strip_rule strip_group strip_bound"
 grep -E "^(${crates// /|}):" "$repository/crates.txt" > "$work/crates.txt"
-echo "calls: strip_io strip_mask strip_pay strip_film strip_rule strip_group strip_bound" >> "$work/crates.txt"
+echo "calls: strip_io strip_mask strip_model strip_film strip_rule strip_group strip_bound" >> "$work/crates.txt"
 calls=$work/crates/calls
 mkdir -p "$calls/src" "$calls/proofs"
 for name in $crates; do

@@ -7,10 +7,10 @@ work=$(mktemp -d)
 trap 'rm -rf "$work"' EXIT
 
 cp "$repository/HANDLES" "$work/"
-printf 'strip_io:\nstrip_mask:\nstrip_pay: strip_mask\nstrip_film: strip_mask strip_io strip_pay\ncalls: strip_mask strip_pay strip_film\n' > "$work/crates.txt"
+printf 'strip_io:\nstrip_mask:\nstrip_model: strip_mask\nstrip_film: strip_mask strip_io strip_model\ncalls: strip_mask strip_model strip_film\n' > "$work/crates.txt"
 calls=$work/crates/calls
 mkdir -p "$calls/src" "$calls/proofs/+walk" "$calls/proofs/lies"
-for name in strip_io strip_mask strip_pay strip_film; do
+for name in strip_io strip_mask strip_model strip_film; do
     mkdir -p "$work/crates/$name"
     cp -r "$repository/crates/$name/src" "$repository/crates/$name/specs" "$repository/crates/$name/proofs" "$work/crates/$name/"
 done
@@ -29,7 +29,7 @@ use std::process::ExitCode;
 use std::rt::Env;
 use strip_film::{Film, Path, cast_of, on, ready, step};
 use strip_mask::Mask;
-use strip_pay::Pair;
+use strip_model::Pair;
 
 const SETS: u64 = 65_536;
 

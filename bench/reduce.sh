@@ -10,15 +10,14 @@ cp "$repository/HANDLES" "$work/"
 cat > "$work/crates.txt" <<'END'
 strip_io:
 strip_mask:
-strip_pay: strip_mask
-strip_model: strip_mask strip_pay
-strip_film: strip_mask strip_io strip_pay
-strip_reduce: strip_mask strip_io strip_pay strip_model strip_film
-reduce_times: strip_mask strip_pay strip_model strip_film strip_reduce
+strip_model: strip_mask
+strip_film: strip_mask strip_io strip_model
+strip_reduce: strip_mask strip_io strip_model strip_film
+reduce_times: strip_mask strip_model strip_film strip_reduce
 END
 times=$work/crates/reduce_times
 mkdir -p "$times/src"
-for name in strip_io strip_mask strip_pay strip_model strip_film strip_reduce; do
+for name in strip_io strip_mask strip_model strip_film strip_reduce; do
     mkdir -p "$work/crates/$name"
     cp -r "$repository/crates/$name/src" "$repository/crates/$name/specs" "$repository/crates/$name/proofs" "$work/crates/$name/"
 done

@@ -11,14 +11,14 @@ cp "$repository/HANDLES" "$work/"
 cat > "$work/crates.txt" <<'END'
 strip_io:
 strip_mask:
-strip_pay: strip_mask
-strip_film: strip_mask strip_io strip_pay
-strip_start: strip_mask strip_pay strip_film rand_core rand_pcg
-start_times: strip_mask strip_pay strip_film strip_start
+strip_model: strip_mask
+strip_film: strip_mask strip_io strip_model
+strip_start: strip_mask strip_model strip_film rand_core rand_pcg
+start_times: strip_mask strip_model strip_film strip_start
 END
 times=$work/crates/start_times
 mkdir -p "$times/src" "$times/proofs/by_number" "$times/proofs/longer" "$times/proofs/settled"
-for name in strip_io strip_mask strip_pay strip_film strip_start; do
+for name in strip_io strip_mask strip_model strip_film strip_start; do
     mkdir -p "$work/crates/$name"
     cp -r "$repository/crates/$name/src" "$repository/crates/$name/specs" "$repository/crates/$name/proofs" "$work/crates/$name/"
 done
@@ -35,7 +35,7 @@ use std::process::ExitCode;
 use std::rt::Runtime;
 use std::time::Instant;
 use strip_film::{Film, Path, laws, ready};
-use strip_pay::Pair;
+use strip_model::Pair;
 use strip_start::{greedy, improve, vary};
 
 /// How often each call is timed; the least time counts.

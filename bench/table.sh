@@ -7,11 +7,11 @@ work=$(mktemp -d)
 trap 'rm -rf "$work"' EXIT
 
 cp "$repository/HANDLES" "$work/"
-printf 'strip_io:\nstrip_mask:\nstrip_pay: strip_mask\nstrip_film: strip_mask strip_io strip_pay\n' > "$work/crates.txt"
+printf 'strip_io:\nstrip_mask:\nstrip_model: strip_mask\nstrip_film: strip_mask strip_io strip_model\n' > "$work/crates.txt"
 printf 'strip_table: strip_mask strip_io strip_film\ncalls: strip_film strip_table\n' >> "$work/crates.txt"
 calls=$work/crates/calls
 mkdir -p "$calls/src"
-for name in strip_io strip_mask strip_pay strip_film strip_table; do
+for name in strip_io strip_mask strip_model strip_film strip_table; do
     mkdir -p "$work/crates/$name"
     cp -r "$repository/crates/$name/src" "$repository/crates/$name/specs" "$repository/crates/$name/proofs" "$work/crates/$name/"
 done

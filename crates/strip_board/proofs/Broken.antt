@@ -7,15 +7,15 @@ use Rattle.std.proofs.lemmas.List.{take_rest}
 use Rattle.std.proofs.lemmas.List.Elements.{All-weaker}
 use Rattle.std.proofs.lemmas.List.Folds.{list_any_none}
 use Rattle.strip_mask.proofs.Lists.{contains_cases, contains_none, count, count_here, count-cons, none_counted}
-use Rattle.strip_pay.specs.declared.pair.Pair.{Pair}
-use Rattle.strip_pay.specs.Order.{IsOrder, KeepsPair, StandsBefore}
-use Rattle.strip_pay.specs.Pairs.{IsKnownPair}
-use Rattle.strip_pay.specs.Pay.{from_first}
-use Rattle.strip_pay.proofs.Ahead.{stands_second}
-use Rattle.strip_pay.proofs.Counts.{contains_counted, count-none, counted_contains}
-use Rattle.strip_pay.proofs.Fits.{never_both}
-use Rattle.strip_pay.proofs.Lists.{any_from, any_is, same_test}
-use Rattle.strip_pay.proofs.Spans.{All-from_first, from_first-drop_yes}
+use Rattle.strip_model.specs.declared.pair.Pair.{Pair}
+use Rattle.strip_model.specs.Order.{IsOrder, KeepsPair, StandsBefore}
+use Rattle.strip_model.specs.Pairs.{IsKnownPair}
+use Rattle.strip_model.specs.Pay.{from_first}
+use Rattle.strip_model.proofs.Ahead.{stands_second}
+use Rattle.strip_model.proofs.Counts.{contains_counted, count-none, counted_contains}
+use Rattle.strip_model.proofs.Fits.{never_both}
+use Rattle.strip_model.proofs.Lists.{any_from, any_is, same_test}
+use Rattle.strip_model.proofs.Spans.{All-from_first, from_first-drop_yes}
 use Rattle.strip_board.specs.Board.{breaks}
 
 -- the first number stands behind the other

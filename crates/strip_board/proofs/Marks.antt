@@ -8,11 +8,11 @@ use Rattle.std.proofs.lemmas.List.Elements.{All-drop, All-take}
 use Rattle.std.proofs.lemmas.List.Folds.{list_any-append}
 use Rattle.std.proofs.lemmas.List.Sums.{sum_by_more}
 use Rattle.strip_mask.specs.Set.{has}
-use Rattle.strip_pay.specs.Film.{FilmData}
-use Rattle.strip_pay.specs.Order.{IsOrder}
-use Rattle.strip_pay.specs.Pay.{works}
+use Rattle.strip_model.specs.Film.{FilmData}
+use Rattle.strip_model.specs.Order.{IsOrder}
+use Rattle.strip_model.specs.Pay.{works}
 use Rattle.strip_model.specs.Data.{InstanceData, IsInstance}
-use Rattle.strip_model.specs.Film.{film_of}
+use Rattle.strip_model.specs.FilmOf.{film_of}
 use Rattle.strip_reports.specs.Days.{crews_of, days_of, is_held, scene_at, waits_on, works_among, works_on}
 use Rattle.strip_reports.proofs.Held.{any_days}
 use Rattle.strip_reports.proofs.Paid.{some_days}

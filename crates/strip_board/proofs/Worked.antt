@@ -2,7 +2,7 @@
 use Rattle.std.proofs.Common.{◌≡◌, true, false, List, [], ◌∷◌, ℕ, codes, refl}
 use Rattle.strip_mask.specs.Set.{has}
 use Rattle.strip_mask.specs.Sums.{sum_below}
-use Rattle.strip_pay.specs.declared.pair.Pair.{Pair}
+use Rattle.strip_model.specs.declared.pair.Pair.{Pair}
 use Rattle.strip_model.specs.Data.{ActorData, InstanceData, SceneData}
 use Rattle.strip_board.specs.Html.{Word, Name, Upright, Number, Works, Held, Empty}
 use Rattle.strip_board.specs.Board.{breaks, columns, order_cells, order_heads, order_total, table_starts}

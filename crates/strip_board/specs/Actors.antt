@@ -3,9 +3,9 @@ use Rattle.std.specs.Prelude.{ℕ, ◌+◌, ◌-◌, ◌*◌, ◌==◌, List, []
 use Rattle.std.specs.List.{list_any, position_or_len, range_with_len}
 use Rattle.strip_mask.specs.Set.{has}
 use Rattle.strip_mask.specs.Sums.{sum_below}
-use Rattle.strip_pay.specs.Film.{FilmData}
+use Rattle.strip_model.specs.Film.{FilmData}
 use Rattle.strip_model.specs.Data.{InstanceData}
-use Rattle.strip_model.specs.Film.{film_of}
+use Rattle.strip_model.specs.FilmOf.{film_of}
 use Rattle.strip_reports.specs.Days.{crews_of, hold_days, work_days}
 use Rattle.strip_board.specs.declared.actors.Earned.{Earned}
 use Rattle.strip_board.specs.Html.{Word, Name, Number, Empty, Cells, table_text}

@@ -3,11 +3,11 @@
 use Rattle.std.specs.Prelude.{ℕ, ◌+◌, ◌-◌, ◌*◌, ◌/◌, ◌==◌, Bool, nat_le, min, max, List, [], ◌∷◌, ◌++◌, length, map, filter, codes, slice_index_or, if◌then◌else◌}
 use Rattle.std.specs.List.{flat_map, list_any, range_with_len}
 use Rattle.std.specs.Fmt.{decimal}
-use Rattle.strip_pay.specs.declared.pair.Pair.{Pair}
-use Rattle.strip_pay.specs.Film.{FilmData}
-use Rattle.strip_pay.specs.Pay.{from_first, pay_of, works}
+use Rattle.strip_model.specs.declared.pair.Pair.{Pair}
+use Rattle.strip_model.specs.Film.{FilmData}
+use Rattle.strip_model.specs.Pay.{from_first, pay_of, works}
 use Rattle.strip_model.specs.Data.{InstanceData, scene_name}
-use Rattle.strip_model.specs.Film.{film_of}
+use Rattle.strip_model.specs.FilmOf.{film_of}
 use Rattle.strip_reports.specs.Days.{days_of, is_held, scene_at}
 use Rattle.strip_reports.specs.Sheet.{figures_at}
 use Rattle.strip_proof.specs.Plan.{PlanData}

@@ -2,8 +2,8 @@
 ghost use Rattle.std.specs.Prelude.{◌≡◌, ◌+◌, ◌*◌, ◌++◌, ◌<◌, ◌≤◌, length, map, position, reverse, IfOk, IfSome, OnOk};
 ghost use Rattle.std.specs.List.{range_with_len};
 ghost use Rattle.strip_mask.specs.Set.{has};
-ghost use Rattle.strip_pay.specs.Order.{IsOrder};
-ghost use Rattle.strip_model.specs.Film.{film_of};
+ghost use Rattle.strip_model.specs.Order.{IsOrder};
+ghost use Rattle.strip_model.specs.FilmOf.{film_of};
 ghost use Rattle.strip_board.specs.Html.{begin_text, row_text, rows_text};
 ghost use Rattle.strip_board.specs.Actors.{actor_cells, actor_heads, actors_part, actors_table, earned_by, earned_by_all, first_day, last_day, total_cells};
 

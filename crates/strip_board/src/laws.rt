@@ -1,11 +1,11 @@
 //! Laws of the definitions: functions that do nothing when they run, each with a theorem as its contract.
 ghost use Rattle.std.specs.Prelude.{◌≡◌, ◌↔◌, ℕ, ◌+◌, ◌<◌, ◌≤◌, true, List, All, drop, length, slice_index, take};
-ghost use Rattle.strip_pay.specs.declared.pair.Pair.{Pair};
-ghost use Rattle.strip_pay.specs.Order.{IsOrder, KeepsPair};
-ghost use Rattle.strip_pay.specs.Pairs.{IsKnownPair};
-ghost use Rattle.strip_pay.specs.Pay.{pay_of, works};
+ghost use Rattle.strip_model.specs.declared.pair.Pair.{Pair};
+ghost use Rattle.strip_model.specs.Order.{IsOrder, KeepsPair};
+ghost use Rattle.strip_model.specs.Pairs.{IsKnownPair};
+ghost use Rattle.strip_model.specs.Pay.{pay_of, works};
 ghost use Rattle.strip_model.specs.Data.{InstanceData, IsInstance};
-ghost use Rattle.strip_model.specs.Film.{film_of};
+ghost use Rattle.strip_model.specs.FilmOf.{film_of};
 ghost use Rattle.strip_reports.specs.Days.{crews_of, days_of, is_held, scene_at, waits_on, works_on};
 ghost use Rattle.strip_reports.specs.Sheet.{total_pay};
 ghost use Rattle.strip_board.specs.Actors.{earned_by_all};

@@ -1,8 +1,8 @@
 // The shooting order, in tables of at most 24 actors each.
 ghost use Rattle.std.specs.Prelude.{◌≡◌, ◌+◌, ◌-◌, ◌++◌, ◌<◌, ◌≤◌, [], length, map, min, if◌then◌else◌, OnOk};
 ghost use Rattle.std.specs.List.{range_with_len};
-ghost use Rattle.strip_pay.specs.Order.{IsOrder};
-ghost use Rattle.strip_model.specs.Film.{film_of};
+ghost use Rattle.strip_model.specs.Order.{IsOrder};
+ghost use Rattle.strip_model.specs.FilmOf.{film_of};
 ghost use Rattle.strip_mask.specs.Set.{has};
 ghost use Rattle.strip_board.specs.Cells.{cell_data};
 ghost use Rattle.strip_board.specs.Html.{Upright, begin_text, row_text, rows_text};

@@ -1,6 +1,6 @@
 // The page.
 ghost use Rattle.std.specs.Prelude.{◌≡◌, length, IfOk};
-ghost use Rattle.strip_pay.specs.Order.{IsOrder};
+ghost use Rattle.strip_model.specs.Order.{IsOrder};
 ghost use Rattle.strip_proof.specs.Plan.{plan_data};
 ghost use Rattle.strip_board.specs.Board.{board_text};
 

@@ -1,18 +1,17 @@
 // The sentence on the order and its plan, and the warnings of broken pairs.
 ghost use Rattle.std.specs.Prelude.{◌≡◌, ◌++◌, ◌<◌, length, OnOk};
-ghost use Rattle.strip_pay.specs.Pairs.{IsKnownPair};
-ghost use Rattle.strip_pay.specs.Order.{IsOrder};
-ghost use Rattle.strip_pay.specs.Pay.{pay_of};
+ghost use Rattle.strip_model.specs.Pairs.{IsKnownPair};
+ghost use Rattle.strip_model.specs.Order.{IsOrder};
+ghost use Rattle.strip_model.specs.Pay.{pay_of};
 ghost use Rattle.strip_model.specs.Data.{scene_name};
-ghost use Rattle.strip_model.specs.Film.{film_of};
+ghost use Rattle.strip_model.specs.FilmOf.{film_of};
 ghost use Rattle.strip_proof.specs.Plan.{plan_data};
 ghost use Rattle.strip_board.specs.Board.{breaks, summary, warning, warnings};
 
 use crate::html::{push_all, push_name};
 use std::alloc::Global;
 use strip_io::Memory;
-use strip_model::Instance;
-use strip_pay::{Pair, stands_in};
+use strip_model::{Instance, Pair, stands_in};
 use strip_proof::{Plan, status_word};
 use strip_reports::laws::the_total_of_the_sheet_is_the_pay;
 use strip_reports::{days_of, figures_at};

@@ -6,7 +6,7 @@ use Rattle.atomic_table.specs.Table.{State}
 use Rattle.strip_film.specs.declared.path.Path.{Path}
 use Rattle.strip_film.specs.declared.shared.Line.{Line}
 use Rattle.strip_film.specs.Film.{IsFilm}
-use Rattle.strip_kind.specs.declared.kind.Kind.TheVariants.{Plain}
+use Rattle.strip_model.specs.declared.kind.Kind.TheVariants.{Plain}
 use Rattle.strip_lines.specs.Lines.{AreJustified, GrowTo, line_at}
 use Rattle.strip_count.specs.Parts.{inside}
 use Rattle.strip_count.specs.Paths.{is_candidate, leaving, number_up_to}

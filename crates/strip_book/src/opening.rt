@@ -11,7 +11,7 @@ use atomic_table::Table;
 use std::alloc::Global;
 use strip_film::{Film, Path};
 use strip_io::Memory;
-use strip_kind::Kind;
+use strip_model::Kind;
 
 impl Book {
     /// Makes the book of a search of the film with static bounds of this kind, and its first pass. Its paths belong to

@@ -1,7 +1,7 @@
 // The parameters of a search, as its book has them.
 use std::marker::Model;
 use strip_film::{Film, Path};
-use strip_kind::Kind;
+use strip_model::Kind;
 
 /// The parameters of a search: the film, the kind of static bounds, the line budget, the start path's pay in units of
 /// money, and the tasks.

@@ -7,8 +7,8 @@ use Rattle.strip_mask.specs.Set.{members, size}
 use Rattle.strip_mask.specs.Sums.{sum_below}
 use Rattle.strip_mask.proofs.Sizes.{length-members, size-le}
 use Rattle.strip_mask.proofs.Sums.{sum_below-ext, sum_below-none, sum_below-point, sum_below_mono}
-use Rattle.strip_kind.specs.declared.kind.Kind.TheVariants.{Arrivals}
-use Rattle.strip_pay.specs.Film.{FilmData}
+use Rattle.strip_model.specs.declared.kind.Kind.TheVariants.{Arrivals}
+use Rattle.strip_model.specs.Film.{FilmData}
 use Rattle.strip_film.specs.Film.{IsFilm, LiesIn}
 use Rattle.strip_film.specs.Shoot.{on_location}
 use Rattle.strip_bound.specs.declared.parties.Parties.{Parties}

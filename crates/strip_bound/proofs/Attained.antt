@@ -6,8 +6,8 @@ use Rattle.std.proofs.Math.Nat.{mul-le-mul_left}
 use Rattle.strip_mask.specs.Set.{IsSet, has, meet, without, size}
 use Rattle.strip_mask.proofs.ByMembers.{has_from_without, has-without_other, has-empty, IsSet-without, some_member}
 use Rattle.strip_mask.proofs.Sizes.{size-without, size-empty, empty_from_size}
-use Rattle.strip_pay.specs.Film.{FilmData}
-use Rattle.strip_pay.specs.Pay.{works}
+use Rattle.strip_model.specs.Film.{FilmData}
+use Rattle.strip_model.specs.Pay.{works}
 use Rattle.strip_film.specs.Shoot.{cast_of}
 use Rattle.strip_film.specs.Finish.{rest_after}
 use Rattle.strip_film.proofs.Casts.{cast_has}

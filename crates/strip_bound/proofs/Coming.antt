@@ -11,8 +11,8 @@ use Rattle.strip_mask.proofs.Members.{Contains-members, has_from_members, kept-m
 use Rattle.strip_mask.proofs.Sums.{sum_below-ext}
 use Rattle.strip_mask.proofs.Totals.{sum_over_is, sum_kept, sum_filter}
 use Rattle.strip_mask.proofs.Turns.{turn_fits}
-use Rattle.strip_pay.specs.Film.{FilmData}
-use Rattle.strip_pay.specs.Pay.{works}
+use Rattle.strip_model.specs.Film.{FilmData}
+use Rattle.strip_model.specs.Pay.{works}
 use Rattle.strip_film.specs.Film.{IsFilm}
 use Rattle.strip_film.proofs.Costs.{hold_limit}
 use Rattle.strip_bound.specs.Bounds.{set_of, works_any}

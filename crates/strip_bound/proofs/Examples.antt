@@ -2,8 +2,8 @@
 use Rattle.std.proofs.Common.{◌≡◌, [], ◌∷◌, slice_index, refl}
 use Rattle.strip_mask.specs.Set.{has, union, meet, minus, with, without, members, numbers_below, size, sum_over, full}
 use Rattle.strip_mask.specs.Sums.{sum_below}
-use Rattle.strip_pay.specs.Film.{FilmData}
-use Rattle.strip_kind.specs.declared.kind.Kind.TheVariants.{Plain, Pairs, Groups, Arrivals}
+use Rattle.strip_model.specs.Film.{FilmData}
+use Rattle.strip_model.specs.declared.kind.Kind.TheVariants.{Plain, Pairs, Groups, Arrivals}
 use Rattle.strip_bound.specs.Bounds.{bound, newcomers_of}
 use Rattle.strip_bound.specs.Falling.{by_falling}
 

@@ -1,8 +1,8 @@
 -- Each static bound is at most the cost of finishing.
 use Rattle.std.proofs.Common.{ℕ, ◌≤◌, arith}
-use Rattle.strip_kind.specs.declared.kind.Kind.{Kind}
-use Rattle.strip_kind.specs.declared.kind.Kind.TheVariants.{Plain, Pairs, Groups, Arrivals}
-use Rattle.strip_pay.specs.Film.{FilmData}
+use Rattle.strip_model.specs.declared.kind.Kind.{Kind}
+use Rattle.strip_model.specs.declared.kind.Kind.TheVariants.{Plain, Pairs, Groups, Arrivals}
+use Rattle.strip_model.specs.Film.{FilmData}
 use Rattle.strip_film.specs.Film.{IsFilm, LiesIn}
 use Rattle.strip_film.specs.Finish.{IsAtMostFinish, steps_cost}
 use Rattle.strip_film.proofs.Lists.{AllOnce-from_ready}

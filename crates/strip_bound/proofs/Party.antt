@@ -9,14 +9,14 @@ use Rattle.strip_mask.proofs.Below.{is_set_below}
 use Rattle.strip_mask.proofs.ByMembers.{has_from_minus}
 use Rattle.strip_mask.proofs.Members.{has_from_members, members_rise}
 use Rattle.strip_mask.proofs.Sums.{sum_below_mono}
-use Rattle.strip_pay.specs.Film.{FilmData}
+use Rattle.strip_model.specs.Film.{FilmData}
 use Rattle.strip_film.specs.Bounds.{plain_bound}
 use Rattle.strip_film.specs.Film.{IsFilm, LiesIn}
 use Rattle.strip_film.specs.Shoot.{on_location}
 use Rattle.strip_film.specs.Finish.{steps_cost}
 use Rattle.strip_film.proofs.Located.{location_lies}
 use Rattle.strip_film.proofs.Lists.{AllOnce}
-use Rattle.strip_kind.specs.declared.kind.Kind.TheVariants.{Arrivals}
+use Rattle.strip_model.specs.declared.kind.Kind.TheVariants.{Arrivals}
 use Rattle.strip_group.specs.Group.{GroupData}
 use Rattle.strip_arrivals.specs.Along.{waiting}
 use Rattle.strip_arrivals.specs.Arrivals.{arrivals_value}

@@ -9,7 +9,7 @@ use Rattle.strip_mask.proofs.ByMembers.{has-empty, has-with, has-with_same, has_
 use Rattle.strip_mask.proofs.Members.{has_from_members, members-empty}
 use Rattle.strip_mask.proofs.Sizes.{size-without, size-empty, empty_from_size, some_first, first_is, first_le, members-first}
 use Rattle.strip_mask.proofs.Below.{is_set_below}
-use Rattle.strip_pay.specs.Film.{FilmData}
+use Rattle.strip_model.specs.Film.{FilmData}
 use Rattle.strip_mask.proofs.Lists.{contains_here, contains_later, contains_cases, contains_none}
 use Rattle.std.proofs.Math.Bool.{or-true}
 use Rattle.strip_film.specs.Film.{IsFilm}

@@ -7,8 +7,8 @@ use Rattle.strip_mask.specs.Set.{IsSet, with, sum_over}
 use Rattle.strip_mask.proofs.ByMembers.{has-with_same, IsSet-empty, IsSet-with}
 use Rattle.strip_mask.proofs.Below.{is_set_below}
 use Rattle.strip_mask.proofs.Totals.{value_le_sum_over}
-use Rattle.strip_kind.specs.declared.kind.Kind.{Kind}
-use Rattle.strip_pay.specs.Film.{FilmData}
+use Rattle.strip_model.specs.declared.kind.Kind.{Kind}
+use Rattle.strip_model.specs.Film.{FilmData}
 use Rattle.strip_film.specs.Film.{IsFilm, LiesIn}
 use Rattle.strip_film.specs.Finish.{steps_cost}
 use Rattle.strip_film.proofs.Costs.{days_small, hold_limit, rate_limit, steps_limit}

@@ -8,8 +8,8 @@ use Rattle.strip_mask.specs.Set.{LiesBelow, has, meet, with, members, numbers_be
 use Rattle.strip_mask.proofs.ByMembers.{has-meet}
 use Rattle.strip_mask.proofs.Members.{kept-more, length-numbers_below, members_is, numbers_rise}
 use Rattle.strip_mask.proofs.Sizes.{length-members}
-use Rattle.strip_pay.specs.Film.{FilmData}
-use Rattle.strip_pay.specs.Pay.{works}
+use Rattle.strip_model.specs.Film.{FilmData}
+use Rattle.strip_model.specs.Pay.{works}
 use Rattle.strip_bound.specs.Falling.{by_falling, placed}
 use Rattle.strip_bound.specs.Tables.{ArePlays}
 use Rattle.strip_bound.proofs.Fall.{below_from_numbers, by_falling_kept, same_length, same_members}

@@ -10,7 +10,7 @@ use Rattle.strip_mask.proofs.ByMembers.{has-minus, has-meet, has-without}
 use Rattle.strip_mask.proofs.Below.{is_set_below, LiesBelow-without}
 use Rattle.strip_mask.proofs.Members.{members-empty}
 use Rattle.strip_mask.proofs.Totals.{sum_over-minus, sum_over_mono, sum_members-without}
-use Rattle.strip_pay.specs.Film.{FilmData}
+use Rattle.strip_model.specs.Film.{FilmData}
 use Rattle.strip_film.specs.Bounds.{plain_bound}
 use Rattle.strip_film.specs.Film.{IsFilm, LiesIn}
 use Rattle.strip_film.specs.Shoot.{on_location}

@@ -5,8 +5,8 @@ use Rattle.std.proofs.Math.Nat.{min-le_left, min-le_right, mul-le-mul_left}
 use Rattle.strip_mask.specs.Set.{IsSet, has, meet, without, members, size}
 use Rattle.strip_mask.proofs.ByMembers.{has-without, has-without_other, has_from_without, IsSet-without, some_member}
 use Rattle.strip_mask.proofs.Sizes.{size-without, size-empty, size_mono}
-use Rattle.strip_pay.specs.Film.{FilmData}
-use Rattle.strip_pay.specs.Pay.{works}
+use Rattle.strip_model.specs.Film.{FilmData}
+use Rattle.strip_model.specs.Pay.{works}
 use Rattle.strip_group.specs.Group.{GroupData, is_waited, waited_days, group_extra}
 use Rattle.strip_bound.specs.Bounds.{group_data, days_with_without, pair_extra}
 use Rattle.strip_mask.proofs.Totals.{cond_le, sum_filter, sum_by_mono}

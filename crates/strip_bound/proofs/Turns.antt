@@ -6,7 +6,7 @@ use Rattle.strip_mask.specs.Set.{IsSet, LiesBelow, has, with, members, size}
 use Rattle.strip_mask.proofs.ByMembers.{with_there}
 use Rattle.strip_mask.proofs.Members.{has_from_members, members-empty}
 use Rattle.strip_mask.proofs.Sizes.{empty_from_size, length-members, size-empty, size-with}
-use Rattle.strip_pay.specs.Film.{FilmData}
+use Rattle.strip_model.specs.Film.{FilmData}
 use Rattle.strip_group.specs.Group.{group_extra}
 use Rattle.strip_bound.specs.Bounds.{by_six, by_six_from, group_data, groups_extra, pair_extra, pairs_extra, set_of}
 use Rattle.strip_bound.proofs.Pieces.{contains_take, drop_no_longer, from_set_of}

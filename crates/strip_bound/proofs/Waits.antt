@@ -5,8 +5,8 @@ use Rattle.strip_mask.specs.Set.{IsSet, has, meet, minus, without, sum_over}
 use Rattle.strip_mask.proofs.ByMembers.{has-meet, has-minus, has-without, has-without_other, has_from_meet, has_from_minus, has_from_without, empty_from, same_has, IsSet-meet, IsSet-minus, IsSet-without}
 use Rattle.strip_mask.proofs.Totals.{sum_over-without, sum_over-empty}
 use Rattle.std.proofs.lemmas.Bool.Decides.{eqb_tells}
-use Rattle.strip_pay.specs.Film.{FilmData}
-use Rattle.strip_pay.specs.Pay.{works}
+use Rattle.strip_model.specs.Film.{FilmData}
+use Rattle.strip_model.specs.Pay.{works}
 use Rattle.strip_film.specs.Shoot.{cast_of}
 use Rattle.strip_film.specs.Finish.{rest_after}
 use Rattle.strip_film.proofs.Casts.{cast_has, has_cast}

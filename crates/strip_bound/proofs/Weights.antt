@@ -9,8 +9,8 @@ use Rattle.strip_mask.proofs.Below.{is_set_below}
 use Rattle.strip_mask.proofs.Members.{members_is}
 use Rattle.strip_mask.proofs.Sums.{sum_below-ext}
 use Rattle.strip_mask.proofs.Totals.{sum_over_is, sum_kept, sum_filter}
-use Rattle.strip_pay.specs.Film.{FilmData}
-use Rattle.strip_pay.specs.Pay.{works}
+use Rattle.strip_model.specs.Film.{FilmData}
+use Rattle.strip_model.specs.Pay.{works}
 use Rattle.strip_film.specs.Film.{IsFilm}
 use Rattle.strip_film.specs.Bounds.{plain_bound}
 use Rattle.strip_film.proofs.Casts.{cast_lies}

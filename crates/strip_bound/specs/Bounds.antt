@@ -2,10 +2,10 @@
 use Rattle.std.specs.Prelude.{ℕ, zero, suc, ◌+◌, ◌-◌, ◌*◌, ◌/◌, min, max, Bool, not, ◌&&◌, nat_lt, List, [], ◌∷◌, length, map, take, drop, filter, fold, sum_by, slice_index}
 use Rattle.strip_mask.specs.Set.{has, meet, minus, with, members, numbers_below, size}
 use Rattle.strip_mask.specs.Sums.{sum_below}
-use Rattle.strip_kind.specs.declared.kind.Kind.{Kind}
-use Rattle.strip_kind.specs.declared.kind.Kind.TheVariants.{Plain, Pairs, Groups, Arrivals}
-use Rattle.strip_pay.specs.Film.{FilmData}
-use Rattle.strip_pay.specs.Pay.{works}
+use Rattle.strip_model.specs.declared.kind.Kind.{Kind}
+use Rattle.strip_model.specs.declared.kind.Kind.TheVariants.{Plain, Pairs, Groups, Arrivals}
+use Rattle.strip_model.specs.Film.{FilmData}
+use Rattle.strip_model.specs.Pay.{works}
 use Rattle.strip_film.specs.Bounds.{plain_bound}
 use Rattle.strip_film.specs.Shoot.{cast_of, on_location}
 use Rattle.strip_group.specs.Group.{GroupData, group_extra}

@@ -1,7 +1,7 @@
 -- What is known of the parties of a set.
 use Rattle.std.specs.Prelude.{◌≡◌, ℕ, ◌<◌, ◌≤◌, ◌⊎◌, length, slice_index}
 use Rattle.strip_mask.specs.Sums.{sum_below}
-use Rattle.strip_pay.specs.Film.{FilmData}
+use Rattle.strip_model.specs.Film.{FilmData}
 use Rattle.strip_bound.specs.declared.newcomers.Choices.{Choices}
 use Rattle.strip_bound.specs.declared.parties.Parties.{Parties}
 use Rattle.strip_bound.specs.Bounds.{greatest_below, newcomers_at, number_of_parties}

@@ -1,7 +1,7 @@
 -- What a path promises: how far it may still reach.
 use Rattle.std.specs.Prelude.{ℕ}
-use Rattle.strip_kind.specs.declared.kind.Kind.{Kind}
-use Rattle.strip_kind.specs.declared.kind.Kind.TheVariants.{Plain, Pairs, Groups, Arrivals}
+use Rattle.strip_model.specs.declared.kind.Kind.{Kind}
+use Rattle.strip_model.specs.declared.kind.Kind.TheVariants.{Plain, Pairs, Groups, Arrivals}
 
 -- by what a path goes first whose paid with the static bound of what remains is this; where bounds are cheap all
 -- are equal

@@ -1,8 +1,8 @@
 -- What the static bounds of a film go by.
 use Rattle.std.specs.Prelude.{◌≡◌, ℕ, ◌*◌, List, length, slice_index}
 use Rattle.strip_mask.specs.Set.{IsSet, has, numbers_below, sum_over}
-use Rattle.strip_pay.specs.Film.{FilmData}
-use Rattle.strip_pay.specs.Pay.{works}
+use Rattle.strip_model.specs.Film.{FilmData}
+use Rattle.strip_model.specs.Pay.{works}
 use Rattle.strip_bound.specs.declared.tables.BoundTables.{BoundTables}
 use Rattle.strip_bound.specs.Bounds.{group_data}
 use Rattle.strip_bound.specs.Falling.{by_falling}

@@ -3,7 +3,7 @@ use Rattle.std.specs.Prelude.{◌≡◌, ℕ, ◌+◌, ◌*◌, true, List, [], 
 use Rattle.std.specs.List.{AllPairs}
 use Rattle.std.specs.Prelude.{All}
 use Rattle.strip_mask.specs.Set.{has, meet, minus, sum_over, without}
-use Rattle.strip_pay.specs.Film.{FilmData}
+use Rattle.strip_model.specs.Film.{FilmData}
 use Rattle.strip_film.specs.Shoot.{cast_of, on_location}
 use Rattle.strip_film.specs.Finish.{AreFirsts, rest_after}
 

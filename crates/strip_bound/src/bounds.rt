@@ -1,7 +1,7 @@
 // Static bounds of four kinds.
 ghost use Rattle.std.specs.Prelude.{◌≡◌, ◌≢◌, ℕ, ◌<◌, ◌≤◌, ◌⊎◌, true, ◌∷◌, drop, length, take};
 ghost use Rattle.strip_mask.specs.Set.{has, members, size, without};
-ghost use Rattle.strip_kind.specs.declared.kind.Kind.TheVariants.{Arrivals, Groups, Pairs, Plain};
+ghost use Rattle.strip_model.specs.declared.kind.Kind.TheVariants.{Arrivals, Groups, Pairs, Plain};
 ghost use Rattle.strip_film.specs.Film.{LiesIn};
 ghost use Rattle.strip_film.specs.Shoot.{on_location};
 ghost use Rattle.strip_bound.specs.Bounds.{bound, days_with_without, groups_extra, groups_of, pair_extra, pairs_extra, set_of};
@@ -10,8 +10,8 @@ ghost use Rattle.strip_bound.specs.Tables.{AreTables};
 use crate::parties::extra_of_parties;
 use crate::tables::BoundTables;
 use strip_film::{Film, on};
-use strip_kind::Kind;
 use strip_mask::{Mask, sum_over};
+use strip_model::Kind;
 
 /// Returns the static bound of this kind: a lower bound, in whole units of money, of the cost of finishing a set of the
 /// film's scenes. It allocates no memory.

@@ -8,8 +8,8 @@ ghost use Rattle.strip_bound.specs.StoredBound.{Keeps};
 ghost use Rattle.strip_bound.specs.Promise.{promised};
 
 use strip_film::{Film, step};
-use strip_kind::Kind;
 use strip_mask::Mask;
+use strip_model::Kind;
 
 /// A stored bound: the static bound of a film as a closure, which takes a set and the value `need` up to which the
 /// bound matters.

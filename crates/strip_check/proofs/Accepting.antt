@@ -7,10 +7,10 @@ use Rattle.strip_mask.specs.Set.{has, members, minus, without}
 use Rattle.strip_mask.proofs.Below.{lies_by_minus}
 use Rattle.strip_mask.proofs.ByMembers.{empty_from, has-empty}
 use Rattle.strip_mask.proofs.Members.{All-members, Contains-members}
-use Rattle.strip_kind.specs.declared.kind.Kind.{Kind}
-use Rattle.strip_pay.specs.Film.{FilmData}
-use Rattle.strip_pay.specs.Order.{IsKeptOrder, KeepsPair}
-use Rattle.strip_pay.specs.Pay.{pay_of}
+use Rattle.strip_model.specs.declared.kind.Kind.{Kind}
+use Rattle.strip_model.specs.Film.{FilmData}
+use Rattle.strip_model.specs.Order.{IsKeptOrder, KeepsPair}
+use Rattle.strip_model.specs.Pay.{pay_of}
 use Rattle.strip_film.specs.declared.shared.Line.{Line}
 use Rattle.strip_film.specs.Film.{IsFilm, LiesIn, all_scenes}
 use Rattle.strip_film.specs.Rules.{BeginLeast, Rules}

@@ -5,8 +5,8 @@ use Rattle.std.proofs.lemmas.List.Elements.{All-contains, All-push, Contains-app
 use Rattle.strip_mask.specs.Set.{IsSet, members, without}
 use Rattle.strip_mask.proofs.ByMembers.{some_member}
 use Rattle.strip_mask.proofs.Members.{Contains-members, members-empty}
-use Rattle.strip_pay.proofs.Blocks.{All-from_contains}
-use Rattle.strip_pay.proofs.Lists.{contains_here, contains_later, contains_none, same_test}
+use Rattle.strip_model.proofs.Blocks.{All-from_contains}
+use Rattle.strip_model.proofs.Lists.{contains_here, contains_later, contains_none, same_test}
 use Rattle.strip_film.specs.declared.shared.Line.{Line}
 use Rattle.strip_film.specs.Rules.{Rules}
 use Rattle.strip_film.specs.Shoot.{step_cost}

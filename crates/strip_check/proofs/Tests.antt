@@ -8,9 +8,9 @@ use Rattle.std.proofs.lemmas.List.Elements.{All-cons, All-nil}
 use Rattle.std.proofs.lemmas.List.Sums.{AllPass-from_list_all, list_all-from_AllPass}
 use Rattle.strip_mask.specs.Set.{numbers_below}
 use Rattle.strip_mask.proofs.Below.{and_true}
-use Rattle.strip_pay.specs.declared.pair.Pair.{Pair}
-use Rattle.strip_pay.specs.Order.{IsOrder, Keeps, KeepsPair, StandsBefore}
-use Rattle.strip_pay.proofs.Lists.{any_from, any_is, or_true, same_test}
+use Rattle.strip_model.specs.declared.pair.Pair.{Pair}
+use Rattle.strip_model.specs.Order.{IsOrder, Keeps, KeepsPair, StandsBefore}
+use Rattle.strip_model.proofs.Lists.{any_from, any_is, or_true, same_test}
 use Rattle.strip_check.specs.Reasons.{is_order, stands_before}
 
 -- ---- each number once

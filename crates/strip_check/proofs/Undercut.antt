@@ -1,7 +1,7 @@
 -- What an accepted plan says is true.
 use Rattle.std.proofs.Common.{◌≤◌, ℕ, length, sym, arith}
-use Rattle.strip_pay.specs.Film.{FilmData}
-use Rattle.strip_pay.specs.Pay.{IsLeast, IsOptimum}
+use Rattle.strip_model.specs.Film.{FilmData}
+use Rattle.strip_model.specs.Pay.{IsLeast, IsOptimum}
 use Rattle.strip_film.specs.Film.{IsFilm, IsFilmUpTo, all_scenes}
 use Rattle.strip_film.specs.Finish.{IsAtMostFinish, IsFinish}
 use Rattle.strip_lines.specs.Lines.{known}

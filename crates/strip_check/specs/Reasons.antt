@@ -2,9 +2,9 @@
 use Rattle.std.specs.Prelude.{ℕ, ◌+◌, ◌==◌, ◌&&◌, ◌||◌, not, nat_le, nat_lt, max, Bool, false, List, [], ◌∷◌, ◌++◌, length, count_by, slice_index_or, Option, None, Some}
 use Rattle.std.specs.List.{list_all, list_any}
 use Rattle.strip_mask.specs.Set.{members, numbers_below}
-use Rattle.strip_pay.specs.declared.pair.Pair.{Pair}
-use Rattle.strip_pay.specs.Film.{FilmData}
-use Rattle.strip_pay.specs.Pay.{pay_of}
+use Rattle.strip_model.specs.declared.pair.Pair.{Pair}
+use Rattle.strip_model.specs.Film.{FilmData}
+use Rattle.strip_model.specs.Pay.{pay_of}
 use Rattle.strip_film.specs.declared.shared.Line.{Line}
 use Rattle.strip_film.specs.Film.{all_scenes}
 use Rattle.strip_film.specs.Rules.{Rules}

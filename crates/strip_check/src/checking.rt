@@ -1,6 +1,6 @@
 // The check of a plan.
 ghost use Rattle.std.specs.Prelude.{◌≡◌, ◌↔◌, ℕ, ◌<◌, ◌≤◌, ◌++◌, Err, IfOk, OnOk};
-ghost use Rattle.strip_model.specs.Film.{film_of};
+ghost use Rattle.strip_model.specs.FilmOf.{film_of};
 ghost use Rattle.strip_reduce.specs.Reduction.{class_count};
 ghost use Rattle.strip_reduce.specs.Shown.{reduced_data};
 ghost use Rattle.strip_proof.specs.Plan.{plan_data};

@@ -10,9 +10,9 @@ ghost use Rattle.strip_check.specs.Reasons.{by_lines, justified};
 
 use strip_bound::StoredBound;
 use strip_film::{Film, on, step, step_with};
-use strip_kind::Kind;
 use strip_mask::Mask;
 use strip_memo::Memo;
+use strip_model::Kind;
 use strip_rule::{open_firsts, open_firsts_with};
 use strip_trim::Best;
 

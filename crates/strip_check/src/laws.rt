@@ -1,8 +1,8 @@
 //! Laws of the definitions: functions that only cite other laws, each with a theorem as its contract.
 ghost use Rattle.std.specs.Prelude.{◌≡◌, ◌↔◌, ℕ, ◌≤◌, None, List, IsTrue};
-ghost use Rattle.strip_kind.specs.declared.kind.Kind.{Kind};
-ghost use Rattle.strip_pay.specs.Film.{FilmData};
-ghost use Rattle.strip_pay.specs.Order.{IsOrder, StandsBefore};
+ghost use Rattle.strip_model.specs.declared.kind.Kind.{Kind};
+ghost use Rattle.strip_model.specs.Film.{FilmData};
+ghost use Rattle.strip_model.specs.Order.{IsOrder, StandsBefore};
 ghost use Rattle.strip_film.specs.declared.shared.Line.{Line};
 ghost use Rattle.strip_film.specs.Film.{IsFilm, IsFilmUpTo, LiesIn, all_scenes};
 ghost use Rattle.strip_rule.specs.Rule.{is_part};

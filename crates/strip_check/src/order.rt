@@ -1,14 +1,13 @@
 // Checks of a plan's order, pairs and cost.
 ghost use Rattle.std.specs.Prelude.{◌≡◌, length};
-ghost use Rattle.strip_pay.specs.Order.{IsOrder};
-ghost use Rattle.strip_model.specs.Film.{film_of};
+ghost use Rattle.strip_model.specs.Order.{IsOrder};
+ghost use Rattle.strip_model.specs.FilmOf.{film_of};
 ghost use Rattle.strip_proof.specs.Plan.{plan_data};
 ghost use Rattle.strip_text.specs.Checks.{below, first_fault};
 ghost use Rattle.strip_check.specs.Reasons.{cost_check, is_order, order_checks, pair_check, stands_before};
 
 use crate::verdict::Reason;
-use strip_model::{Instance, Pair, is_order, pay};
-use strip_pay::keeps;
+use strip_model::{Instance, Pair, is_order, keeps, pay};
 use strip_proof::Plan;
 
 /// Returns the first reason against the plan's order and its cost.

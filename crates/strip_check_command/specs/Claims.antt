@@ -1,7 +1,7 @@
 -- What the accountant's program claims.
 use Rattle.std.specs.Prelude.{◌≡◌, ◌⊎◌, ℕ, ◌<◌, ◌≤◌, List, ◌∷◌, Some, Ok, codes}
 use Rattle.strip_model.specs.Data.{InstanceData}
-use Rattle.strip_model.specs.Film.{film_of}
+use Rattle.strip_model.specs.FilmOf.{film_of}
 use Rattle.strip_reduce.specs.Reduction.{class_count}
 use Rattle.strip_words.specs.Words.{Word}
 use Rattle.strip_words.specs.Plans.{NamePlanFiles, PlanFilesData}

@@ -1,7 +1,7 @@
 -- The plan of the order of the rows, printed or refused.
 use Rattle.std.proofs.Common.{◌≡◌, ◌∙◌, ◌↔◌, inl, inr, ◌<◌, ◌≤◌, ℕ, [], codes, Ok, Err, IfOk, Result, sym, subst, ap, arith}
 use Rattle.strip_model.specs.Data.{InstanceData}
-use Rattle.strip_model.specs.Film.{film_of}
+use Rattle.strip_model.specs.FilmOf.{film_of}
 use Rattle.strip_reduce.specs.Reduction.{class_count}
 use Rattle.strip_proof.specs.Plan.{PlanData}
 use Rattle.strip_proof.specs.Rows.{bare_text}

@@ -2,9 +2,9 @@
 use Rattle.std.proofs.Common.{◌≡◌, ◌∙◌, ℕ, List, [], ◌∷◌, ◌++◌, length, map, sum, codes, ap}
 use Rattle.std.specs.Fmt.{decimal}
 use Rattle.std.specs.List.{range_with_len}
-use Rattle.strip_pay.specs.Pay.{pay_of}
+use Rattle.strip_model.specs.Pay.{pay_of}
 use Rattle.strip_model.specs.Data.{InstanceData}
-use Rattle.strip_model.specs.Film.{film_of}
+use Rattle.strip_model.specs.FilmOf.{film_of}
 use Rattle.strip_text.specs.Rows.{Row, csv_text}
 use Rattle.strip_reports.specs.Sheet.{header_row, scene_row, sheet_rows, total_pay, total_row}
 use Rattle.strip_commands.specs.Report.{TellsPay}

@@ -1,7 +1,7 @@
 -- A film that was made: printed, and tried.
 use Rattle.std.proofs.Common.{◌≡◌, ◌∙◌, ◌<◌, ◌≤◌, ℕ, List, Result, Ok, Err, IfOk, sym, ap, subst, arith}
 use Rattle.strip_model.specs.Data.{InstanceData}
-use Rattle.strip_model.specs.Film.{film_of}
+use Rattle.strip_model.specs.FilmOf.{film_of}
 use Rattle.strip_reduce.specs.Reduction.{class_count}
 use Rattle.strip_instance.specs.Text.{HasReadableNames, says}
 use Rattle.strip_instance.specs.Canonical.{canonical_text}

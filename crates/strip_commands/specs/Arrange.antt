@@ -1,9 +1,9 @@
 -- The command `arrange`: the film's text with its scenes in a plan's order.
 use Rattle.std.specs.Prelude.{◌≡◌, ◌⊎◌, ℕ, List, length, Ok}
-use Rattle.strip_pay.specs.Order.{IsOrder}
-use Rattle.strip_pay.specs.Pay.{pay_of}
+use Rattle.strip_model.specs.Order.{IsOrder}
+use Rattle.strip_model.specs.Pay.{pay_of}
 use Rattle.strip_model.specs.Data.{InstanceData}
-use Rattle.strip_model.specs.Film.{film_of}
+use Rattle.strip_model.specs.FilmOf.{film_of}
 use Rattle.strip_instance.specs.Text.{says}
 use Rattle.strip_instance.specs.Arranged.{arranged}
 use Rattle.strip_instance.specs.Canonical.{canonical_text}

@@ -1,6 +1,6 @@
 -- What the program claims of its jobs. Each command has a line in each definition by jobs.
 use Rattle.std.specs.Prelude.{◌≡◌, ◌⊎◌, ◌<◌, ◌≤◌, List, IfSome, ℕ}
-use Rattle.strip_model.specs.Film.{film_of}
+use Rattle.strip_model.specs.FilmOf.{film_of}
 use Rattle.strip_reduce.specs.Reduction.{class_count}
 use Rattle.strip_reports.specs.Text.{dood_text}
 use Rattle.strip_reports.specs.Sheet.{sheet_text}

@@ -1,6 +1,6 @@
 -- What the commands ask for that look at a plan's order.
 use Rattle.std.specs.Prelude.{◌≡◌, ◌⊎◌, ℕ, List, length, codes}
-use Rattle.strip_pay.specs.Order.{IsOrder}
+use Rattle.strip_model.specs.Order.{IsOrder}
 use Rattle.strip_model.specs.Data.{InstanceData}
 use Rattle.strip_proof.specs.Plan.{PlanData}
 use Rattle.strip_check.specs.declared.verdict.Reason.TheVariants.{NotAnOrder}

@@ -1,7 +1,7 @@
 -- The plan that is printed.
 use Rattle.std.specs.Prelude.{◌≡◌, ℕ, Bool, true, if◌then◌else◌, List, Ok}
 use Rattle.strip_model.specs.Data.{InstanceData, IsInstance}
-use Rattle.strip_model.specs.Film.{film_of}
+use Rattle.strip_model.specs.FilmOf.{film_of}
 use Rattle.strip_words.specs.Solve.{SolveData}
 use Rattle.strip_proof.specs.declared.plan.Status.{Status as PlanStatus}
 use Rattle.strip_proof.specs.declared.plan.Status.TheVariants.{Optimal, Bounded as CutShort}

@@ -1,8 +1,8 @@
 -- The command `price`: the plan of the order that the film's rows have.
 use Rattle.std.specs.Prelude.{◌≡◌, ◌⊎◌, ℕ, ◌<◌, ◌≤◌, List, Ok, codes}
-use Rattle.strip_pay.specs.Order.{IsKeptOrder}
+use Rattle.strip_model.specs.Order.{IsKeptOrder}
 use Rattle.strip_model.specs.Data.{InstanceData}
-use Rattle.strip_model.specs.Film.{film_of}
+use Rattle.strip_model.specs.FilmOf.{film_of}
 use Rattle.strip_reduce.specs.Reduction.{class_count}
 use Rattle.strip_proof.specs.Rows.{bare_text}
 use Rattle.strip_proof.specs.Text.{says}

@@ -1,9 +1,9 @@
 -- What a run proves that solved a film.
 use Rattle.std.specs.Prelude.{◌≡◌, ◌≤◌, ◌⊎◌, ℕ, List, ◌++◌, Some, Ok}
-use Rattle.strip_pay.specs.Order.{IsKeptOrder}
-use Rattle.strip_pay.specs.Pay.{IsBestOrder, IsLeast, pay_of}
+use Rattle.strip_model.specs.Order.{IsKeptOrder}
+use Rattle.strip_model.specs.Pay.{IsBestOrder, IsLeast, pay_of}
 use Rattle.strip_model.specs.Data.{InstanceData}
-use Rattle.strip_model.specs.Film.{film_of}
+use Rattle.strip_model.specs.FilmOf.{film_of}
 use Rattle.strip_words.specs.Solve.{NameSolve, SolveData}
 use Rattle.strip_proof.specs.Plan.{PlanData}
 use Rattle.strip_solve.specs.Own.{own_order}

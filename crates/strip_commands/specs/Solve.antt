@@ -1,7 +1,7 @@
 -- The command `solve`: what it asks for.
 use Rattle.std.specs.Prelude.{ℕ, ◌<◌, ◌≤◌, List}
 use Rattle.strip_model.specs.Data.{InstanceData}
-use Rattle.strip_model.specs.Film.{film_of}
+use Rattle.strip_model.specs.FilmOf.{film_of}
 use Rattle.strip_reduce.specs.Reduction.{class_count}
 use Rattle.strip_words.specs.Solve.{SolveData}
 use Rattle.strip_answer.specs.declared.status.Status.{Status}

@@ -1,6 +1,6 @@
 // The commands `gen` and `trial`.
 ghost use Rattle.std.specs.Prelude.{◌≡◌, ◌<◌, ◌≤◌, IfOk};
-ghost use Rattle.strip_model.specs.Film.{film_of};
+ghost use Rattle.strip_model.specs.FilmOf.{film_of};
 ghost use Rattle.strip_reduce.specs.Reduction.{class_count};
 ghost use Rattle.strip_proof.specs.Plan.{plan_data};
 ghost use Rattle.strip_check.specs.Accepted.{IsAccepted};

@@ -1,7 +1,7 @@
 // The command `price`.
 ghost use Rattle.std.specs.Prelude.{◌≡◌, ◌<◌, ◌≤◌, length, string_bytes, All, Err, IfOk};
 ghost use Rattle.strip_io.specs.Counts.{ReadFailed};
-ghost use Rattle.strip_model.specs.Film.{film_of};
+ghost use Rattle.strip_model.specs.FilmOf.{film_of};
 ghost use Rattle.strip_reduce.specs.Reduction.{class_count};
 ghost use Rattle.strip_proof.specs.Plan.{plan_data};
 ghost use Rattle.strip_proof.specs.Rows.{bare_text};

@@ -10,7 +10,7 @@ use Rattle.strip_mask.proofs.Below.{LiesBelow-full, is_set_below, size-full}
 use Rattle.strip_mask.proofs.ByMembers.{IsSet-without, IsSet-minus}
 use Rattle.strip_mask.proofs.Members.{All-members}
 use Rattle.strip_mask.proofs.Sizes.{mark, size-without, size-empty, empty_from_size}
-use Rattle.strip_pay.specs.Film.{FilmData}
+use Rattle.strip_model.specs.Film.{FilmData}
 use Rattle.strip_film.specs.Film.{IsFilm, all_scenes}
 use Rattle.strip_film.specs.Shoot.{behind, ready}
 use Rattle.strip_film.specs.Finish.{Remained, rest_after}

@@ -9,7 +9,7 @@ use Rattle.strip_mask.specs.Set.{IsSet, without, members, size}
 use Rattle.strip_mask.proofs.ByMembers.{IsSet-without}
 use Rattle.strip_mask.proofs.Members.{All-members}
 use Rattle.strip_mask.proofs.Sizes.{length-members, size_mono}
-use Rattle.strip_pay.specs.Film.{FilmData}
+use Rattle.strip_model.specs.Film.{FilmData}
 use Rattle.strip_film.specs.Film.{IsFilm, all_scenes}
 use Rattle.strip_film.specs.Shoot.{ready}
 use Rattle.strip_film.specs.Path.{PathData}

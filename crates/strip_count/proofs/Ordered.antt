@@ -1,6 +1,6 @@
 -- The order of paths, as the law states it.
 use Rattle.std.proofs.Common.{◌≡◌, ◌≢◌, ◌↔◌, ℕ, List, ◌∷◌, ◌++◌}
-use Rattle.strip_pay.specs.Order.{IsBefore}
+use Rattle.strip_model.specs.Order.{IsBefore}
 use Rattle.strip_film.specs.Finish.{rest_after}
 use Rattle.strip_film.specs.Ranks.{IsEarlier, IsSooner}
 use Rattle.strip_film.specs.Rules.{Rules, rank}

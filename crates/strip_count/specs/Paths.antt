@@ -2,7 +2,7 @@
 use Rattle.std.specs.Prelude.{◌≢◌, ℕ, zero, suc, ◌+◌, ◌*◌, ◌==◌, nat_lt, Bool, true, false, not, ◌&&◌, ◌||◌, Option, Some, None, List, [], ◌∷◌, length, map, count_by, ⊤}
 use Rattle.std.specs.List.{flat_map}
 use Rattle.strip_mask.specs.Set.{has, without, members}
-use Rattle.strip_pay.specs.Film.{FilmData}
+use Rattle.strip_model.specs.Film.{FilmData}
 use Rattle.strip_film.specs.Film.{all_scenes}
 use Rattle.strip_film.specs.Shoot.{ready}
 use Rattle.strip_film.specs.Finish.{rest_after, steps_cost}

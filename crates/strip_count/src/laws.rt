@@ -2,8 +2,8 @@
 ghost use Rattle.std.specs.Prelude.{◌≡◌, ◌≢◌, ◌↔◌, ℕ, suc, ◌+◌, ◌*◌, ◌<◌, ◌≤◌, ◌==◌, ◌⊎◌, nat_eq, Bool, true, false, Option, Some, List, [], ◌∷◌, ◌++◌, All, count_by, length};
 ghost use Rattle.std.specs.Cmp.Lexicographic.{pointwise};
 ghost use Rattle.strip_mask.specs.Sums.{sum_below};
-ghost use Rattle.strip_pay.specs.Film.{FilmData};
-ghost use Rattle.strip_pay.specs.Order.{IsBefore};
+ghost use Rattle.strip_model.specs.Film.{FilmData};
+ghost use Rattle.strip_model.specs.Order.{IsBefore};
 ghost use Rattle.strip_film.specs.declared.shared.Line.{Line};
 ghost use Rattle.strip_film.specs.Film.{IsFilm};
 ghost use Rattle.strip_film.specs.Finish.{rest_after};

@@ -1,7 +1,7 @@
 -- What a race opens with.
 use Rattle.std.proofs.Common.{◌∙◌, ◌≡◌, ℕ, suc, ◌≤◌, List, length, refl, sym, ap, subst, arith}
-use Rattle.strip_kind.specs.declared.kind.Kind.{Kind}
-use Rattle.strip_pay.specs.Film.{FilmData}
+use Rattle.strip_model.specs.declared.kind.Kind.{Kind}
+use Rattle.strip_model.specs.Film.{FilmData}
 use Rattle.strip_film.specs.Film.{IsFilm}
 use Rattle.strip_film.specs.Path.{PathData}
 use Rattle.strip_lines.specs.Lines.{rules_of}

@@ -1,8 +1,8 @@
 -- The front is closed up, and the race ends.
 use Rattle.std.proofs.Common.{◌≡◌, ℕ, ◌*◌, ◌≤◌, ◌⊎◌, Bool, Result, Ok, Err, IfOk, inl, inr, sym, ap, ◌∙◌, subst, arith}
 use Rattle.strip_io.specs.declared.files.Memory.{Memory}
-use Rattle.strip_kind.specs.declared.kind.Kind.{Kind}
-use Rattle.strip_pay.specs.Film.{FilmData}
+use Rattle.strip_model.specs.declared.kind.Kind.{Kind}
+use Rattle.strip_model.specs.Film.{FilmData}
 use Rattle.strip_film.specs.Film.{all_scenes}
 use Rattle.strip_film.specs.Path.{PathData}
 use Rattle.strip_lines.specs.Lines.{ahead, known, rules_of}

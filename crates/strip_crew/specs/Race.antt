@@ -1,8 +1,8 @@
 -- How a race opens, begins and is closed.
 use Rattle.std.specs.Prelude.{◌≡◌, ℕ, suc, ◌<◌, ◌≤◌, Bool, false, if◌then◌else◌, List, [], ◌∷◌, ◌++◌}
 use mathlib.Core.Bool.{beq}
-use Rattle.strip_kind.specs.declared.kind.Kind.{Kind}
-use Rattle.strip_pay.specs.Film.{FilmData}
+use Rattle.strip_model.specs.declared.kind.Kind.{Kind}
+use Rattle.strip_model.specs.Film.{FilmData}
 use Rattle.strip_hand.specs.Hand.{IsSearchOf}
 use Rattle.strip_front.specs.Calls.{IsUnfilled}
 use Rattle.strip_front.specs.Front.{FrontData}

@@ -7,11 +7,11 @@ use Rattle.strip_mask.specs.Set.{IsSet, has, members, without}
 use Rattle.strip_mask.proofs.Below.{is_set_below}
 use Rattle.strip_mask.proofs.ByMembers.{IsSet-minus, has-empty}
 use Rattle.strip_mask.proofs.Members.{Contains-members}
-use Rattle.strip_pay.specs.Film.{FilmData}
-use Rattle.strip_pay.specs.Order.{IsKeptOrder}
-use Rattle.strip_pay.specs.Pay.{pay_of}
-use Rattle.strip_pay.proofs.Before.{before-itself}
-use Rattle.strip_pay.proofs.Lists.{contains_none}
+use Rattle.strip_model.specs.Film.{FilmData}
+use Rattle.strip_model.specs.Order.{IsKeptOrder}
+use Rattle.strip_model.specs.Pay.{pay_of}
+use Rattle.strip_model.proofs.Before.{before-itself}
+use Rattle.strip_model.proofs.Lists.{contains_none}
 use Rattle.strip_film.specs.Film.{IsFilm, all_scenes}
 use Rattle.strip_film.specs.Finish.{AreFirsts, EachOnce, rest_after}
 use Rattle.strip_film.specs.Path.{IsPath, PathData}

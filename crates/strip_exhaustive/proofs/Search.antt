@@ -6,10 +6,10 @@ use Rattle.std.proofs.lemmas.Bool.Decides.{when_true, when_false}
 use Rattle.strip_mask.specs.Set.{has, members}
 use Rattle.strip_mask.proofs.ByMembers.{has-empty}
 use Rattle.strip_mask.proofs.Members.{has_from_members}
-use Rattle.strip_pay.specs.Film.{FilmData}
-use Rattle.strip_pay.specs.Order.{IsKeptOrder, IsBefore}
-use Rattle.strip_pay.specs.Pay.{pay_of, IsLeast, IsOptimum}
-use Rattle.strip_pay.proofs.Lists.{contains_none}
+use Rattle.strip_model.specs.Film.{FilmData}
+use Rattle.strip_model.specs.Order.{IsKeptOrder, IsBefore}
+use Rattle.strip_model.specs.Pay.{pay_of, IsLeast, IsOptimum}
+use Rattle.strip_model.proofs.Lists.{contains_none}
 use Rattle.strip_film.specs.Film.{IsFilm}
 use Rattle.strip_film.specs.Path.{IsPath, PathData}
 use Rattle.strip_film.specs.Shoot.{ready}

@@ -1,8 +1,8 @@
 -- Orders that begin with a given list.
 use Rattle.std.specs.Prelude.{◌≡◌, ℕ, ◌≤◌, List, ◌++◌}
-use Rattle.strip_pay.specs.Film.{FilmData}
-use Rattle.strip_pay.specs.Order.{IsBefore, IsKeptOrder}
-use Rattle.strip_pay.specs.Pay.{pay_of}
+use Rattle.strip_model.specs.Film.{FilmData}
+use Rattle.strip_model.specs.Order.{IsBefore, IsKeptOrder}
+use Rattle.strip_model.specs.Pay.{pay_of}
 
 -- the list begins with these numbers
 abbrev pub BeginsWith : List ℕ → List ℕ → Type 0

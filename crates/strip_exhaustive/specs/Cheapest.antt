@@ -1,8 +1,8 @@
 -- The first of the cheapest orders.
 use Rattle.std.specs.Prelude.{◌≡◌, ℕ, List}
-use Rattle.strip_pay.specs.Film.{FilmData}
-use Rattle.strip_pay.specs.Order.{IsBefore, IsKeptOrder}
-use Rattle.strip_pay.specs.Pay.{IsLeast, pay_of}
+use Rattle.strip_model.specs.Film.{FilmData}
+use Rattle.strip_model.specs.Order.{IsBefore, IsKeptOrder}
+use Rattle.strip_model.specs.Pay.{IsLeast, pay_of}
 
 -- of the film's orders that keep the pairs, none pays less, and none that pays the same comes before
 pub record IsFirstCheapest (film : FilmData) (order : List ℕ) : Type 0 where

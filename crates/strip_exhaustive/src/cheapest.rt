@@ -1,7 +1,7 @@
 // Enumeration of all orders that keep the pairs.
 ghost use Rattle.std.specs.Prelude.{◌≡◌, length, nat_lt, MatchBool, MatchOption, IfOk};
-ghost use Rattle.strip_pay.specs.Order.{IsOrder};
-ghost use Rattle.strip_pay.specs.Pay.{pay_of, IsOptimum};
+ghost use Rattle.strip_model.specs.Order.{IsOrder};
+ghost use Rattle.strip_model.specs.Pay.{pay_of, IsOptimum};
 ghost use Rattle.strip_film.specs.Path.{IsPath};
 ghost use Rattle.strip_film.specs.Shown.{path_data};
 ghost use Rattle.strip_exhaustive.specs.Cheapest.{IsFirstCheapest};

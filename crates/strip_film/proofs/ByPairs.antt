@@ -5,11 +5,11 @@ use Rattle.std.proofs.Math.Bool.{and-true, or_assoc, or_comm, or-false}
 use Rattle.std.proofs.lemmas.Bool.{cases_Bool, and_left, and_right, and_parts, eqb-true, eq-eqb, and_from}
 use Rattle.strip_mask.specs.Set.{IsSet, has, with, meet, minus}
 use Rattle.strip_mask.proofs.ByMembers.{has-with, has-meet, has-minus, has-empty, has_from_minus, empty_from, same_has, some_member, below_64}
-use Rattle.strip_pay.specs.declared.pair.Pair.{Pair}
-use Rattle.strip_pay.specs.Film.{FilmData}
-use Rattle.strip_pay.specs.Pairs.{Precedes}
-use Rattle.strip_pay.proofs.Chains.{some_first}
-use Rattle.strip_pay.proofs.Lists.{any_from, any_is}
+use Rattle.strip_model.specs.declared.pair.Pair.{Pair}
+use Rattle.strip_model.specs.Film.{FilmData}
+use Rattle.strip_model.specs.Pairs.{Precedes}
+use Rattle.strip_model.proofs.Chains.{some_first}
+use Rattle.strip_model.proofs.Lists.{any_from, any_is}
 use Rattle.strip_film.specs.Film.{IsFilm}
 use Rattle.strip_film.specs.Shoot.{behind, ready}
 use Rattle.strip_film.specs.Located.{IsReady}

@@ -8,9 +8,9 @@ use Rattle.strip_mask.specs.Set.{IsSet, LiesBelow, has, union, minus, members}
 use Rattle.strip_mask.proofs.ByMembers.{has-union, has-minus, has-empty, has_from_minus, IsSet-minus}
 use Rattle.strip_mask.proofs.Below.{has-full, has_full, IsSet-full}
 use Rattle.strip_mask.proofs.Members.{has_from_members, Contains-members}
-use Rattle.strip_pay.specs.Film.{FilmData}
-use Rattle.strip_pay.specs.Pay.{works}
-use Rattle.strip_pay.proofs.Lists.{any_from, any_is}
+use Rattle.strip_model.specs.Film.{FilmData}
+use Rattle.strip_model.specs.Pay.{works}
+use Rattle.strip_model.proofs.Lists.{any_from, any_is}
 use Rattle.strip_film.specs.Film.{IsFilm, all_scenes}
 use Rattle.strip_film.specs.Shoot.{cast_of}
 use Rattle.strip_film.specs.Located.{WorksInside, WorksOutside}

@@ -7,7 +7,7 @@ use Rattle.strip_mask.proofs.ByMembers.{IsSet-without, has-minus, has_from_minus
 use Rattle.std.proofs.lemmas.Bool.{and_from}
 use Rattle.strip_mask.proofs.Below.{has_full, IsSet-full}
 use Rattle.strip_mask.proofs.Totals.{sum_over-without, sum_over_mono, value_le_sum_over, sum_over_le_sum}
-use Rattle.strip_pay.specs.Film.{FilmData}
+use Rattle.strip_model.specs.Film.{FilmData}
 use Rattle.strip_film.specs.declared.limits.TheConstants.{MAX_DAY_SUM, MAX_RATE_SUM}
 use Rattle.strip_film.specs.Film.{IsFilm, all_scenes}
 use Rattle.strip_film.specs.Shoot.{on_location, step_cost}

@@ -9,8 +9,8 @@ use Rattle.strip_mask.specs.Sums.{sum_below}
 use Rattle.strip_mask.proofs.ByMembers.{has-union, has-meet, has-minus, has-without_same, has-without_other, same_has, meet_swap, IsSet-minus}
 use Rattle.strip_mask.proofs.Below.{has_full, IsSet-full, is_set_below}
 use Rattle.strip_mask.proofs.Sizes.{length-members, size-le, mark}
-use Rattle.strip_pay.specs.Film.{FilmData}
-use Rattle.strip_pay.specs.Pay.{works}
+use Rattle.strip_model.specs.Film.{FilmData}
+use Rattle.strip_model.specs.Pay.{works}
 use Rattle.strip_film.specs.Film.{IsFilm, LiesIn, all_scenes}
 use Rattle.strip_film.specs.Shoot.{cast_of, on_location}
 use Rattle.strip_film.specs.Running.{scenes_with}

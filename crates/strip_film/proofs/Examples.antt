@@ -1,7 +1,7 @@
 -- Worked rows of the definitions, by computation.
 use Rattle.std.proofs.Common.{◌≡◌, [], ◌∷◌, refl}
 use Rattle.strip_mask.specs.Set.{has, union, meet, minus, with, without, members, numbers_below, sum_over, full}
-use Rattle.strip_pay.specs.Film.{FilmData}
+use Rattle.strip_model.specs.Film.{FilmData}
 use Rattle.strip_film.specs.Shoot.{on_location, ready, step_cost}
 use Rattle.strip_film.specs.Finish.{steps_cost}
 use Rattle.strip_film.specs.Running.{scenes_with}

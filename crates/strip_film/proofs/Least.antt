@@ -5,7 +5,7 @@ use Rattle.strip_mask.specs.Set.{IsSet, has, without, members, size}
 use Rattle.strip_mask.proofs.ByMembers.{IsSet-minus, IsSet-without}
 use Rattle.strip_mask.proofs.Members.{Contains-members, has_from_members}
 use Rattle.strip_mask.proofs.Sizes.{size-without, size-empty, empty_from_size}
-use Rattle.strip_pay.specs.Film.{FilmData}
+use Rattle.strip_model.specs.Film.{FilmData}
 use Rattle.strip_mask.proofs.Lists.{contains_here, contains_later, contains_cases, contains_none}
 use Rattle.strip_film.specs.Film.{IsFilm}
 use Rattle.strip_film.specs.Shoot.{behind, ready, step_cost}

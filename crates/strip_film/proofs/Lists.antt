@@ -5,7 +5,7 @@ use Rattle.strip_mask.specs.Set.{IsSet, LiesBelow, has, without, size}
 use Rattle.strip_mask.proofs.ByMembers.{has-empty, has_from_minus, has_from_without, has-without_other, IsSet-without}
 use Rattle.strip_mask.proofs.Below.{LiesBelow-without}
 use Rattle.strip_mask.proofs.Sizes.{size-without}
-use Rattle.strip_pay.specs.Film.{FilmData}
+use Rattle.strip_model.specs.Film.{FilmData}
 use Rattle.strip_mask.proofs.Lists.{contains_here, contains_later, contains_cases, contains_none}
 use Rattle.strip_film.specs.Film.{LiesIn}
 use Rattle.strip_film.specs.Shoot.{behind, ready, step_cost}

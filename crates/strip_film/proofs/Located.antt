@@ -4,7 +4,7 @@ use Rattle.strip_mask.specs.Set.{IsSet, LiesBelow, has, minus}
 use Rattle.strip_mask.proofs.ByMembers.{has-meet, has_from_meet}
 use Rattle.std.proofs.lemmas.Bool.{and_from}
 use Rattle.strip_mask.proofs.Below.{is_set_below, LiesBelow-minus}
-use Rattle.strip_pay.specs.Film.{FilmData}
+use Rattle.strip_model.specs.Film.{FilmData}
 use Rattle.strip_film.specs.Film.{IsFilm, LiesIn, all_scenes}
 use Rattle.strip_film.specs.Shoot.{cast_of, on_location}
 use Rattle.strip_film.specs.Located.{WorksInside, WorksOutside}

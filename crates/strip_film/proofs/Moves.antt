@@ -7,8 +7,8 @@ use Rattle.std.proofs.lemmas.List.Elements.{All-cons}
 use Rattle.strip_mask.specs.Set.{LiesBelow, has, with, without, union, minus}
 use Rattle.strip_mask.proofs.ByMembers.{with-without}
 use Rattle.strip_mask.proofs.Below.{LiesBelow-full, LiesBelow-without}
-use Rattle.strip_pay.specs.Film.{FilmData}
-use Rattle.strip_pay.specs.Pay.{works}
+use Rattle.strip_model.specs.Film.{FilmData}
+use Rattle.strip_model.specs.Pay.{works}
 use Rattle.strip_film.specs.Film.{IsFilm, LiesIn, all_scenes}
 use Rattle.strip_film.specs.Shoot.{ready, step_cost, on_location}
 use Rattle.strip_film.specs.Finish.{AreFirsts, Remained, rest_after, steps_cost}

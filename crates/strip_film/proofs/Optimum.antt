@@ -1,7 +1,7 @@
 -- The optimum is the cost of finishing everything.
 use Rattle.std.proofs.Common.{◌≡◌, ℕ, ◌≤◌, List, sym, ◌∙◌, subst}
-use Rattle.strip_pay.specs.Film.{FilmData}
-use Rattle.strip_pay.specs.Pay.{IsOptimum, pay_of}
+use Rattle.strip_model.specs.Film.{FilmData}
+use Rattle.strip_model.specs.Pay.{IsOptimum, pay_of}
 use Rattle.strip_film.specs.Film.{IsFilm, all_scenes}
 use Rattle.strip_film.specs.Finish.{EachOnce, IsFinish, steps_cost}
 use Rattle.strip_film.proofs.Lists.{AllOnce-from_ready}

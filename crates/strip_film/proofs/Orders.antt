@@ -6,12 +6,12 @@ use Rattle.std.proofs.lemmas.List.Elements.{All-contains, All-contains_itself, A
 use Rattle.strip_mask.specs.Set.{IsSet, full, has, without}
 use Rattle.strip_mask.proofs.ByMembers.{has-empty, has-without_same, has-without_other, has_from_without, IsSet-without, empty_from}
 use Rattle.strip_mask.proofs.Below.{has-full, has_full, IsSet-full, LiesBelow-full}
-use Rattle.strip_pay.specs.declared.pair.Pair.{Pair}
-use Rattle.strip_pay.specs.Film.{FilmData}
-use Rattle.strip_pay.specs.Order.{IsOrder, IsKeptOrder, StandsBefore}
-use Rattle.strip_pay.specs.Pairs.{IsKnownPair, Precedes}
-use Rattle.strip_pay.proofs.Counts.{count, tie, count-cons, tie-same, tie-other, count-none}
-use Rattle.strip_pay.proofs.Ahead.{stands_second}
+use Rattle.strip_model.specs.declared.pair.Pair.{Pair}
+use Rattle.strip_model.specs.Film.{FilmData}
+use Rattle.strip_model.specs.Order.{IsOrder, IsKeptOrder, StandsBefore}
+use Rattle.strip_model.specs.Pairs.{IsKnownPair, Precedes}
+use Rattle.strip_model.proofs.Counts.{count, tie, count-cons, tie-same, tie-other, count-none}
+use Rattle.strip_model.proofs.Ahead.{stands_second}
 use Rattle.strip_film.specs.Film.{IsFilm, all_scenes}
 use Rattle.strip_film.specs.Finish.{EachOnce, Remained}
 use Rattle.strip_film.proofs.Lists.{AllOnce, AllOnce-from_ready, has_from_list, list_has}

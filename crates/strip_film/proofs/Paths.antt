@@ -3,7 +3,7 @@ use Rattle.std.proofs.Common.{◌≡◌, ℕ, ◌+◌, ◌*◌, ◌<◌, ◌≤�
 use Rattle.strip_mask.specs.Set.{IsSet, has, without, size}
 use Rattle.strip_mask.proofs.Below.{IsSet-full, LiesBelow-full, is_set_below}
 use Rattle.strip_mask.proofs.Sizes.{size-without, size-le}
-use Rattle.strip_pay.specs.Film.{FilmData}
+use Rattle.strip_model.specs.Film.{FilmData}
 use Rattle.strip_film.specs.declared.limits.TheConstants.{MAX_DAY_SUM}
 use Rattle.strip_film.specs.Film.{IsFilm, LiesIn, all_scenes}
 use Rattle.strip_film.specs.Shoot.{ready, step_cost}

@@ -2,7 +2,7 @@
 use Rattle.std.proofs.Common.{◌≡◌, ◌≢◌, ℕ, List, [], ◌∷◌, ◌++◌, ◌⊎◌, inl, inr, refl, sym, ap, ◌∙◌, subst, arith}
 use Rattle.std.proofs.lemmas.Bool.{cases_lt}
 use Rattle.strip_mask.specs.Set.{without}
-use Rattle.strip_pay.specs.Order.{IsBefore}
+use Rattle.strip_model.specs.Order.{IsBefore}
 use Rattle.strip_film.specs.Shoot.{step_cost}
 use Rattle.strip_film.specs.Finish.{rest_after}
 use Rattle.strip_film.specs.Ranks.{IsSooner, IsEarlier}

@@ -6,8 +6,8 @@ use Rattle.std.proofs.lemmas.List.{take_more, take-append-drop}
 use Rattle.strip_mask.specs.Set.{has, minus, without}
 use Rattle.strip_mask.proofs.ByMembers.{has-minus, empty_from}
 use Rattle.strip_mask.proofs.Members.{members-empty}
-use Rattle.strip_pay.specs.Film.{FilmData}
-use Rattle.strip_pay.specs.Pay.{works}
+use Rattle.strip_model.specs.Film.{FilmData}
+use Rattle.strip_model.specs.Pay.{works}
 use Rattle.strip_film.specs.Film.{all_scenes}
 use Rattle.strip_film.specs.Shoot.{ready, on_location}
 use Rattle.strip_film.specs.Finish.{AreFirsts, Remained, rest_after, steps_cost}

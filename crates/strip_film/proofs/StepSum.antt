@@ -9,11 +9,11 @@ use Rattle.strip_mask.proofs.ByMembers.{has-without, has-without_same, has-witho
 use Rattle.strip_mask.proofs.Below.{has_full, LiesBelow-full, LiesBelow-without, is_set_below}
 use Rattle.strip_mask.proofs.Sums.{sum_below-none, sum_below-ext, sum_below-add, sum_below-scale}
 use Rattle.strip_mask.proofs.Totals.{sum_over_below}
-use Rattle.strip_pay.specs.Film.{FilmData}
-use Rattle.strip_pay.specs.Pay.{works, day_pay, pay_of}
+use Rattle.strip_model.specs.Film.{FilmData}
+use Rattle.strip_model.specs.Pay.{works, day_pay, pay_of}
 use Rattle.strip_mask.proofs.Agree.{same_test}
 use Rattle.std.proofs.Math.Bool.{or-true}
-use Rattle.strip_pay.proofs.Lists.{any_from, any_is}
+use Rattle.strip_model.proofs.Lists.{any_from, any_is}
 use Rattle.strip_film.specs.Film.{IsFilm, LiesIn, all_scenes}
 use Rattle.strip_film.specs.Shoot.{cast_of, on_location, step_cost}
 use Rattle.strip_film.specs.Finish.{steps_cost}
@@ -21,7 +21,7 @@ use Rattle.strip_film.specs.Located.{WorksInside, WorksOutside}
 use Rattle.strip_film.proofs.Lists.{AllOnce, has_from_list, list_has}
 use Rattle.strip_film.proofs.Casts.{cast_has, has_cast, called_is, is_called, cast_lies}
 use Rattle.strip_film.proofs.Located.{waiting_lies}
-use Rattle.strip_pay.proofs.Walk.{is_paid, paid_after, paid_after-new}
+use Rattle.strip_model.proofs.Walk.{is_paid, paid_after, paid_after-new}
 
 -- who works is paid at his rate, and who waits, called before and working later, at his hold rate
 paid_by_tests : (now later called : Bool) (days rate hold : ℕ)

@@ -7,8 +7,8 @@ use Rattle.std.proofs.lemmas.List.{get_or-replicate, get_or-set_same, get_or-set
 use Rattle.std.proofs.lemmas.List.Elements.{Contains-append_left, Contains-push, Contains-push_cases}
 use Rattle.strip_mask.specs.Set.{has, with}
 use Rattle.strip_mask.proofs.ByMembers.{has-empty, has-with}
-use Rattle.strip_pay.specs.declared.pair.Pair.{Pair}
-use Rattle.strip_pay.specs.Pairs.{Precedes}
+use Rattle.strip_model.specs.declared.pair.Pair.{Pair}
+use Rattle.strip_model.specs.Pairs.{Precedes}
 use Rattle.strip_film.specs.Film.{TellsBefore}
 
 -- no pairs, no scene before any

@@ -13,8 +13,8 @@ use Rattle.strip_mask.proofs.ByMembers.{has-empty, has-past, has-with_same, has-
 use Rattle.strip_mask.proofs.Sums.{sum_below-none, sum_below-point}
 use Rattle.strip_mask.proofs.Members.{has_from_members, Contains-members}
 use Rattle.strip_mask.proofs.Agree.{same_test}
-use Rattle.strip_pay.proofs.Lists.{any_from, any_is}
-use Rattle.strip_pay.proofs.Counts.{count, count-cons, tie-same, tie-other}
+use Rattle.strip_model.proofs.Lists.{any_from, any_is}
+use Rattle.strip_model.proofs.Counts.{count, count-cons, tie-same, tie-other}
 use Rattle.strip_mask.proofs.Sizes.{mark}
 use Rattle.strip_film.proofs.Counts.{count_members, count-le}
 

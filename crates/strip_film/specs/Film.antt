@@ -1,9 +1,9 @@
 -- A film within the limits, and sets of its scenes.
 use Rattle.std.specs.Prelude.{◌≡◌, ◌↔◌, ℕ, ◌<◌, ◌≤◌, true, List, length, slice_index, sum, All}
 use Rattle.strip_mask.specs.Set.{LiesBelow, full, has}
-use Rattle.strip_pay.specs.declared.pair.Pair.{Pair}
-use Rattle.strip_pay.specs.Film.{FilmData}
-use Rattle.strip_pay.specs.Pairs.{FitPairs, Precedes}
+use Rattle.strip_model.specs.declared.pair.Pair.{Pair}
+use Rattle.strip_model.specs.Film.{FilmData}
+use Rattle.strip_model.specs.Pairs.{FitPairs, Precedes}
 
 -- the film of these lists
 abbrev pub film_data : List ℕ → List ℕ → List ℕ → List ℕ → List Pair → FilmData

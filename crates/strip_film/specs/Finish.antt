@@ -1,7 +1,7 @@
 -- The cost of finishing: what is paid to shoot the scenes of a set in the order of a list.
 use Rattle.std.specs.Prelude.{◌≡◌, ℕ, ◌+◌, ◌≤◌, true, List, [], ◌∷◌}
 use Rattle.strip_mask.specs.Set.{has, without}
-use Rattle.strip_pay.specs.Film.{FilmData}
+use Rattle.strip_model.specs.Film.{FilmData}
 use Rattle.strip_film.specs.Shoot.{ready, step_cost}
 
 -- each scene of the list was among the firsts of what remained when it was shot

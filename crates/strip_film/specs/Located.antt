@@ -1,9 +1,9 @@
 -- Where an actor works, and which scenes are ready, by scenes.
 use Rattle.std.specs.Prelude.{◌≡◌, ℕ, ◌<◌, true, false, length}
 use Rattle.strip_mask.specs.Set.{has}
-use Rattle.strip_pay.specs.Film.{FilmData}
-use Rattle.strip_pay.specs.Pairs.{Precedes}
-use Rattle.strip_pay.specs.Pay.{works}
+use Rattle.strip_model.specs.Film.{FilmData}
+use Rattle.strip_model.specs.Pairs.{Precedes}
+use Rattle.strip_model.specs.Pay.{works}
 
 -- the actor works in some scene of the set
 abbrev pub WorksInside : FilmData → ℕ → ℕ → Type 0

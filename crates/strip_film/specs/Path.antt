@@ -1,6 +1,6 @@
 -- Paths: the scenes shot so far, what remains, and what was paid.
 use Rattle.std.specs.Prelude.{◌≡◌, ℕ, List}
-use Rattle.strip_pay.specs.Film.{FilmData}
+use Rattle.strip_model.specs.Film.{FilmData}
 use Rattle.strip_film.specs.Film.{all_scenes}
 use Rattle.strip_film.specs.Finish.{Remained, rest_after, steps_cost}
 

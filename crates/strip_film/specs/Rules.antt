@@ -1,7 +1,7 @@
 -- What a search goes by.
 use Rattle.std.specs.Prelude.{◌≡◌, ◌≢◌, ℕ, true}
 use Rattle.strip_mask.specs.Set.{has, without}
-use Rattle.strip_pay.specs.Film.{FilmData}
+use Rattle.strip_model.specs.Film.{FilmData}
 use Rattle.strip_film.specs.Film.{LiesIn, all_scenes}
 use Rattle.strip_film.specs.Shoot.{ready, step_cost}
 use Rattle.strip_film.specs.Finish.{AreFirsts, IsAtMostFinish, BeginsLeast}

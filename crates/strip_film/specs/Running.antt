@@ -1,8 +1,8 @@
 -- A path that is moved in place, beside the numbers of its film that a search asks for at each step.
 use Rattle.std.specs.Prelude.{◌≡◌, ℕ, ◌<◌, List, length, take, count_by, slice_index}
 use Rattle.strip_mask.specs.Set.{minus, members}
-use Rattle.strip_pay.specs.Film.{FilmData}
-use Rattle.strip_pay.specs.Pay.{works}
+use Rattle.strip_model.specs.Film.{FilmData}
+use Rattle.strip_model.specs.Pay.{works}
 use Rattle.strip_film.specs.Film.{all_scenes}
 use Rattle.strip_film.specs.Shoot.{on_location}
 use Rattle.strip_film.specs.Finish.{steps_cost}

@@ -1,8 +1,8 @@
 -- The state of a shoot, when a set of scenes remains.
 use Rattle.std.specs.Prelude.{ℕ, ◌+◌, ◌*◌, if◌then◌else◌, List, fold, slice_index}
 use Rattle.strip_mask.specs.Set.{has, with, union, meet, minus, members, sum_over}
-use Rattle.strip_pay.specs.declared.pair.Pair.{Pair}
-use Rattle.strip_pay.specs.Film.{FilmData}
+use Rattle.strip_model.specs.declared.pair.Pair.{Pair}
+use Rattle.strip_model.specs.Film.{FilmData}
 use Rattle.strip_film.specs.Film.{all_scenes}
 
 -- who works in some scene of the set

@@ -1,15 +1,15 @@
 // Films within the limits.
 ghost use Rattle.std.specs.Prelude.{◌≡◌, ◌↔◌, ℕ, ◌<◌, ◌≤◌, true, List, length, sum, All, IsTrue, IsSome, IfSome, IfOk};
 ghost use Rattle.strip_mask.specs.Set.{LiesBelow, has};
-ghost use Rattle.strip_pay.specs.Film.{FilmData};
-ghost use Rattle.strip_pay.specs.Pairs.{IsKnownPair, Precedes};
+ghost use Rattle.strip_model.specs.Film.{FilmData};
+ghost use Rattle.strip_model.specs.Pairs.{IsKnownPair, Precedes};
 ghost use Rattle.strip_film.specs.Film.{IsFilm, TellsBefore, all_scenes, film_data};
 
 use crate::limits::{MAX_COUNT, MAX_DAY_SUM, MAX_RATE_SUM};
 use std::marker::Model;
 use strip_io::Memory;
 use strip_mask::Mask;
-use strip_pay::{Pair, fit};
+use strip_model::{Pair, fit};
 
 /// A film: scenes and actors by number. It has casts, days, each actor's pay for a day of work and for a day of
 /// waiting, and the pairs (precedence constraints). A cast is a mask of actor numbers.
@@ -29,7 +29,7 @@ pub struct Film {
 impl Model for Film {
     ghost use Rattle.std.specs.Prelude.{◌≡◌, length};
     ghost use Rattle.strip_mask.specs.Set.{full};
-    ghost use Rattle.strip_pay.specs.Film.{FilmData};
+    ghost use Rattle.strip_model.specs.Film.{FilmData};
     ghost use Rattle.strip_film.specs.Film.{IsFilm, TellsBefore, film_data};
 
     ghost Value = { FilmData };

@@ -2,9 +2,9 @@
 //! contracts.
 ghost use Rattle.std.specs.Prelude.{◌≡◌, ◌≢◌, ◌↔◌, ℕ, ◌+◌, ◌*◌, ◌^◌, ◌<◌, ◌≤◌, true, List, [], length, slice_index};
 ghost use Rattle.strip_mask.specs.Set.{IsSet, has, minus, sum_over};
-ghost use Rattle.strip_pay.specs.Film.{FilmData};
-ghost use Rattle.strip_pay.specs.Order.{IsKeptOrder, IsOrder};
-ghost use Rattle.strip_pay.specs.Pay.{IsOptimum, pay_of};
+ghost use Rattle.strip_model.specs.Film.{FilmData};
+ghost use Rattle.strip_model.specs.Order.{IsKeptOrder, IsOrder};
+ghost use Rattle.strip_model.specs.Pay.{IsOptimum, pay_of};
 ghost use Rattle.strip_film.specs.Film.{IsFilm, LiesIn, all_scenes};
 ghost use Rattle.strip_film.specs.Shoot.{cast_of, on_location, ready, step_cost};
 ghost use Rattle.strip_film.specs.Located.{IsReady, WorksInside, WorksOutside};

@@ -7,8 +7,8 @@ use Rattle.std.proofs.lemmas.List.{get_or-set_other, get_or-set_same, length-set
 use Rattle.std.proofs.lemmas.List.Elements.{Contains-append_left, Contains-push, Contains-push_cases}
 use Rattle.std.proofs.lemmas.List.Quantifiers.{position-Some}
 use Rattle.strip_mask.specs.Set.{has, without}
-use Rattle.strip_pay.specs.Film.{FilmData}
-use Rattle.strip_pay.proofs.Lists.{contains_none}
+use Rattle.strip_model.specs.Film.{FilmData}
+use Rattle.strip_model.proofs.Lists.{contains_none}
 use Rattle.strip_rule.specs.Rule.{open_firsts}
 use Rattle.strip_film.specs.Path.{PathData}
 use Rattle.strip_film.specs.Rules.{Rules}

@@ -4,7 +4,7 @@ use Rattle.std.specs.List.{AllPairs, position}
 use Rattle.std.proofs.lemmas.Bool.{eq-eqb, eqb-true, false≢true}
 use Rattle.std.proofs.lemmas.List.Elements.{All-contains}
 use Rattle.std.proofs.lemmas.List.Quantifiers.{position-Some}
-use Rattle.strip_pay.specs.Film.{FilmData}
+use Rattle.strip_model.specs.Film.{FilmData}
 use Rattle.strip_film.specs.Path.{IsPath, PathData}
 use Rattle.strip_film.proofs.Started.{same_path}
 use Rattle.strip_paths.proofs.Placed.{leaves, none_leaves}

@@ -10,10 +10,10 @@ use Rattle.strip_mask.proofs.Below.{IsSet-full}
 use Rattle.strip_mask.proofs.Members.{Contains-members}
 use Rattle.strip_mask.proofs.Sizes.{length-members, size-empty, size-le}
 use Rattle.strip_mask.proofs.Below.{size-full}
-use Rattle.strip_kind.specs.declared.kind.Kind.{Kind}
-use Rattle.strip_pay.specs.Film.{FilmData}
-use Rattle.strip_pay.proofs.Blocks.{All-from_contains}
-use Rattle.strip_pay.proofs.Lists.{contains_here}
+use Rattle.strip_model.specs.declared.kind.Kind.{Kind}
+use Rattle.strip_model.specs.Film.{FilmData}
+use Rattle.strip_model.proofs.Blocks.{All-from_contains}
+use Rattle.strip_model.proofs.Lists.{contains_here}
 use Rattle.strip_film.specs.Film.{IsFilm, LiesIn, all_scenes}
 use Rattle.strip_film.specs.Finish.{AreFirsts, rest_after}
 use Rattle.strip_film.specs.Path.{IsPath, PathData}

@@ -7,8 +7,8 @@ use Rattle.strip_mask.specs.Set.{has, members, size, without}
 use Rattle.strip_mask.proofs.Below.{LiesBelow-without, size-full}
 use Rattle.strip_mask.proofs.Members.{Contains-members}
 use Rattle.strip_mask.proofs.Sizes.{empty_from_size, size-without}
-use Rattle.strip_kind.specs.declared.kind.Kind.{Kind}
-use Rattle.strip_pay.specs.Film.{FilmData}
+use Rattle.strip_model.specs.declared.kind.Kind.{Kind}
+use Rattle.strip_model.specs.Film.{FilmData}
 use Rattle.strip_film.specs.declared.shared.Line.{Line}
 use Rattle.strip_film.specs.Film.{LiesIn, all_scenes}
 use Rattle.strip_film.specs.Path.{PathData}

@@ -8,8 +8,8 @@ use Rattle.strip_mask.specs.Set.{size}
 use Rattle.strip_mask.proofs.Below.{IsSet-full, size-full}
 use Rattle.strip_mask.proofs.Lists.{contains_cases, contains_here, contains_none}
 use Rattle.strip_mask.proofs.Sizes.{size-empty}
-use Rattle.strip_kind.specs.declared.kind.Kind.{Kind}
-use Rattle.strip_pay.specs.Film.{FilmData}
+use Rattle.strip_model.specs.declared.kind.Kind.{Kind}
+use Rattle.strip_model.specs.Film.{FilmData}
 use Rattle.strip_film.specs.Film.{IsFilm, all_scenes}
 use Rattle.strip_film.specs.Path.{IsPath, PathData}
 use Rattle.strip_film.specs.Rules.{IsOpen, Rules}

@@ -1,7 +1,7 @@
 -- The front of a search: its tasks, the paths that are shorter than these, and their lines.
 use Rattle.std.specs.Prelude.{◌≡◌, ◌↔◌, ℕ, ◌<◌, ◌≤◌, Bool, false, Option, None, List, length, replicate, slice_index_or, Contains}
 use Rattle.std.specs.List.{AllPairs}
-use Rattle.strip_pay.specs.Film.{FilmData}
+use Rattle.strip_model.specs.Film.{FilmData}
 use Rattle.strip_film.specs.Film.{all_scenes}
 use Rattle.strip_film.specs.Path.{PathData}
 use Rattle.strip_film.specs.Ranks.{IsEarlier}

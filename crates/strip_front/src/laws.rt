@@ -1,7 +1,7 @@
 //! Laws of the front: functions that do nothing when they run, with theorems as contracts.
 ghost use Rattle.std.specs.Prelude.{◌≡◌, ℕ, ◌≤◌, List, length, All, Contains};
-ghost use Rattle.strip_kind.specs.declared.kind.Kind.{Kind};
-ghost use Rattle.strip_pay.specs.Film.{FilmData};
+ghost use Rattle.strip_model.specs.declared.kind.Kind.{Kind};
+ghost use Rattle.strip_model.specs.Film.{FilmData};
 ghost use Rattle.strip_film.specs.Film.{IsFilm};
 ghost use Rattle.strip_film.specs.Path.{PathData};
 ghost use Rattle.strip_film.specs.Rules.{IsOpen, Rules};

@@ -3,7 +3,7 @@ ghost use Rattle.std.specs.Prelude.{◌≡◌, ◌≢◌, ◌<◌, ℕ, length, 
 ghost use Rattle.std.specs.List.{AllPairs};
 ghost use Rattle.strip_film.specs.Film.{LiesIn};
 ghost use Rattle.strip_lines.specs.Lines.{rules_of};
-ghost use Rattle.strip_kind.specs.declared.kind.Kind.{Kind};
+ghost use Rattle.strip_model.specs.declared.kind.Kind.{Kind};
 ghost use Rattle.strip_front.specs.Filled.{Follows, IsWanted};
 ghost use Rattle.strip_front.specs.Front.{IsFrontOf, line_of, path_at, task_at};
 ghost use Rattle.strip_front.specs.Marked.{MarksMore};

@@ -7,7 +7,7 @@ use Rattle.std.proofs.lemmas.List.FromFn.{get_or-map-range_with_len, length-map-
 use Rattle.std.proofs.lemmas.Fmt.{decimal_injective, length-decimal-le}
 use Rattle.std.proofs.lemmas.Nat.{mod_below}
 use Rattle.strip_mask.specs.Set.{LiesBelow}
-use Rattle.strip_pay.proofs.Fits.{fit-none}
+use Rattle.strip_model.proofs.Fits.{fit-none}
 use Rattle.strip_model.specs.Data.{ActorData, IsActor, IsInstance, IsName, IsScene, SceneData}
 use Rattle.strip_gen.specs.Words.{behind, generator_of, word_at}
 use Rattle.strip_gen.specs.Made.{actor_at, cast_of, generated, name_at, scene_at}

@@ -1,6 +1,6 @@
 -- What each call of a hand asks for, and what it makes of the hand.
 use Rattle.std.specs.Prelude.{◌≡◌, ◌≢◌, ⊤, ℕ, suc, ◌+◌, ◌<◌, ◌≤◌, true, Option, Some, None, Result, Ok, Err, length}
-use Rattle.strip_pay.specs.Pay.{IsOptimum}
+use Rattle.strip_model.specs.Pay.{IsOptimum}
 use Rattle.strip_film.specs.declared.shared.Known.{Known}
 use Rattle.strip_film.specs.declared.shared.Listed.{Listed}
 use Rattle.strip_film.specs.declared.shared.Listed.TheVariants.{Line, Spent}

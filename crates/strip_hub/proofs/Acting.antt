@@ -3,8 +3,8 @@ use Rattle.std.proofs.lemmas.Bool.{cases_Bool, eqb-true}
 use Rattle.std.proofs.lemmas.List.{map-append}
 use Rattle.strip_mask.proofs.Lists.{count-append, count-cons}
 use Rattle.std.proofs.Common.{suc, Bool, cond, eqb, [], ◌∷◌, length, inl, inr, ◌≡◌, ℕ, ◌+◌, ◌<◌, ◌≤◌, Option, Some, None, Ok, List, refl, sym, ap, ◌∙◌, subst, arith}
-use Rattle.strip_pay.specs.Film.{FilmData}
-use Rattle.strip_pay.specs.Pay.{IsOptimum}
+use Rattle.strip_model.specs.Film.{FilmData}
+use Rattle.strip_model.specs.Pay.{IsOptimum}
 use Rattle.strip_film.specs.declared.shared.Known.{Known}
 use Rattle.strip_film.specs.declared.shared.Line.{Line as LineOf}
 use Rattle.strip_film.specs.declared.shared.Listed.TheVariants.{Line}

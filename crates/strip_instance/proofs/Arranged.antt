@@ -4,10 +4,10 @@ use Rattle.std.specs.List.{AllPairs}
 use Rattle.std.proofs.lemmas.Bool.{cases_lt}
 use Rattle.std.proofs.lemmas.List.{get_or-map, length-map}
 use Rattle.std.proofs.lemmas.List.Elements.{All-head, All-map, All-tail}
-use Rattle.strip_pay.specs.declared.pair.Pair.{Pair}
-use Rattle.strip_pay.specs.Order.{IsOrder}
-use Rattle.strip_pay.specs.Pairs.{FitPairs, IsKnownPair}
-use Rattle.strip_pay.proofs.Counts.{length-order}
+use Rattle.strip_model.specs.declared.pair.Pair.{Pair}
+use Rattle.strip_model.specs.Order.{IsOrder}
+use Rattle.strip_model.specs.Pairs.{FitPairs, IsKnownPair}
+use Rattle.strip_model.proofs.Counts.{length-order}
 use Rattle.strip_model.specs.Data.{InstanceData, IsInstance, IsScene, SceneData}
 use Rattle.strip_text.specs.Rows.{field_of}
 use Rattle.strip_instance.specs.Field.{is_scene_name}

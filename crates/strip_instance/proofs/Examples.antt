@@ -1,7 +1,7 @@
 -- Worked examples of what texts say, by computation.
 use Rattle.std.proofs.Common.{◌≡◌, ℕ, List, [], ◌∷◌, ◌++◌, Ok, Err, codes, refl}
 use Rattle.strip_text.proofs.OnLiterals.{read_on_literals}
-use Rattle.strip_pay.specs.declared.pair.Pair.{Pair}
+use Rattle.strip_model.specs.declared.pair.Pair.{Pair}
 use Rattle.strip_model.specs.Data.{InstanceData}
 use Rattle.strip_instance.specs.Fault.{BadBefore, Cycle, Empty, BadHeader, NoRateRow, Width, BadName, DuplicateActor, BadDays, BadRate, BadHold, BadMark, NoScene, NotUtf8}
 use Rattle.strip_instance.specs.Text.{says}

@@ -1,9 +1,9 @@
 -- From the least numbers of steps to the shortest list of scenes.
 use Rattle.std.proofs.Common.{◌≡◌, ◌≢◌, ℕ, zero, suc, ◌+◌, ◌<◌, ◌≤◌, List, [], ◌∷◌, ◌++◌, length, slice_index, All, refl, sym, ap, ◌∙◌, subst, arith, append_assoc, inl, inr}
 use Rattle.std.proofs.lemmas.Bool.{cases_lt}
-use Rattle.strip_pay.specs.declared.pair.Pair.{Pair}
-use Rattle.strip_pay.specs.Order.{IsBefore}
-use Rattle.strip_pay.specs.Pairs.{Precedes, IsKnownPair, Leads}
+use Rattle.strip_model.specs.declared.pair.Pair.{Pair}
+use Rattle.strip_model.specs.Order.{IsBefore}
+use Rattle.strip_model.specs.Pairs.{Precedes, IsKnownPair, Leads}
 use Rattle.strip_instance.specs.Steps.{StepsTo, AreSteps, Nears, IsLeastNearer}
 use Rattle.strip_instance.specs.Ways.{IsShortestWay}
 use Rattle.strip_instance.proofs.Ways.{Runs, runs-of_way, way-of_runs, steps-of_way, way-of_steps, few_steps, first_below, second_below}

@@ -7,12 +7,12 @@ use Rattle.std.proofs.lemmas.List.Sums.{sum_by-cons}
 use Rattle.strip_mask.specs.Set.{has, numbers_below}
 use Rattle.strip_mask.proofs.Members.{length-numbers_below, number_at}
 use Rattle.strip_mask.proofs.Sums.{sum_below-ext}
-use Rattle.strip_pay.specs.Film.{FilmData}
-use Rattle.strip_pay.specs.Order.{IsOrder}
-use Rattle.strip_pay.specs.Pay.{day_pay, from_first, pay_of, span, to_last, works}
-use Rattle.strip_pay.proofs.Spans.{All-from_first, to_last-cons}
+use Rattle.strip_model.specs.Film.{FilmData}
+use Rattle.strip_model.specs.Order.{IsOrder}
+use Rattle.strip_model.specs.Pay.{day_pay, from_first, pay_of, span, to_last, works}
+use Rattle.strip_model.proofs.Spans.{All-from_first, to_last-cons}
 use Rattle.strip_model.specs.Data.{InstanceData, SceneData}
-use Rattle.strip_model.specs.Film.{film_of}
+use Rattle.strip_model.specs.FilmOf.{film_of}
 use Rattle.strip_instance.specs.Arranged.{arranged, no_scene, scene_in}
 
 -- the part of a list from the first number that passes to the last, where its numbers are put for others

@@ -5,10 +5,10 @@ use Rattle.std.proofs.lemmas.Bool.Decides.{nat_tests}
 use Rattle.std.proofs.lemmas.List.{get_or_default, get_or-map, length-map, map-append}
 use Rattle.std.proofs.lemmas.List.Elements.{All-map}
 use Rattle.std.proofs.lemmas.List.Sums.{fails_before_first, passes_at_first}
-use Rattle.strip_pay.specs.declared.pair.Pair.{Pair}
-use Rattle.strip_pay.specs.Order.{IsOrder}
-use Rattle.strip_pay.specs.Pairs.{FitPairs, IsChain, IsKnownPair, Precedes}
-use Rattle.strip_pay.proofs.Counts.{contains_counted, count, count-cons, counted_contains, length-order, tie, tie-same}
+use Rattle.strip_model.specs.declared.pair.Pair.{Pair}
+use Rattle.strip_model.specs.Order.{IsOrder}
+use Rattle.strip_model.specs.Pairs.{FitPairs, IsChain, IsKnownPair, Precedes}
+use Rattle.strip_model.proofs.Counts.{contains_counted, count, count-cons, counted_contains, length-order, tie, tie-same}
 use Rattle.strip_instance.specs.Arranged.{pair_in, place_in}
 
 -- the pair whose scenes stand at these places

@@ -2,9 +2,9 @@
 use Rattle.std.proofs.Common.{◌≡◌, ℕ, ◌≤◌, List, [], ◌∷◌, ◌++◌, length, All, refl, ap, subst, arith, ◌⊎◌, inl, inr}
 use Rattle.std.proofs.lemmas.List.{length-append}
 use Rattle.std.proofs.lemmas.List.Elements.{All-nil, All-cons, All-contains}
-use Rattle.strip_pay.specs.declared.pair.Pair.{Pair}
-use Rattle.strip_pay.specs.Order.{IsBefore}
-use Rattle.strip_pay.specs.Pairs.{IsChain, Precedes}
+use Rattle.strip_model.specs.declared.pair.Pair.{Pair}
+use Rattle.strip_model.specs.Order.{IsBefore}
+use Rattle.strip_model.specs.Pairs.{IsChain, Precedes}
 use Rattle.strip_instance.specs.Ways.{IsShortestWay}
 
 abbrev pair : ℕ → ℕ → Pair

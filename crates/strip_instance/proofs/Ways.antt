@@ -3,12 +3,12 @@ use Rattle.std.proofs.Common.{◌≡◌, ◌≢◌, ℕ, zero, suc, ◌<◌, ◌
 use Rattle.std.proofs.lemmas.Bool.{cases_lt}
 use Rattle.std.proofs.lemmas.List.{length-append}
 use Rattle.std.proofs.lemmas.List.Elements.{All-nil, All-cons, All-contains}
-use Rattle.strip_pay.specs.declared.pair.Pair.{Pair}
-use Rattle.strip_pay.specs.Pairs.{Precedes, IsChain, IsKnownPair, Leads}
-use Rattle.strip_pay.proofs.Before.{before_total}
-use Rattle.strip_pay.proofs.Chains.{chain-behind, chain-front}
-use Rattle.strip_pay.proofs.Counts.{Repeats, repeats}
-use Rattle.strip_pay.proofs.Leads.{chain_joined}
+use Rattle.strip_model.specs.declared.pair.Pair.{Pair}
+use Rattle.strip_model.specs.Pairs.{Precedes, IsChain, IsKnownPair, Leads}
+use Rattle.strip_model.proofs.Before.{before_total}
+use Rattle.strip_model.proofs.Chains.{chain-behind, chain-front}
+use Rattle.strip_model.proofs.Counts.{Repeats, repeats}
+use Rattle.strip_model.proofs.Leads.{chain_joined}
 use Rattle.strip_instance.specs.Steps.{StepsTo}
 use Rattle.strip_instance.specs.Ways.{IsShortestWay, IsWay}
 

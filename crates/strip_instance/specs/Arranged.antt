@@ -1,7 +1,7 @@
 -- An instance with its scenes in another order.
 use Rattle.std.specs.Prelude.{ℕ, ◌==◌, List, [], map, slice_index_or}
 use Rattle.std.specs.List.{position_or_len}
-use Rattle.strip_pay.specs.declared.pair.Pair.{Pair}
+use Rattle.strip_model.specs.declared.pair.Pair.{Pair}
 use Rattle.strip_model.specs.Data.{SceneData, InstanceData}
 
 -- what stands past the last scene

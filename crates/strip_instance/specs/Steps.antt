@@ -1,7 +1,7 @@
 -- How many steps along pairs scenes are from the last one of a way.
 use Rattle.std.specs.Prelude.{◌≡◌, ℕ, zero, suc, ◌+◌, ◌<◌, ◌≤◌, List, Contains, slice_index}
-use Rattle.strip_pay.specs.declared.pair.Pair.{Pair}
-use Rattle.strip_pay.specs.Pairs.{Precedes}
+use Rattle.strip_model.specs.declared.pair.Pair.{Pair}
+use Rattle.strip_model.specs.Pairs.{Precedes}
 
 -- pairs lead from the scene to the last one by this many steps
 abbrev pub StepsTo : List Pair → ℕ → ℕ → ℕ → Type 0

@@ -1,8 +1,8 @@
 -- Ways from a scene to another along pairs, and which of them is the shortest.
 use Rattle.std.specs.Prelude.{◌≡◌, ℕ, ◌≤◌, List, [], ◌∷◌, ◌++◌, length}
-use Rattle.strip_pay.specs.declared.pair.Pair.{Pair}
-use Rattle.strip_pay.specs.Order.{IsBefore}
-use Rattle.strip_pay.specs.Pairs.{IsChain}
+use Rattle.strip_model.specs.declared.pair.Pair.{Pair}
+use Rattle.strip_model.specs.Order.{IsBefore}
+use Rattle.strip_model.specs.Pairs.{IsChain}
 
 -- a way from the one scene to the other: a pair puts each scene of it before the next
 pub record IsWay (pairs : List Pair) (from to : ℕ) (scenes : List ℕ) : Type 0 where

@@ -1,6 +1,6 @@
 // The writer of instance texts with another order of scenes.
 ghost use Rattle.std.specs.Prelude.{◌≡◌, ◌++◌, ◌<◌, ◌≤◌, length, map, All, Ok, IfOk, OnOk};
-ghost use Rattle.strip_pay.specs.Order.{IsOrder};
+ghost use Rattle.strip_model.specs.Order.{IsOrder};
 ghost use Rattle.strip_model.specs.Instance.{scene_data};
 ghost use Rattle.strip_text.specs.Rows.{csv_text};
 ghost use Rattle.strip_instance.specs.Text.{HasReadableNames, says};

@@ -1,8 +1,8 @@
 // The rows of pairs, after those of the scenes: one scene is shot before another.
 ghost use Rattle.std.specs.Prelude.{◌≡◌, ◌≤◌, ◌∷◌, ◌<◌, [], drop, length, map, false, All, IfOk, IfErr, OnOk};
 ghost use Rattle.std.specs.String.{string_bytes};
-ghost use Rattle.strip_pay.specs.Befores.{Knows};
-ghost use Rattle.strip_pay.specs.Pairs.{FitPairs, IsKnownPair, Leads};
+ghost use Rattle.strip_model.specs.Befores.{Knows};
+ghost use Rattle.strip_model.specs.Pairs.{FitPairs, IsKnownPair, Leads};
 ghost use Rattle.strip_text.specs.Checks.{check};
 ghost use Rattle.strip_text.specs.Rows.{field_of, is_empty_row};
 ghost use Rattle.strip_instance.specs.declared.fault.InstanceFault.TheVariants.{Memory as OutOfMemory};
@@ -19,8 +19,7 @@ use crate::row::{is_before_row, next_row};
 use crate::way::shortest_way;
 use std::alloc::Global;
 use strip_io::Memory;
-use strip_model::Scene;
-use strip_pay::{Befores, Pair};
+use strip_model::{Befores, Pair, Scene};
 use strip_text::{Row, Rows};
 
 /// Reads the pairs from the rows after those of these scenes. If `there` holds, `row` has the first of these rows; the

@@ -1,8 +1,8 @@
 //! Laws of the definitions: functions that do nothing when they run, each with a theorem as its contract.
 ghost use Rattle.std.specs.Prelude.{◌≡◌, ◌≢◌, ◌↔◌, ℕ, List, [], slice_index_or, None, Some, Ok, Err, length};
 ghost use Rattle.strip_mask.specs.Set.{has, numbers_below};
-ghost use Rattle.strip_pay.specs.declared.pair.Pair.{Pair};
-ghost use Rattle.strip_pay.specs.Pairs.{FitPairs, Leads};
+ghost use Rattle.strip_model.specs.declared.pair.Pair.{Pair};
+ghost use Rattle.strip_model.specs.Pairs.{FitPairs, Leads};
 ghost use Rattle.strip_instance.specs.Ways.{IsShortestWay};
 ghost use Rattle.strip_model.specs.Data.{InstanceData, IsInstance};
 ghost use Rattle.strip_text.specs.Field.{Field};
@@ -10,9 +10,9 @@ ghost use Rattle.strip_instance.specs.Befores.{shortest_way};
 ghost use Rattle.strip_instance.specs.Fault.{Memory};
 ghost use Rattle.strip_instance.specs.Field.{is_work_mark};
 ghost use Rattle.strip_instance.specs.Text.{HasReadableNames, cast_of_marks, says};
-ghost use Rattle.strip_pay.specs.Order.{IsOrder};
-ghost use Rattle.strip_pay.specs.Pay.{pay_of};
-ghost use Rattle.strip_model.specs.Film.{film_of};
+ghost use Rattle.strip_model.specs.Order.{IsOrder};
+ghost use Rattle.strip_model.specs.Pay.{pay_of};
+ghost use Rattle.strip_model.specs.FilmOf.{film_of};
 ghost use Rattle.strip_instance.specs.Arranged.{arranged};
 
 /// An instance that was read from a text keeps the limits of instances.

@@ -18,8 +18,7 @@ use crate::rates::{Paid, read_actors};
 use crate::row::next_row;
 use crate::scenes::{Scenes, read_scenes};
 use std::alloc::Global;
-use strip_model::{Actor, Instance, Scene};
-use strip_pay::Pair;
+use strip_model::{Actor, Instance, Pair, Scene};
 use strip_text::{Row, Rows};
 
 /// Reads the instance from its text, or finds the text's first fault. It takes time in proportion to the size of the

@@ -2,11 +2,11 @@
 ghost use Rattle.std.specs.Prelude.{◌≡◌, ◌≢◌, ℕ, ◌<◌, ◌≤◌, All, IsTrue, IfOk, MatchOption, ◌⊎◌, ◌↔◌, ◌+◌, false, slice_index};
 ghost use Rattle.strip_instance.specs.Steps.{AreSteps, CameCloser, IsLeastNearer, Nears};
 ghost use Rattle.strip_instance.specs.Ways.{IsShortestWay};
-ghost use Rattle.strip_pay.specs.Pairs.{IsKnownPair, Leads};
+ghost use Rattle.strip_model.specs.Pairs.{IsKnownPair, Leads};
 
 use std::alloc::Global;
 use strip_io::Memory;
-use strip_pay::{MAX_SCENES, Pair};
+use strip_model::{MAX_SCENES, Pair};
 
 /// A number of steps that no shortest way has.
 const FAR: u16 = MAX_SCENES as u16;

@@ -2,7 +2,7 @@
 ghost use Rattle.std.specs.Prelude.{◌≡◌, ◌++◌, ◌<◌, ◌≤◌, length, map, All, Ok, IfOk, OnOk};
 ghost use Rattle.std.specs.Fmt.{decimal};
 ghost use Rattle.std.specs.String.{string_bytes};
-ghost use Rattle.strip_pay.specs.Pairs.{IsKnownPair};
+ghost use Rattle.strip_model.specs.Pairs.{IsKnownPair};
 ghost use Rattle.strip_model.specs.Instance.{actor_data, scene_data};
 ghost use Rattle.strip_text.specs.Rows.{csv_row, csv_text};
 ghost use Rattle.strip_instance.specs.Shown.{names_of as scene_names, rate_of, rate_word};
@@ -13,8 +13,7 @@ use crate::RateKind;
 use std::alloc::Global;
 use strip_io::Memory;
 use strip_mask::Mask;
-use strip_model::{Actor, Instance, Scene};
-use strip_pay::Pair;
+use strip_model::{Actor, Instance, Pair, Scene};
 use strip_text::Text;
 
 /// Returns the canonical text of the instance. It reads back as the instance, if the names can be written in a text. It

@@ -5,10 +5,10 @@ use Rattle.std.proofs.lemmas.Bool.{cond-true, eq-eqb, false≢true, lt-ltb}
 use Rattle.std.proofs.lemmas.List.Elements.{All-nil}
 use Rattle.std.proofs.lemmas.List.Sums.{position_or_len_is}
 use Rattle.strip_mask.proofs.Below.{LiesBelow-full}
-use Rattle.strip_kind.specs.declared.kind.Kind.{Kind}
-use Rattle.strip_pay.specs.Film.{FilmData}
-use Rattle.strip_pay.specs.Order.{IsKeptOrder, IsOrder}
-use Rattle.strip_pay.specs.Pay.{pay_of}
+use Rattle.strip_model.specs.declared.kind.Kind.{Kind}
+use Rattle.strip_model.specs.Film.{FilmData}
+use Rattle.strip_model.specs.Order.{IsKeptOrder, IsOrder}
+use Rattle.strip_model.specs.Pay.{pay_of}
 use Rattle.strip_film.specs.Film.{IsFilm, all_scenes}
 use Rattle.strip_film.specs.Finish.{EachOnce, IsAtMostFinish, steps_cost}
 use Rattle.strip_film.specs.Path.{IsComplete, PathData}

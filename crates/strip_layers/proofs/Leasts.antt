@@ -5,9 +5,9 @@ use Rattle.strip_mask.specs.Set.{has, members, minus, size, sum_over, without}
 use Rattle.strip_mask.proofs.Below.{LiesBelow-full, LiesBelow-without, is_set_below, size-full}
 use Rattle.strip_mask.proofs.Members.{Contains-members, has_from_members}
 use Rattle.strip_mask.proofs.Sizes.{size-empty}
-use Rattle.strip_kind.specs.declared.kind.Kind.{Kind}
-use Rattle.strip_pay.specs.Film.{FilmData}
-use Rattle.strip_pay.proofs.Lists.{contains_none}
+use Rattle.strip_model.specs.declared.kind.Kind.{Kind}
+use Rattle.strip_model.specs.Film.{FilmData}
+use Rattle.strip_model.proofs.Lists.{contains_none}
 use Rattle.strip_film.specs.Film.{IsFilm, LiesIn, all_scenes}
 use Rattle.strip_film.specs.Shoot.{step_cost}
 use Rattle.strip_film.proofs.Costs.{step_limit}

@@ -1,7 +1,7 @@
 -- How sets that are asked for their static bounds are answered.
 use Rattle.std.specs.Prelude.{◌≡◌, ℕ, ◌<◌, ◌≤◌, ◌⊎◌, min, true, false, List, length, slice_index_or}
-use Rattle.strip_kind.specs.declared.kind.Kind.{Kind}
-use Rattle.strip_pay.specs.Film.{FilmData}
+use Rattle.strip_model.specs.declared.kind.Kind.{Kind}
+use Rattle.strip_model.specs.Film.{FilmData}
 use Rattle.strip_bound.specs.Bounds.{bound}
 use Rattle.strip_layers.specs.declared.ask.Ask.{Ask}
 

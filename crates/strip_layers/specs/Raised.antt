@@ -1,7 +1,7 @@
 -- Lines that are raised by what is known of the layer below.
 use Rattle.std.specs.Prelude.{◌≡◌, ℕ, ◌+◌, ◌<◌, ◌≤◌, ◌^◌, max, true, false, Some, List, length, map, slice_index_or}
 use Rattle.strip_mask.specs.Set.{has, without}
-use Rattle.strip_pay.specs.Film.{FilmData}
+use Rattle.strip_model.specs.Film.{FilmData}
 use Rattle.strip_film.specs.Path.{PathData}
 use Rattle.strip_film.specs.Rules.{Rules}
 use Rattle.strip_film.specs.Shoot.{step_cost}

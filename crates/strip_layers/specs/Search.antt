@@ -2,8 +2,8 @@
 use Rattle.std.specs.Prelude.{◌≡◌, ℕ, ◌<◌, ◌≤◌, ◌⊎◌, ◌==◌, nat_eq, Bool, true, false, Option, None, Some, List, [], ◌∷◌, ◌++◌, length, All}
 use Rattle.std.specs.List.{position}
 use Rattle.std.specs.Map.{lookup}
-use Rattle.strip_kind.specs.declared.kind.Kind.{Kind}
-use Rattle.strip_pay.specs.Film.{FilmData}
+use Rattle.strip_model.specs.declared.kind.Kind.{Kind}
+use Rattle.strip_model.specs.Film.{FilmData}
 use Rattle.strip_film.specs.declared.shared.Line.{Line}
 use Rattle.strip_film.specs.Film.{all_scenes}
 use Rattle.strip_film.specs.Path.{PathData, IsComplete}

@@ -22,8 +22,8 @@ pub struct Ask {
 
 /// A source of static bounds for the sets of a layer: one worker, or several in parallel.
 pub trait Answers {
-    ghost use Rattle.strip_kind.specs.declared.kind.Kind.{Kind};
-    ghost use Rattle.strip_pay.specs.Film.{FilmData};
+    ghost use Rattle.strip_model.specs.declared.kind.Kind.{Kind};
+    ghost use Rattle.strip_model.specs.Film.{FilmData};
 
     /// The film of the sets.
     ghost film: { Self → FilmData };

@@ -1,7 +1,7 @@
 // The whole search by layers.
 ghost use Rattle.std.specs.Prelude.{◌≡◌, ◌<◌, ◌≤◌, ℕ, IfOk, OnOk, false, length};
-ghost use Rattle.strip_kind.specs.declared.kind.Kind.{Kind};
-ghost use Rattle.strip_pay.specs.Film.{FilmData};
+ghost use Rattle.strip_model.specs.declared.kind.Kind.{Kind};
+ghost use Rattle.strip_model.specs.Film.{FilmData};
 ghost use Rattle.strip_film.specs.Film.{IsFilm};
 ghost use Rattle.strip_film.specs.Path.{IsComplete, PathData};
 ghost use Rattle.strip_film.specs.Shown.{path_data};

@@ -3,8 +3,8 @@ ghost use Rattle.std.specs.Prelude.{◌≡◌, ◌≢◌, ◌-◌, ◌<◌, ◌�
 ghost use Rattle.std.specs.List.{position};
 ghost use Rattle.strip_film.specs.Film.{LiesIn};
 ghost use Rattle.strip_film.specs.Shown.{path_data};
-ghost use Rattle.strip_kind.specs.declared.kind.Kind.{Kind};
-ghost use Rattle.strip_pay.specs.Film.{FilmData};
+ghost use Rattle.strip_model.specs.declared.kind.Kind.{Kind};
+ghost use Rattle.strip_model.specs.Film.{FilmData};
 ghost use Rattle.strip_lines.specs.Lines.{line_at, with_raised};
 ghost use Rattle.strip_bound.specs.Bounds.{bound};
 ghost use Rattle.strip_layers.specs.Search.{Adds, AreTrue, AskedIsTrue, Opens};

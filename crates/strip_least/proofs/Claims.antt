@@ -7,7 +7,7 @@ use mathlib.Core.Option.{some}
 use lib.ListN.{get_elem?}
 use Rattle.atomic_table.specs.Table.{State}
 use Rattle.strip_mask.proofs.Lists.{count-cons, count_here}
-use Rattle.strip_pay.proofs.Counts.{length-order}
+use Rattle.strip_model.proofs.Counts.{length-order}
 use Rattle.strip_least.specs.declared.course.Course.{Course}
 use Rattle.strip_least.specs.declared.view.View.{View}
 use Rattle.strip_least.specs.Rule.{IsKept, ended_weight, full_weight, once_below, times, total}

@@ -5,7 +5,7 @@ use Rattle.std.proofs.lemmas.Bool.{cases_lt}
 use mathlib.Core.Option.{some}
 use lib.ListN.{get_elem?}
 use Rattle.atomic_table.specs.Table.{Allows, Me, State, keeps}
-use Rattle.strip_pay.proofs.Counts.{count-push}
+use Rattle.strip_model.proofs.Counts.{count-push}
 use Rattle.strip_least.specs.declared.course.Course.{Course}
 use Rattle.strip_least.specs.declared.view.View.{View}
 use Rattle.strip_least.specs.Rule.{Fits, IsKept, ended_weight, once_below, times, total, weight_of}

@@ -6,7 +6,7 @@ use mathlib.Core.Option.{some, some-injective}
 use lib.ListN.{get_elem?}
 use Rattle.atomic_table.specs.Table.{Allows, Me, State, keeps}
 use Rattle.atomic_table.proofs.Lists.{set_else}
-use Rattle.strip_pay.specs.Film.{FilmData}
+use Rattle.strip_model.specs.Film.{FilmData}
 use Rattle.strip_least.specs.declared.course.Course.{Course}
 use Rattle.strip_least.specs.declared.view.View.{View}
 use Rattle.strip_least.specs.Rule.{Fits, HasBest, IsKept, IsPaid, ended_weight, times, weight_of}

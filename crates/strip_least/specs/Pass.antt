@@ -1,7 +1,7 @@
 -- Passes, and what their calls make of them.
 use Rattle.std.specs.Prelude.{◌≡◌, ℕ, ◌<◌, nat_lt, if◌then◌else◌, Option, Some, None, []}
 use Rattle.atomic_table.specs.Seated.{TableId}
-use Rattle.strip_pay.specs.Film.{FilmData}
+use Rattle.strip_model.specs.Film.{FilmData}
 use Rattle.strip_film.specs.Path.{PathData, IsComplete}
 use Rattle.strip_film.specs.Shown.{path_data}
 use Rattle.strip_least.specs.declared.least.Least.{Least}

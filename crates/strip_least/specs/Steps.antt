@@ -1,6 +1,6 @@
 -- What each step makes of the view of a pass, and what it tells the pass.
 use Rattle.std.specs.Prelude.{◌≡◌, ℕ, ◌+◌, ◌-◌, ◌<◌, ◌≤◌, true, false, ◌||◌, List, [], ◌∷◌, ◌++◌, min, length}
-use Rattle.strip_pay.specs.Pay.{IsOptimum}
+use Rattle.strip_model.specs.Pay.{IsOptimum}
 use Rattle.strip_least.specs.declared.view.View.{View}
 use Rattle.strip_least.specs.Rule.{IsPaid, full_weight, once_below, times}
 

@@ -1,8 +1,8 @@
 -- Worked rows of the definitions, by computation.
 use Rattle.std.proofs.Common.{◌≡◌, [], ◌∷◌, refl}
 use Rattle.strip_mask.specs.Set.{has, union, meet, minus, with, without, members, numbers_below, sum_over, full}
-use Rattle.strip_kind.specs.declared.kind.Kind.TheVariants.{Plain, Pairs}
-use Rattle.strip_pay.specs.Film.{FilmData}
+use Rattle.strip_model.specs.declared.kind.Kind.TheVariants.{Plain, Pairs}
+use Rattle.strip_model.specs.Film.{FilmData}
 use Rattle.strip_lines.specs.Lines.{known, ahead, rules_of}
 
 -- three scenes of two actors each, one day each

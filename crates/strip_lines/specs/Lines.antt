@@ -1,8 +1,8 @@
 -- What a list of lines makes known, by the rules of a search.
 use Rattle.std.specs.Prelude.{◌≡◌, ◌≢◌, ℕ, ◌+◌, ◌<◌, ◌≤◌, ◌⊎◌, ◌==◌, max, true, if◌then◌else◌, List, [], ◌∷◌, length, slice_index_or, slice_set, All}
 use Rattle.strip_mask.specs.Set.{has, without, members}
-use Rattle.strip_kind.specs.declared.kind.Kind.{Kind}
-use Rattle.strip_pay.specs.Film.{FilmData}
+use Rattle.strip_model.specs.declared.kind.Kind.{Kind}
+use Rattle.strip_model.specs.Film.{FilmData}
 use Rattle.strip_film.specs.declared.shared.Line.{Line}
 use Rattle.strip_film.specs.Film.{LiesIn}
 use Rattle.strip_film.specs.Shoot.{step_cost}

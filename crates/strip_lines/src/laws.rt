@@ -1,7 +1,7 @@
 //! Laws of lines: functions that do nothing when they run but call other laws, with theorems as contracts.
 ghost use Rattle.std.specs.Prelude.{◌≡◌, ℕ, ◌<◌, ◌≤◌, List, [], ◌∷◌, ◌++◌, length, All};
-ghost use Rattle.strip_kind.specs.declared.kind.Kind.{Kind};
-ghost use Rattle.strip_pay.specs.Film.{FilmData};
+ghost use Rattle.strip_model.specs.declared.kind.Kind.{Kind};
+ghost use Rattle.strip_model.specs.Film.{FilmData};
 ghost use Rattle.strip_film.specs.declared.shared.Line.{Line};
 ghost use Rattle.strip_film.specs.Film.{IsFilm, LiesIn};
 ghost use Rattle.strip_film.specs.Finish.{IsAtMostFinish};

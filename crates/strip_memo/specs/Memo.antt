@@ -1,7 +1,7 @@
 -- What a memo of static bounds holds.
 use Rattle.std.specs.Prelude.{◌≡◌, ℕ, ◌*◌, ◌<◌, ◌≤◌, Bool, true, false, All, length, slice_index_or}
-use Rattle.strip_kind.specs.declared.kind.Kind.{Kind}
-use Rattle.strip_pay.specs.Film.{FilmData}
+use Rattle.strip_model.specs.declared.kind.Kind.{Kind}
+use Rattle.strip_model.specs.Film.{FilmData}
 use Rattle.strip_bound.specs.Bounds.{bound}
 use Rattle.strip_memo.specs.declared.memo.Entry.{Entry}
 use Rattle.strip_memo.specs.declared.memo.Memo.{Memo}

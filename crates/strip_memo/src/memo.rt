@@ -4,8 +4,8 @@ ghost use Rattle.std.specs.Prelude.{◌≡◌, ◌-◌, ◌*◌, ◌^◌, ◌<�
 use std::alloc::Global;
 use strip_bound::StoredBound;
 use strip_io::Memory;
-use strip_kind::Kind;
 use strip_mask::Mask;
+use strip_model::Kind;
 
 const MULTIPLIER: u64 = 0x9E37_79B9_7F4A_7C15;
 

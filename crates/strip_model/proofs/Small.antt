@@ -4,11 +4,11 @@ use Rattle.std.proofs.Math.Nat.{mul-le-mul}
 use Rattle.std.proofs.lemmas.List.{length-map}
 use Rattle.std.proofs.lemmas.List.Elements.{All-map, All-weaker}
 use Rattle.std.proofs.lemmas.List.Sums.{sum_by-le}
-use Rattle.strip_pay.specs.Order.{IsOrder}
-use Rattle.strip_pay.specs.Pay.{pay_of}
-use Rattle.strip_pay.proofs.Pays.{pay_small}
+use Rattle.strip_model.specs.Order.{IsOrder}
+use Rattle.strip_model.specs.Pay.{pay_of}
+use Rattle.strip_model.proofs.Pays.{pay_small}
 use Rattle.strip_model.specs.Data.{InstanceData, SceneData, ActorData, IsInstance, IsScene, IsActor}
-use Rattle.strip_model.specs.Film.{film_of}
+use Rattle.strip_model.specs.FilmOf.{film_of}
 
 -- the sum of values that are at most m each, of at most n elements
 pub sum_most : {X : Type 0} (value : X → ℕ) (xs : List X) (n m : ℕ) → length xs ≤ n → All (λ x. value x ≤ m) xs → sum (map value xs) ≤ n * m

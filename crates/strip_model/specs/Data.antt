@@ -2,8 +2,8 @@
 use Rattle.std.specs.Prelude.{◌≢◌, ℕ, ◌≤◌, ◌<◌, List, [], length, map, All, slice_index_or}
 use Rattle.std.specs.List.{AllPairs}
 use Rattle.strip_mask.specs.Set.{LiesBelow}
-use Rattle.strip_pay.specs.declared.pair.Pair.{Pair}
-use Rattle.strip_pay.specs.Pairs.{FitPairs}
+use Rattle.strip_model.specs.declared.pair.Pair.{Pair}
+use Rattle.strip_model.specs.Pairs.{FitPairs}
 
 -- a scene: its name, how many days it is shot, and who works in it
 pub record SceneData : Type 0 where

@@ -1,13 +1,12 @@
--- The film of an instance: what is left of it without the names.
-use Rattle.std.specs.Prelude.{map}
-use Rattle.strip_pay.specs.Film.{FilmData}
-use Rattle.strip_model.specs.Data.{InstanceData}
+-- What is shot and what it costs, by number.
+use Rattle.std.specs.Prelude.{ℕ, List}
+use Rattle.strip_model.specs.declared.pair.Pair.{Pair}
 
-abbrev pub film_of : InstanceData → FilmData
-film_of inst = record {
-  casts = map (λ scene. scene.cast) inst.scenes;
-  days = map (λ scene. scene.days) inst.scenes;
-  rates = map (λ actor. actor.rate) inst.actors;
-  holds = map (λ actor. actor.hold) inst.actors;
-  pairs = inst.pairs;
-}
+-- who works in each scene, as a set of actors, and its days; what each actor gets for a day of work and for a day of
+-- waiting; and which scenes come before which
+pub record FilmData : Type 0 where
+  pub casts : List ℕ
+  pub days : List ℕ
+  pub rates : List ℕ
+  pub holds : List ℕ
+  pub pairs : List Pair

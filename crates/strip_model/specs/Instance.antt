@@ -1,7 +1,7 @@
 -- What contracts see of scenes, actors and instances.
 use Rattle.std.specs.Prelude.{List, map}
 use Rattle.std.specs.String.{string_bytes}
-use Rattle.strip_pay.specs.declared.pair.Pair.{Pair}
+use Rattle.strip_model.specs.declared.pair.Pair.{Pair}
 use Rattle.strip_model.specs.declared.scene.Scene.{Scene}
 use Rattle.strip_model.specs.declared.scene.Actor.{Actor}
 use Rattle.strip_model.specs.Data.{SceneData, ActorData, InstanceData}

@@ -1,3 +1,8 @@
-pub mod Data
+pub mod Befores
 pub mod Film
+pub mod Order
+pub mod Pairs
+pub mod Pay
+pub mod Data
+pub mod FilmOf
 pub mod Instance

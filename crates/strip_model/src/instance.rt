@@ -1,15 +1,16 @@
 // Instances within the limits.
 ghost use Rattle.std.specs.Prelude.{◌≡◌, ◌≢◌, ◌↔◌, ◌≤◌, ◌<◌, ℕ, List, [], length, map, All, IsTrue, IsSome, IfSome};
 ghost use Rattle.std.specs.List.{AllPairs};
-ghost use Rattle.strip_pay.specs.Pairs.{FitPairs};
+ghost use Rattle.strip_model.specs.Pairs.{FitPairs};
 ghost use Rattle.strip_model.specs.Data.{IsInstance, IsScene, IsActor};
 ghost use Rattle.strip_model.specs.Instance.{scene_data, actor_data, instance_data};
 
+use crate::fitting::{MAX_SCENES, fit};
 use crate::limits::MAX_ACTORS;
 use crate::names::have_own_names;
+use crate::pair::Pair;
 use crate::scene::{Actor, Scene, is_actor, is_scene};
 use std::marker::Model;
-use strip_pay::{MAX_SCENES, Pair, fit};
 
 /// An instance: scenes and actors, each numbered by its place, and pairs of scenes (precedence constraints), within the
 /// limits. Contracts see it as plain lists: names as their bytes, a cast as a set of actor numbers.

@@ -1,8 +1,8 @@
 // Orders of an instance, and their pay.
 ghost use Rattle.std.specs.Prelude.{◌≡◌, ◌↔◌, ℕ, ◌*◌, ◌<◌, ◌≤◌, List, length, All, sum_by, count_by, if◌then◌else◌, slice_index, ◌==◌, IsTrue};
-ghost use Rattle.strip_pay.specs.Order.{IsOrder, Keeps};
-ghost use Rattle.strip_pay.specs.Pay.{pay_of, day_pay, from_first, span, to_last, works};
-ghost use Rattle.strip_model.specs.Film.{film_of};
+ghost use Rattle.strip_model.specs.Order.{IsOrder, Keeps};
+ghost use Rattle.strip_model.specs.Pay.{pay_of, day_pay, from_first, span, to_last, works};
+ghost use Rattle.strip_model.specs.FilmOf.{film_of};
 
 use crate::instance::Instance;
 use strip_mask::Mask;
@@ -44,7 +44,7 @@ fn times_in(order: &[u16], scene: usize) -> usize
 pub fn keeps_pairs(inst: &Instance, order: &[u16]) -> bool
     ensures { IsTrue result ↔ Keeps inst.now.pairs order.now }
 {
-    strip_pay::keeps(inst.pairs(), order)
+    crate::pair::keeps(inst.pairs(), order)
 }
 
 /// Returns the pay of the order, in units of money. An actor is paid for the scenes from his first to his last: their

@@ -4,8 +4,8 @@ use Rattle.std.proofs.lemmas.List.Elements.{All-map}
 use Rattle.strip_mask.specs.Set.{has, members, size, without}
 use Rattle.strip_mask.proofs.Members.{All-members, Contains-members}
 use Rattle.strip_mask.proofs.Sizes.{size-without}
-use Rattle.strip_kind.specs.declared.kind.Kind.{Kind}
-use Rattle.strip_pay.specs.Film.{FilmData}
+use Rattle.strip_model.specs.declared.kind.Kind.{Kind}
+use Rattle.strip_model.specs.Film.{FilmData}
 use Rattle.strip_film.specs.Film.{IsFilm, all_scenes}
 use Rattle.strip_film.specs.Finish.{rest_after}
 use Rattle.strip_film.specs.Path.{IsPath, PathData}

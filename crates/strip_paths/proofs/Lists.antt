@@ -2,7 +2,7 @@
 use Rattle.std.proofs.Common.{◌≡◌, List, [], ◌∷◌, ◌++◌, All, Contains, inl, inr, sym, ◌∙◌, refl, subst, fold, map}
 use Rattle.std.specs.List.{flat_map}
 use Rattle.std.proofs.lemmas.List.Elements.{All-nil, All-append, All-head, All-tail, Contains-append_left, Contains-append_right}
-use Rattle.strip_pay.proofs.Lists.{contains_cases, contains_here, contains_later, contains_none}
+use Rattle.strip_model.proofs.Lists.{contains_cases, contains_here, contains_later, contains_none}
 
 pub fold_append : {A B : Type 0} (f : B → A → B) (b : B) (xs ys : List A) → fold f b (xs ++ ys) ≡ fold f (fold f b xs) ys
 fold_append f b [] ys = refl

@@ -1,7 +1,7 @@
 -- Paths with one scene more, and a path among others.
 use Rattle.std.specs.Prelude.{◌==◌, nat_lt, if◌then◌else◌, List, [], ◌∷◌, ◌++◌, map}
 use Rattle.strip_mask.specs.Set.{members}
-use Rattle.strip_pay.specs.Film.{FilmData}
+use Rattle.strip_model.specs.Film.{FilmData}
 use Rattle.strip_film.specs.Path.{PathData}
 use Rattle.strip_rule.specs.Rule.{open_firsts}
 use Rattle.strip_count.specs.Paths.{path_along}

@@ -1,8 +1,8 @@
 -- The text of a row.
 use Rattle.std.specs.Prelude.{ℕ, Option, Some, None, List, ◌++◌, ◌==◌, codes, if◌then◌else◌}
 use Rattle.std.specs.Fmt.{decimal}
-use Rattle.strip_kind.specs.declared.kind.Kind.{Kind}
-use Rattle.strip_kind.specs.declared.kind.Kind.TheVariants.{Plain, Pairs, Groups, Arrivals}
+use Rattle.strip_model.specs.declared.kind.Kind.{Kind}
+use Rattle.strip_model.specs.declared.kind.Kind.TheVariants.{Plain, Pairs, Groups, Arrivals}
 use Rattle.strip_worker.specs.declared.gate.Limit.{Limit}
 use Rattle.strip_worker.specs.declared.gate.Stage.{Stage}
 use Rattle.strip_worker.specs.declared.gate.Standing.{Standing}

@@ -1,7 +1,7 @@
 -- Worked examples of what plan texts say, by computation.
 use Rattle.std.proofs.Common.{◌≡◌, [], ◌∷◌, Ok, Err, Some, codes, refl}
 use Rattle.strip_text.proofs.OnLiterals.{read_on_literals}
-use Rattle.strip_kind.specs.declared.kind.Kind.TheVariants.{Pairs, Groups, Arrivals}
+use Rattle.strip_model.specs.declared.kind.Kind.TheVariants.{Pairs, Groups, Arrivals}
 use Rattle.strip_model.specs.Data.{InstanceData}
 use Rattle.strip_proof.specs.declared.plan.Status.TheVariants.{Optimal, Bounded}
 use Rattle.strip_proof.specs.declared.fault.PlanFault.TheVariants.{BadRow, Missing, UnknownScene, TooManyLines}

@@ -4,8 +4,8 @@ use Rattle.std.specs.List.{list_all, position_or_len}
 use Rattle.std.specs.Char.{is_ascii_hexdigit}
 use Rattle.std.specs.Str.{bytes_eq}
 use Rattle.std.specs.Str.Parse.{digits_value}
-use Rattle.strip_kind.specs.declared.kind.Kind.{Kind}
-use Rattle.strip_kind.specs.declared.kind.Kind.TheVariants.{Plain, Pairs, Groups, Arrivals}
+use Rattle.strip_model.specs.declared.kind.Kind.{Kind}
+use Rattle.strip_model.specs.declared.kind.Kind.TheVariants.{Plain, Pairs, Groups, Arrivals}
 use Rattle.strip_model.specs.Data.{InstanceData}
 use Rattle.strip_text.specs.Field.{Field}
 use Rattle.strip_text.specs.Number.{is_number}

@@ -1,6 +1,6 @@
 -- A plan as plain data.
 use Rattle.std.specs.Prelude.{ℕ, List}
-use Rattle.strip_kind.specs.declared.kind.Kind.{Kind}
+use Rattle.strip_model.specs.declared.kind.Kind.{Kind}
 use Rattle.strip_film.specs.declared.shared.Line.{Line}
 use Rattle.strip_proof.specs.declared.plan.Status.{Status}
 use Rattle.strip_proof.specs.declared.plan.Plan.{Plan}

@@ -1,7 +1,7 @@
 -- What a plan text says of an instance: a plan, or its first fault.
 use Rattle.std.specs.Prelude.{◌≡◌, ◌≢◌, ℕ, ◌^◌, ◌<◌, ◌≤◌, ◌⊎◌, List, [], length, map, drop, All, Option, None, Some, Result, Ok, Err}
 use Rattle.std.specs.List.{AllPairs}
-use Rattle.strip_kind.specs.declared.kind.Kind.{Kind}
+use Rattle.strip_model.specs.declared.kind.Kind.{Kind}
 use Rattle.strip_film.specs.declared.shared.Line.{Line}
 use Rattle.strip_model.specs.Data.{InstanceData}
 use Rattle.strip_text.specs.Field.{trimmed}

@@ -6,8 +6,7 @@ ghost use Rattle.strip_text.specs.Number.{number_of};
 ghost use Rattle.strip_proof.specs.Field.{is_amount, is_kind, is_scene, is_set, is_status, kind_of, scene_of, set_of, status_of};
 
 use crate::plan::Status;
-use strip_kind::Kind;
-use strip_model::Instance;
+use strip_model::{Instance, Kind};
 use strip_text::number_of;
 
 // The greatest number that can be written in a plan text.

@@ -9,8 +9,7 @@ ghost use Rattle.strip_proof.specs.Rows.{kind_word, status_word, head_rows};
 use crate::plan::{Plan, Status};
 use std::alloc::Global;
 use strip_io::Memory;
-use strip_kind::Kind;
-use strip_model::Instance;
+use strip_model::{Instance, Kind};
 use strip_text::Text;
 
 /// Returns the eight head rows of a plan's text, with `printed` line rows to follow: 0 for a plan without a proof.

@@ -16,8 +16,7 @@ use crate::order::read_order;
 use crate::plan::{Plan, Status};
 use crate::row::{begins, read_due};
 use std::alloc::Global;
-use strip_kind::Kind;
-use strip_model::Instance;
+use strip_model::{Instance, Kind};
 use strip_text::{Row, Rows};
 
 /// Reads the plan without its lines. `row` has the first of the five rows that every plan has, with the number `first`;

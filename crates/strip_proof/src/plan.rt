@@ -1,6 +1,6 @@
 // Plans.
 use strip_film::Line;
-use strip_kind::Kind;
+use strip_model::Kind;
 
 /// Whether a plan's bound proves that its order is a cheapest one.
 #[derive(Clone, Copy, Debug, PartialEq, Eq)]

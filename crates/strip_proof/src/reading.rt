@@ -13,8 +13,7 @@ use crate::line_rows::{read_all_lines, read_counted_lines};
 use crate::plan::Plan;
 use crate::row::read_due;
 use std::alloc::Global;
-use strip_kind::Kind;
-use strip_model::Instance;
+use strip_model::{Instance, Kind};
 use strip_text::{Row, Rows};
 
 /// Reads a plan of the instance from its text, or finds the text's first fault. It takes time in proportion to the size

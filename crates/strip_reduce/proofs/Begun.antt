@@ -3,10 +3,10 @@ use Rattle.std.proofs.Common.{◌≡◌, ℕ, ◌+◌, ◌<◌, ◌≤◌, List,
 use Rattle.std.proofs.lemmas.List.{length-map, map-append}
 use Rattle.std.proofs.lemmas.List.Elements.{All-map, All-weaker}
 use Rattle.strip_mask.specs.Set.{LiesBelow, numbers_below}
-use Rattle.strip_pay.specs.Pairs.{FitPairs}
+use Rattle.strip_model.specs.Pairs.{FitPairs}
 use Rattle.strip_film.specs.Film.{IsFilmUpTo}
 use Rattle.strip_model.specs.Data.{ActorData, InstanceData, IsActor, IsInstance, IsScene, SceneData}
-use Rattle.strip_model.specs.Film.{film_of}
+use Rattle.strip_model.specs.FilmOf.{film_of}
 use Rattle.strip_model.proofs.Small.{sum_most}
 
 -- ---- the film of an instance keeps the limits

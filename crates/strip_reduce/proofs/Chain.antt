@@ -4,9 +4,9 @@ use Rattle.std.proofs.lemmas.List.{get_or-map}
 use Rattle.std.proofs.lemmas.List.Elements.{All-head, All-tail}
 use Rattle.strip_mask.specs.Set.{numbers_below}
 use Rattle.strip_mask.proofs.Members.{length-numbers_below, number_at}
-use Rattle.strip_pay.specs.Film.{FilmData}
-use Rattle.strip_pay.specs.Order.{IsOrder, Keeps}
-use Rattle.strip_pay.specs.Pay.{IsOptimum, pay_of}
+use Rattle.strip_model.specs.Film.{FilmData}
+use Rattle.strip_model.specs.Order.{IsOrder, Keeps}
+use Rattle.strip_model.specs.Pay.{IsOptimum, pay_of}
 use Rattle.strip_film.specs.Film.{IsFilmUpTo}
 use Rattle.strip_reduce.specs.State.{State, IsState, start, way_back}
 use Rattle.strip_reduce.specs.Reduction.{after_steps, next, reduced}

@@ -4,7 +4,7 @@ use Rattle.std.specs.List.{remove}
 use Rattle.std.proofs.Math.Nat.{mul-le-mul_left}
 use Rattle.std.proofs.lemmas.Nat.{mul-le}
 use Rattle.std.proofs.lemmas.List.Sums.{sum_by-remove}
-use Rattle.strip_pay.specs.Film.{FilmData}
+use Rattle.strip_model.specs.Film.{FilmData}
 use Rattle.strip_film.specs.Film.{IsFilmUpTo}
 use Rattle.strip_reduce.specs.State.{State, start}
 use Rattle.strip_reduce.specs.Steps.{actors_joined, can_join_actors, can_join_scenes, dropped, is_paired, scenes_joined, work_days}

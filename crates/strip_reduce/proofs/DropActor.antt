@@ -6,9 +6,9 @@ use Rattle.std.proofs.lemmas.List.Edits.{length-remove}
 use Rattle.strip_mask.specs.Set.{behind_gap, closed_up}
 use Rattle.strip_mask.specs.Sums.{sum_below}
 use Rattle.strip_mask.proofs.Sums.{sum_below-ext}
-use Rattle.strip_pay.specs.Film.{FilmData}
-use Rattle.strip_pay.specs.Order.{IsOrder}
-use Rattle.strip_pay.specs.Pay.{works, from_first, to_last, span, day_pay, pay_of}
+use Rattle.strip_model.specs.Film.{FilmData}
+use Rattle.strip_model.specs.Order.{IsOrder}
+use Rattle.strip_model.specs.Pay.{works, from_first, to_last, span, day_pay, pay_of}
 use Rattle.strip_reduce.specs.State.{State, IsState}
 use Rattle.strip_reduce.specs.Steps.{can_drop, casts_without, dropped, work_days}
 use Rattle.strip_reduce.proofs.Columns.{has-casts_without, sum_below-gap}

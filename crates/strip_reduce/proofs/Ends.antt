@@ -3,8 +3,8 @@ use Rattle.std.proofs.Common.{◌≡◌, ◌≢◌, ℕ, suc, ◌-◌, ◌<◌, 
 use Rattle.std.proofs.lemmas.Bool.{cases_lt, cond-true, cond-false, lt-ltb, le-ltb}
 use Rattle.std.proofs.lemmas.List.{get_or-reverse, length-reverse, reverse-reverse}
 use Rattle.std.proofs.lemmas.List.Elements.{All-head, Contains-get_or}
-use Rattle.strip_pay.specs.Order.{IsOrder}
-use Rattle.strip_pay.proofs.Counts.{count-cons, counted_contains, tie-same}
+use Rattle.strip_model.specs.Order.{IsOrder}
+use Rattle.strip_model.proofs.Counts.{count-cons, counted_contains, tie-same}
 use Rattle.strip_reduce.specs.Oriented.{oriented}
 
 -- each number stands once in an order, so that the ends of one of several scenes differ

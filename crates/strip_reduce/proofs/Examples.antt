@@ -2,7 +2,7 @@
 use Rattle.std.proofs.Common.{◌≡◌, ℕ, [], ◌∷◌, List, refl}
 use Rattle.strip_mask.specs.Set.{has, closed_up, union, meet, minus, full, with, numbers_below}
 use Rattle.strip_mask.specs.Sums.{sum_below}
-use Rattle.strip_pay.specs.Film.{FilmData}
+use Rattle.strip_model.specs.Film.{FilmData}
 use Rattle.strip_reduce.specs.Reduction.{reduced}
 
 -- scenes of one day each whose actors get as much for waiting as for work

@@ -4,11 +4,11 @@ use Rattle.std.specs.List.{list_any}
 use Rattle.std.proofs.lemmas.Bool.{cases_Bool, or_cases}
 use Rattle.std.proofs.lemmas.Bool.Decides.{nat_tests}
 use Rattle.std.proofs.lemmas.List.Sums.{sum_by-cons}
-use Rattle.strip_pay.specs.Film.{FilmData}
-use Rattle.strip_pay.specs.Order.{IsOrder}
-use Rattle.strip_pay.specs.Pay.{works, from_first, to_last, span, day_pay}
-use Rattle.strip_pay.proofs.Spans.{reverse-sum, to_last-cons, to_last-none}
-use Rattle.strip_pay.proofs.Counts.{sum-order}
+use Rattle.strip_model.specs.Film.{FilmData}
+use Rattle.strip_model.specs.Order.{IsOrder}
+use Rattle.strip_model.specs.Pay.{works, from_first, to_last, span, day_pay}
+use Rattle.strip_model.proofs.Spans.{reverse-sum, to_last-cons, to_last-none}
+use Rattle.strip_model.proofs.Counts.{sum-order}
 use Rattle.strip_reduce.specs.Steps.{scene_count, work_days, can_drop}
 
 module _ (p : ℕ → Bool) where

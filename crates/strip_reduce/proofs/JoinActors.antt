@@ -10,8 +10,8 @@ use Rattle.strip_mask.specs.Set.{has, behind_gap, closed_up}
 use Rattle.strip_mask.specs.Sums.{sum_below}
 use Rattle.strip_mask.proofs.ByMembers.{has-empty}
 use Rattle.strip_mask.proofs.Sums.{sum_below-point}
-use Rattle.strip_pay.specs.Film.{FilmData}
-use Rattle.strip_pay.specs.Pay.{works, from_first, to_last, span, day_pay, pay_of}
+use Rattle.strip_model.specs.Film.{FilmData}
+use Rattle.strip_model.specs.Pay.{works, from_first, to_last, span, day_pay, pay_of}
 use Rattle.strip_reduce.specs.State.{State, IsState}
 use Rattle.strip_reduce.specs.Steps.{can_join_actors, casts_without, actors_joined, summed}
 use Rattle.strip_reduce.proofs.Places.{gap_below, joined-elsewhere, joined-here}

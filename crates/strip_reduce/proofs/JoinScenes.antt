@@ -6,12 +6,12 @@ use Rattle.std.proofs.lemmas.Grind.{flat_map-append}
 use Rattle.std.proofs.lemmas.List.Edits.{length-remove}
 use Rattle.std.proofs.lemmas.List.Elements.{All-contains}
 use Rattle.strip_mask.specs.Set.{behind_gap}
-use Rattle.strip_pay.specs.declared.pair.Pair.{Pair}
-use Rattle.strip_pay.specs.Film.{FilmData}
-use Rattle.strip_pay.specs.Order.{IsOrder, IsKeptOrder, KeepsPair, Keeps}
-use Rattle.strip_pay.specs.Pay.{pay_of}
-use Rattle.strip_pay.proofs.Blocks.{All-from_contains}
-use Rattle.strip_pay.proofs.Counts.{count, tie, tie-same, count-cons, count-append, permuted_by_counts, order_permuted}
+use Rattle.strip_model.specs.declared.pair.Pair.{Pair}
+use Rattle.strip_model.specs.Film.{FilmData}
+use Rattle.strip_model.specs.Order.{IsOrder, IsKeptOrder, KeepsPair, Keeps}
+use Rattle.strip_model.specs.Pay.{pay_of}
+use Rattle.strip_model.proofs.Blocks.{All-from_contains}
+use Rattle.strip_model.proofs.Counts.{count, tie, tie-same, count-cons, count-append, permuted_by_counts, order_permuted}
 use Rattle.strip_reduce.specs.State.{State, IsState}
 use Rattle.strip_reduce.specs.Steps.{is_paired, can_join_scenes, renumbered, scenes_joined}
 use Rattle.strip_reduce.proofs.StepKeeps.{IsBackFrom, StepKeeps}

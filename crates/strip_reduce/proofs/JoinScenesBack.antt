@@ -8,12 +8,12 @@ use Rattle.std.proofs.lemmas.List.Sums.{sum_by-cons}
 use Rattle.std.proofs.lemmas.Grind.{flat_map-append}
 use Rattle.strip_mask.specs.Set.{has, behind_gap}
 use Rattle.strip_model.proofs.Pairs.{All-from_map}
-use Rattle.strip_pay.specs.declared.pair.Pair.{Pair}
-use Rattle.strip_pay.specs.Film.{FilmData}
-use Rattle.strip_pay.specs.Order.{IsOrder, StandsBefore, KeepsPair, Keeps}
-use Rattle.strip_pay.specs.Pay.{works, day_pay, pay_of}
-use Rattle.strip_pay.proofs.Blocks.{All-from_contains, blocks-pay}
-use Rattle.strip_pay.proofs.Counts.{count, contains_counted, counted_contains}
+use Rattle.strip_model.specs.declared.pair.Pair.{Pair}
+use Rattle.strip_model.specs.Film.{FilmData}
+use Rattle.strip_model.specs.Order.{IsOrder, StandsBefore, KeepsPair, Keeps}
+use Rattle.strip_model.specs.Pay.{works, day_pay, pay_of}
+use Rattle.strip_model.proofs.Blocks.{All-from_contains, blocks-pay}
+use Rattle.strip_model.proofs.Counts.{count, contains_counted, counted_contains}
 use Rattle.strip_reduce.specs.State.{State, way_back}
 use Rattle.strip_reduce.specs.Steps.{joined, summed, renumbered, renumbered_pair, scenes_joined}
 use Rattle.strip_reduce.proofs.StepKeeps.{IsBackFrom}

@@ -1,11 +1,11 @@
 -- An order of equal cost or less in which two scenes of equal cast stand side by side.
 use Rattle.std.proofs.Common.{◌≡◌, ◌≢◌, ℕ, ◌<◌, ◌≤◌, List, [], ◌∷◌, ◌++◌, slice_index, inl, inr, refl, sym, ap, ◌∙◌, subst, arith, append_assoc}
 use Rattle.std.proofs.lemmas.Bool.{cases_lt}
-use Rattle.strip_pay.specs.Film.{FilmData}
-use Rattle.strip_pay.specs.Order.{StandsBefore}
-use Rattle.strip_pay.specs.Pay.{pay_of}
-use Rattle.strip_pay.proofs.Counts.{count, tie-other, count-cons, count-append, SplitsAt, split_at, contains_counted, counted_contains}
-use Rattle.strip_pay.proofs.Moves.{stand_together, swapped_together}
+use Rattle.strip_model.specs.Film.{FilmData}
+use Rattle.strip_model.specs.Order.{StandsBefore}
+use Rattle.strip_model.specs.Pay.{pay_of}
+use Rattle.strip_model.proofs.Counts.{count, tie-other, count-cons, count-append, SplitsAt, split_at, contains_counted, counted_contains}
+use Rattle.strip_model.proofs.Moves.{stand_together, swapped_together}
 
 -- ---- a number between that stands in no pair
 

@@ -4,9 +4,9 @@ use Rattle.std.specs.List.{flat_map}
 use Rattle.std.proofs.lemmas.Bool.{cases_lt, cases_eq, eq-eqb, ne_eqb}
 use Rattle.std.proofs.lemmas.List.Elements.{All-nil, All-cons, All-append, All-head, All-tail}
 use Rattle.strip_mask.specs.Set.{behind_gap}
-use Rattle.strip_pay.specs.Order.{IsOrder}
-use Rattle.strip_pay.proofs.Blocks.{All-from_contains}
-use Rattle.strip_pay.proofs.Counts.{count, tie, tie-same, tie-other, count-cons, count-append, count-none, counted_contains}
+use Rattle.strip_model.specs.Order.{IsOrder}
+use Rattle.strip_model.proofs.Blocks.{All-from_contains}
+use Rattle.strip_model.proofs.Counts.{count, tie, tie-same, tie-other, count-cons, count-append, count-none, counted_contains}
 use Rattle.strip_reduce.specs.Steps.{renumbered}
 use Rattle.strip_reduce.proofs.Places.{gap_below, gap_other, gap_past, gap_within, gap-renumbered, renumbered_below, renumbered_within, renumbered-gap}
 

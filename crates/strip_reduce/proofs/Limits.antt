@@ -9,7 +9,7 @@ use Rattle.std.proofs.lemmas.List.Sums.{sum_by-remove, sum_by-set}
 use Rattle.strip_mask.specs.Set.{LiesBelow, behind_gap, closed_up, numbers_below}
 use Rattle.strip_mask.proofs.Gaps.{has-closed_up}
 use Rattle.strip_mask.proofs.Members.{length-numbers_below}
-use Rattle.strip_pay.specs.Film.{FilmData}
+use Rattle.strip_model.specs.Film.{FilmData}
 use Rattle.strip_film.specs.Film.{IsFilmUpTo}
 use Rattle.strip_reduce.specs.State.{State, IsState, start}
 use Rattle.strip_reduce.specs.Steps.{actors_joined, can_join_scenes, casts_without, dropped, is_paired, scenes_joined, summed}

@@ -1,6 +1,6 @@
 -- Which step is the next.
 use Rattle.std.proofs.Common.{◌≡◌, ℕ, zero, suc, List, [], Option, Some, None, length, refl, sym, ap, ◌∙◌}
-use Rattle.strip_pay.specs.declared.pair.Pair.{Pair}
+use Rattle.strip_model.specs.declared.pair.Pair.{Pair}
 use Rattle.std.specs.Option.{option_map_or}
 use Rattle.strip_film.specs.Film.{film_data}
 use Rattle.strip_reduce.specs.State.{State}

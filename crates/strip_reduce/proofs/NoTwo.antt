@@ -10,8 +10,8 @@ use Rattle.strip_mask.specs.Set.{IsSet, LiesBelow, has, closed_up, behind_gap}
 use Rattle.strip_mask.proofs.Below.{is_set_below}
 use Rattle.strip_mask.proofs.ByMembers.{same_set}
 use Rattle.strip_mask.proofs.Gaps.{has-closed_up}
-use Rattle.strip_pay.specs.declared.pair.Pair.{Pair}
-use Rattle.strip_pay.specs.Film.{FilmData}
+use Rattle.strip_model.specs.declared.pair.Pair.{Pair}
+use Rattle.strip_model.specs.Film.{FilmData}
 use Rattle.strip_reduce.specs.Steps.{can_join_actors, can_join_scenes, casts_without, is_paired, renumbered, renumbered_pair}
 use Rattle.strip_reduce.specs.Search.{NoTwoBelow}
 use Rattle.strip_reduce.proofs.Places.{gap_below, removed-at}

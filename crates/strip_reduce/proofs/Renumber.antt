@@ -4,9 +4,9 @@ use Rattle.std.proofs.lemmas.Bool.Decides.{nat_tests}
 use Rattle.std.proofs.lemmas.List.{get_or-map, length-map, map-append}
 use Rattle.std.proofs.lemmas.List.Elements.{All-contains_itself, All-map}
 use Rattle.strip_mask.specs.Set.{behind_gap}
-use Rattle.strip_pay.specs.declared.pair.Pair.{Pair}
-use Rattle.strip_pay.specs.Pairs.{FitPairs, HasCycle, IsChain, IsKnownPair, Precedes}
-use Rattle.strip_pay.proofs.Lists.{any_from, contains_here, contains_later, contains_cases, contains_none}
+use Rattle.strip_model.specs.declared.pair.Pair.{Pair}
+use Rattle.strip_model.specs.Pairs.{FitPairs, HasCycle, IsChain, IsKnownPair, Precedes}
+use Rattle.strip_model.proofs.Lists.{any_from, contains_here, contains_later, contains_cases, contains_none}
 use Rattle.strip_reduce.specs.Steps.{is_paired, renumbered_pair}
 use Rattle.strip_reduce.proofs.Places.{gap-renumbered, renumbered_once, renumbered_within}
 

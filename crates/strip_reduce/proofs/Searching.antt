@@ -9,8 +9,8 @@ use Rattle.strip_mask.specs.Set.{has, meet, minus, union}
 use Rattle.strip_mask.specs.Sums.{sum_below}
 use Rattle.strip_mask.proofs.ByMembers.{has-meet, has-minus, has-union}
 use Rattle.strip_mask.proofs.Sums.{sum_below-zero, sum_below-more}
-use Rattle.strip_pay.specs.declared.pair.Pair.{Pair}
-use Rattle.strip_pay.specs.Film.{FilmData}
+use Rattle.strip_model.specs.declared.pair.Pair.{Pair}
+use Rattle.strip_model.specs.Film.{FilmData}
 use Rattle.strip_reduce.specs.Steps.{can_drop, can_join_scenes, is_paired, scene_count}
 use Rattle.strip_reduce.specs.Search.{can_join_marked}
 

@@ -1,7 +1,7 @@
 -- What each step keeps, order by order.
 use Rattle.std.proofs.Common.{◌≡◌, ◌↔◌, ℕ, ◌+◌, ◌≤◌, List, length}
-use Rattle.strip_pay.specs.Order.{IsOrder, IsKeptOrder, Keeps}
-use Rattle.strip_pay.specs.Pay.{pay_of}
+use Rattle.strip_model.specs.Order.{IsOrder, IsKeptOrder, Keeps}
+use Rattle.strip_model.specs.Pay.{pay_of}
 use Rattle.strip_reduce.specs.State.{State, way_back}
 
 -- an order of the scenes after a step has a way back to those before it

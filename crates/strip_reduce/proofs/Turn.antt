@@ -4,8 +4,8 @@ use Rattle.std.specs.Option.{option_map, option_or, unwrap_or}
 use Rattle.std.proofs.lemmas.List.{length-map}
 use Rattle.std.proofs.lemmas.List.Edits.{length-remove}
 use Rattle.strip_mask.specs.Set.{closed_up}
-use Rattle.strip_pay.specs.Order.{IsKeptOrder}
-use Rattle.strip_pay.specs.Pay.{IsOptimum, pay_of}
+use Rattle.strip_model.specs.Order.{IsKeptOrder}
+use Rattle.strip_model.specs.Pay.{IsOptimum, pay_of}
 use Rattle.strip_reduce.specs.State.{State, IsState}
 use Rattle.strip_reduce.specs.Steps.{actors_joined, can_drop, can_join_actors, can_join_scenes, dropped, scenes_joined}
 use Rattle.strip_reduce.specs.Reduction.{least_below, least_two, next}

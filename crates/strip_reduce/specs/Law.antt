@@ -1,8 +1,8 @@
 -- What a reduction keeps.
 use Rattle.std.specs.Prelude.{◌≡◌, ◌↔◌, ℕ, ◌+◌, List, length}
-use Rattle.strip_pay.specs.Film.{FilmData}
-use Rattle.strip_pay.specs.Order.{IsOrder, Keeps}
-use Rattle.strip_pay.specs.Pay.{IsOptimum, pay_of}
+use Rattle.strip_model.specs.Film.{FilmData}
+use Rattle.strip_model.specs.Order.{IsOrder, Keeps}
+use Rattle.strip_model.specs.Pay.{IsOptimum, pay_of}
 use Rattle.strip_reduce.specs.State.{State, way_back}
 
 -- the state stands for the film that it began with: an order of its scenes has a way back, which is an order of the

@@ -3,7 +3,7 @@ use Rattle.std.specs.Prelude.{ℕ, zero, suc, ◌+◌, ◌&&◌, nat_lt, Bool, l
 use Rattle.std.specs.List.{find}
 use Rattle.std.specs.Option.{option_map, option_map_or, option_or, option_and_then}
 use Rattle.strip_mask.specs.Set.{numbers_below}
-use Rattle.strip_pay.specs.Film.{FilmData}
+use Rattle.strip_model.specs.Film.{FilmData}
 use Rattle.strip_reduce.specs.State.{State, start}
 use Rattle.strip_reduce.specs.Steps.{can_drop, can_join_scenes, can_join_actors, dropped, scenes_joined, actors_joined}
 

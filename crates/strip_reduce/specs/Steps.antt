@@ -4,9 +4,9 @@ use Rattle.std.specs.List.{list_all, list_any, remove}
 use Rattle.std.specs.Bool.{beq}
 use Rattle.strip_mask.specs.Set.{has, closed_up}
 use Rattle.strip_mask.specs.Sums.{sum_below}
-use Rattle.strip_pay.specs.declared.pair.Pair.{Pair}
-use Rattle.strip_pay.specs.Film.{FilmData}
-use Rattle.strip_pay.specs.Pay.{works}
+use Rattle.strip_model.specs.declared.pair.Pair.{Pair}
+use Rattle.strip_model.specs.Film.{FilmData}
+use Rattle.strip_model.specs.Pay.{works}
 use Rattle.strip_reduce.specs.State.{State}
 
 -- ---- when a step can be taken

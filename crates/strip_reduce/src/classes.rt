@@ -1,6 +1,6 @@
 // Reduction of an instance to a film of its classes.
 ghost use Rattle.std.specs.Prelude.{◌≡◌, ℕ, ◌<◌, ◌≤◌, Err, length, IfOk, OnOk};
-ghost use Rattle.strip_model.specs.Film.{film_of};
+ghost use Rattle.strip_model.specs.FilmOf.{film_of};
 ghost use Rattle.strip_reduce.specs.declared.fault.ReduceFault.TheVariants.{TooManyClasses};
 ghost use Rattle.strip_reduce.specs.Draft.{IsDraft, draft_state};
 ghost use Rattle.strip_reduce.specs.Law.{StandsFor};

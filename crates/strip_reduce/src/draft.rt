@@ -7,7 +7,7 @@ ghost use Rattle.strip_reduce.specs.Steps.{actors_joined, dropped, scenes_joined
 use crate::edits::{close_up, join_members, renumber, sum_up, work_days};
 use crate::search::{droppable, joinable_actors, joinable_scenes};
 use std::alloc::AllocError;
-use strip_pay::Pair;
+use strip_model::Pair;
 
 /// Progress of the search for scenes and for actors to join: none with a number below these can be joined with a later
 /// one. So the search begins with these numbers. Nothing is known of the others.

@@ -5,7 +5,7 @@ ghost use Rattle.strip_reduce.specs.Steps.{casts_without, joined, renumbered, re
 
 use std::alloc::AllocError;
 use strip_mask::Mask;
-use strip_pay::Pair;
+use strip_model::Pair;
 
 /// Removes the actor from the casts, and lowers the numbers of later actors by one.
 pub(crate) fn close_up(casts: &mut [u64], actor: u32)

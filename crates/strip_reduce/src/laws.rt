@@ -1,9 +1,9 @@
 //! Laws of the reduction: functions that do nothing when they run, with theorems as contracts.
 ghost use Rattle.std.specs.Prelude.{◌≡◌, ℕ, ◌+◌, ◌≤◌, None, Some, length};
-ghost use Rattle.strip_pay.specs.Film.{FilmData};
+ghost use Rattle.strip_model.specs.Film.{FilmData};
 ghost use Rattle.strip_film.specs.Film.{IsFilmUpTo};
 ghost use Rattle.strip_model.specs.Data.{InstanceData, IsInstance};
-ghost use Rattle.strip_model.specs.Film.{film_of};
+ghost use Rattle.strip_model.specs.FilmOf.{film_of};
 ghost use Rattle.strip_reduce.specs.State.{IsState, State, start};
 ghost use Rattle.strip_reduce.specs.Reduction.{next, reduced};
 ghost use Rattle.strip_reduce.specs.Law.{KeepsOptimum, StandsFor};

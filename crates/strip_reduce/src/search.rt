@@ -2,14 +2,14 @@
 ghost use Rattle.std.specs.Bool.{beq};
 ghost use Rattle.std.specs.Prelude.{◌≡◌, ℕ, ◌<◌, ◌≤◌, ◌==◌, nat_le, ◌&&◌, false, [], length, slice_index_or, All};
 ghost use Rattle.strip_mask.specs.Set.{has};
-ghost use Rattle.strip_pay.specs.Pairs.{IsKnownPair};
+ghost use Rattle.strip_model.specs.Pairs.{IsKnownPair};
 ghost use Rattle.strip_film.specs.Film.{film_data};
 ghost use Rattle.strip_reduce.specs.Reduction.{least_below, least_behind, least_two};
 ghost use Rattle.strip_reduce.specs.Steps.{can_drop, can_join_actors, can_join_scenes, is_paired, scene_count};
 ghost use Rattle.strip_reduce.specs.Search.{can_join_marked, NoTwoBelow};
 
 use strip_mask::Mask;
-use strip_pay::{MAX_SCENES, Pair};
+use strip_model::{MAX_SCENES, Pair};
 
 /// Finds the least actor whose pay is equal in every order: his hold rate is 0, or he works in fewer than two scenes.
 pub(crate) fn droppable(casts: &[u64], holds: &[u64]) -> Option<usize>

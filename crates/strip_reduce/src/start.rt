@@ -1,7 +1,7 @@
 // The state with which a reduction begins.
 ghost use Rattle.std.specs.Prelude.{◌≡◌, ◌≤◌, [], ◌∷◌, map, IfOk};
 ghost use Rattle.strip_mask.specs.Set.{numbers_below};
-ghost use Rattle.strip_model.specs.Film.{film_of};
+ghost use Rattle.strip_model.specs.FilmOf.{film_of};
 ghost use Rattle.strip_reduce.specs.Draft.{IsDraft, draft_state};
 ghost use Rattle.strip_reduce.specs.State.{start};
 

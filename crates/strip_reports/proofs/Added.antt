@@ -5,10 +5,10 @@ use Rattle.std.proofs.lemmas.List.{flat_map_more, length-map}
 use Rattle.std.proofs.lemmas.List.FromFn.{map-range_with_len_more}
 use Rattle.strip_mask.specs.Sums.{sum_below}
 use Rattle.strip_mask.proofs.Sums.{sum_below-slice}
-use Rattle.strip_pay.specs.Order.{IsOrder}
-use Rattle.strip_pay.proofs.Counts.{sum-order}
+use Rattle.strip_model.specs.Order.{IsOrder}
+use Rattle.strip_model.proofs.Counts.{sum-order}
 use Rattle.strip_model.specs.Data.{InstanceData, SceneData, scene_name}
-use Rattle.strip_model.specs.Film.{film_of}
+use Rattle.strip_model.specs.FilmOf.{film_of}
 use Rattle.strip_text.specs.Field.{Field}
 use Rattle.strip_text.specs.Rows.{Row, csv_row, csv_text}
 use Rattle.strip_reports.specs.declared.figures.Figures.{Figures}

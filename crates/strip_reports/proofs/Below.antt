@@ -5,7 +5,7 @@ use Rattle.strip_mask.specs.Set.{LiesBelow, has, size}
 use Rattle.strip_mask.specs.Sums.{sum_below}
 use Rattle.strip_mask.proofs.Sizes.{size_is}
 use Rattle.strip_mask.proofs.Sums.{sum_below-ext, sum_below-past}
-use Rattle.strip_pay.specs.Film.{FilmData}
+use Rattle.strip_model.specs.Film.{FilmData}
 use Rattle.strip_reports.specs.Days.{how_many, rate_by}
 
 -- the size of a set that lies below n is how many of these numbers it has

@@ -7,7 +7,7 @@ use Rattle.std.proofs.lemmas.List.Elements.{All-head, All-tail}
 use Rattle.std.proofs.lemmas.List.Folds.{list_any-append}
 use Rattle.std.proofs.lemmas.List.Sums.{sum_by-cons}
 use Rattle.strip_mask.specs.Set.{has}
-use Rattle.strip_pay.proofs.Walk.{paid_after}
+use Rattle.strip_model.proofs.Walk.{paid_after}
 use Rattle.strip_reports.specs.Days.{hold_days, waits_on}
 
 -- the days without work after an earlier and before a later one with work; `begun` says whether there was one before the list

@@ -5,12 +5,12 @@ use Rattle.std.specs.List.{range_with_len}
 use Rattle.std.proofs.lemmas.List.{append_assoc, get_or-map}
 use Rattle.strip_mask.specs.Set.{has}
 use Rattle.strip_mask.proofs.Sums.{sum_below-ext}
-use Rattle.strip_pay.proofs.Walk.{paid_after-new}
-use Rattle.strip_pay.specs.Film.{FilmData}
-use Rattle.strip_pay.specs.Order.{IsOrder}
-use Rattle.strip_pay.specs.Pay.{day_pay, pay_of, span, works}
+use Rattle.strip_model.proofs.Walk.{paid_after-new}
+use Rattle.strip_model.specs.Film.{FilmData}
+use Rattle.strip_model.specs.Order.{IsOrder}
+use Rattle.strip_model.specs.Pay.{day_pay, pay_of, span, works}
 use Rattle.strip_model.specs.Data.{InstanceData, IsInstance, IsScene, SceneData}
-use Rattle.strip_model.specs.Film.{film_of}
+use Rattle.strip_model.specs.FilmOf.{film_of}
 use Rattle.strip_text.specs.Rows.{Row}
 use Rattle.strip_reports.specs.Days.{crews_of}
 use Rattle.strip_reports.specs.Sums.{pay_for, total_of}

@@ -4,7 +4,7 @@ use Rattle.std.specs.List.{list_any}
 use Rattle.std.proofs.lemmas.List.{take_more}
 use Rattle.strip_mask.specs.Set.{LiesBelow, has, meet, union}
 use Rattle.strip_mask.proofs.ByMembers.{has-empty, has_from_meet, has_from_union}
-use Rattle.strip_pay.proofs.Spans.{any-push}
+use Rattle.strip_model.proofs.Spans.{any-push}
 
 -- whether one of the first elements passes, with the next
 pub any_more : (p : ℕ → Bool) (xs : List ℕ) (i : ℕ) → i < length xs → list_any p (take (i + 1) xs) ≡ (list_any p (take i xs) || p (get_or xs i 0))

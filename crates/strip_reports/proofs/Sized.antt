@@ -5,11 +5,11 @@ use Rattle.std.proofs.lemmas.List.{flat_map_more, length-map, length-replicate, 
 use Rattle.std.proofs.lemmas.List.Concat.{length-flat_map}
 use Rattle.std.proofs.lemmas.List.Elements.{All-weaker}
 use Rattle.strip_mask.proofs.Sums.{sum_below-slice}
-use Rattle.strip_pay.specs.Film.{FilmData}
-use Rattle.strip_pay.specs.Order.{IsOrder}
-use Rattle.strip_pay.proofs.Counts.{sum-order}
+use Rattle.strip_model.specs.Film.{FilmData}
+use Rattle.strip_model.specs.Order.{IsOrder}
+use Rattle.strip_model.proofs.Counts.{sum-order}
 use Rattle.strip_model.specs.Data.{ActorData, InstanceData, IsActor, IsInstance, IsScene, SceneData}
-use Rattle.strip_model.specs.Film.{film_of}
+use Rattle.strip_model.specs.FilmOf.{film_of}
 use Rattle.strip_model.proofs.Small.{sum_most}
 use Rattle.strip_model.specs.declared.scene.Actor.{Actor}
 use Rattle.strip_model.specs.Instance.{actor_data}

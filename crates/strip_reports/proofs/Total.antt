@@ -2,11 +2,11 @@
 use Rattle.std.proofs.Common.{◌≡◌, ℕ, ◌+◌, ◌*◌, Bool, true, false, cond, not, ◌&&◌, ◌||◌, List, length, take, drop, slice_index, refl, sym, ap, ◌∙◌, arith, add-one}
 use Rattle.strip_mask.specs.Sums.{sum_below}
 use Rattle.strip_mask.proofs.Sums.{sum_below-ext, sum_below-scale, sum_below-swap}
-use Rattle.strip_pay.specs.Film.{FilmData}
-use Rattle.strip_pay.specs.Pay.{day_pay, pay_of, works}
+use Rattle.strip_model.specs.Film.{FilmData}
+use Rattle.strip_model.specs.Pay.{day_pay, pay_of, works}
 use Rattle.strip_reports.specs.Days.{day_rate, pay_at, scene_at, works_among}
 use Rattle.strip_reports.specs.Sheet.{total_pay}
-use Rattle.strip_pay.proofs.Walk.{paid_after-new}
+use Rattle.strip_model.proofs.Walk.{paid_after-new}
 use Rattle.strip_reports.proofs.Walk.{by_places, paid_at}
 
 -- who works is paid at his rate, and who is held at his hold rate

@@ -3,7 +3,7 @@ use Rattle.std.proofs.Common.{◌≡◌, ℕ, zero, suc, ◌+◌, Bool, true, fa
 use Rattle.std.specs.List.{list_any}
 use Rattle.strip_mask.specs.Sums.{sum_below}
 use Rattle.strip_mask.proofs.Sums.{sum_below-zero, sum_below-suc, sum_below-ext}
-use Rattle.strip_pay.proofs.Walk.{is_paid, paid_after}
+use Rattle.strip_model.proofs.Walk.{is_paid, paid_after}
 
 -- a sum with its first term apart
 pub sum_below-first : (n : ℕ) (f : ℕ → ℕ) → sum_below (suc n) f ≡ f 0 + sum_below n (λ i. f (suc i))

@@ -3,8 +3,8 @@ use Rattle.std.specs.Prelude.{ℕ, ◌+◌, ◌*◌, Bool, true, false, not, ◌
 use Rattle.std.specs.List.{flat_map, list_any, range_with_len}
 use Rattle.strip_mask.specs.Set.{has}
 use Rattle.strip_mask.specs.Sums.{sum_below}
-use Rattle.strip_pay.specs.Film.{FilmData}
-use Rattle.strip_pay.specs.Pay.{works}
+use Rattle.strip_model.specs.Film.{FilmData}
+use Rattle.strip_model.specs.Pay.{works}
 use Rattle.strip_text.specs.Field.{Field}
 
 -- ---- day by day, the days counted from 0

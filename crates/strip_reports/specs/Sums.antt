@@ -1,7 +1,7 @@
 -- What the days of an actor, or of all, come to.
 use Rattle.std.specs.Prelude.{ℕ, ◌+◌, ◌*◌, List, length, slice_index}
 use Rattle.strip_mask.specs.Sums.{sum_below}
-use Rattle.strip_pay.specs.Film.{FilmData}
+use Rattle.strip_model.specs.Film.{FilmData}
 use Rattle.strip_reports.specs.declared.sums.Sums.{Sums}
 use Rattle.strip_reports.specs.Days.{work_days, hold_days}
 

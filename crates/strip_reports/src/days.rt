@@ -1,8 +1,8 @@
 // The days of an order, and each actor's code for them.
 ghost use Rattle.std.specs.Prelude.{◌≡◌, ◌+◌, ◌++◌, ◌<◌, ◌≤◌, ◌&&◌, All, length, map, not, nat_lt, replicate, count_by, IfOk, OnOk, ℕ, cond};
 ghost use Rattle.std.specs.List.{range_with_len};
-ghost use Rattle.strip_pay.specs.Order.{IsOrder};
-ghost use Rattle.strip_model.specs.Film.{film_of};
+ghost use Rattle.strip_model.specs.Order.{IsOrder};
+ghost use Rattle.strip_model.specs.FilmOf.{film_of};
 ghost use Rattle.strip_mask.specs.Set.{has};
 ghost use Rattle.strip_reports.specs.Days.{code, crews_of, day_code, hold_days, work_days};
 ghost use Rattle.strip_reports.specs.Codes.{code_word};

@@ -3,8 +3,8 @@ ghost use Rattle.std.specs.Prelude.{◌≡◌, ◌+◌, ◌*◌, ◌++◌, ◌<�
 ghost use Rattle.std.specs.List.{range_with_len};
 ghost use Rattle.std.specs.Fmt.{decimal};
 ghost use Rattle.std.specs.String.{string_bytes};
-ghost use Rattle.strip_pay.specs.Order.{IsOrder};
-ghost use Rattle.strip_model.specs.Film.{film_of};
+ghost use Rattle.strip_model.specs.Order.{IsOrder};
+ghost use Rattle.strip_model.specs.FilmOf.{film_of};
 ghost use Rattle.strip_text.specs.Rows.{csv_row, csv_text};
 ghost use Rattle.strip_reports.specs.Codes.{code_word};
 ghost use Rattle.strip_reports.specs.Text.{actor_fields, day_number, dood_text, header_fields, row_of, rows_by_crews, total_fields};

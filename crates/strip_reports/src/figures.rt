@@ -2,8 +2,8 @@
 ghost use Rattle.std.specs.Prelude.{◌≡◌, ℕ, ◌*◌, ◌<◌, ◌≤◌, length, All, slice_index};
 ghost use Rattle.strip_mask.specs.Set.{LiesBelow, has};
 ghost use Rattle.strip_mask.specs.Sums.{sum_below};
-ghost use Rattle.strip_model.specs.Film.{film_of};
-ghost use Rattle.strip_pay.specs.Pay.{works};
+ghost use Rattle.strip_model.specs.FilmOf.{film_of};
+ghost use Rattle.strip_model.specs.Pay.{works};
 ghost use Rattle.strip_reports.specs.Days.{days_of, is_held, rate_by, works_among};
 ghost use Rattle.strip_reports.specs.Sheet.{figures_at};
 

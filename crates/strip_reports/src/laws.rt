@@ -1,11 +1,11 @@
 //! Laws of the definitions: functions that do nothing when they run, each with a theorem as its contract.
 ghost use Rattle.std.specs.Prelude.{◌≡◌, ℕ, List, [], ◌∷◌, ◌++◌, length};
 ghost use Rattle.std.specs.Fmt.{decimal};
-ghost use Rattle.strip_pay.specs.Film.{FilmData};
-ghost use Rattle.strip_pay.specs.Order.{IsOrder};
-ghost use Rattle.strip_pay.specs.Pay.{pay_of};
+ghost use Rattle.strip_model.specs.Film.{FilmData};
+ghost use Rattle.strip_model.specs.Order.{IsOrder};
+ghost use Rattle.strip_model.specs.Pay.{pay_of};
 ghost use Rattle.strip_model.specs.Data.{InstanceData, IsInstance};
-ghost use Rattle.strip_model.specs.Film.{film_of};
+ghost use Rattle.strip_model.specs.FilmOf.{film_of};
 ghost use Rattle.strip_text.specs.Rows.{Row};
 ghost use Rattle.strip_reports.specs.Days.{crews_of};
 ghost use Rattle.strip_reports.specs.Sheet.{total_pay};

@@ -1,7 +1,7 @@
 //! Cost sheets: the days of each scene of an order, its actors, and their pay.
 ghost use Rattle.std.specs.Prelude.{◌≡◌, ◌++◌, ◌<◌, [], length, IfOk, OnOk};
 ghost use Rattle.strip_model.specs.Data.{scene_name};
-ghost use Rattle.strip_pay.specs.Order.{IsOrder};
+ghost use Rattle.strip_model.specs.Order.{IsOrder};
 ghost use Rattle.strip_text.specs.Rows.{csv_row};
 ghost use Rattle.strip_reports.specs.Sheet.{header_row, row_of, sheet_text, total_row};
 

@@ -1,6 +1,6 @@
 // Sums over the days of one actor, or of all.
 ghost use Rattle.std.specs.Prelude.{◌≡◌, ◌*◌, ◌+◌, ◌≤◌, ◌<◌, length};
-ghost use Rattle.strip_model.specs.Film.{film_of};
+ghost use Rattle.strip_model.specs.FilmOf.{film_of};
 ghost use Rattle.strip_reports.specs.Sums.{sums_of, total_of};
 
 use crate::days::{hold_days, work_days};

@@ -1,7 +1,7 @@
 -- Worked rows of the definitions, by computation.
 use Rattle.std.proofs.Common.{◌≡◌, true, false, [], ◌∷◌, refl}
 use Rattle.strip_mask.specs.Set.{has, union, meet, minus, with, members, numbers_below, full}
-use Rattle.strip_pay.specs.Film.{FilmData}
+use Rattle.strip_model.specs.Film.{FilmData}
 use Rattle.strip_rule.specs.Rule.{fits_before, rules_out, open_firsts}
 
 -- both work in the first scene, and one alone in each other scene

@@ -7,8 +7,8 @@ use Rattle.strip_mask.specs.Set.{has, without, minus, sum_over}
 use Rattle.strip_mask.proofs.ByMembers.{has-empty, has-minus, has_from_minus, has-without_same, has-without_other, has_from_without, empty_from, without_swap, still_out}
 use Rattle.strip_mask.proofs.Below.{LiesBelow-without}
 use Rattle.strip_mask.proofs.Totals.{sum_over_mono, sum_over-empty}
-use Rattle.strip_pay.specs.Film.{FilmData}
-use Rattle.strip_pay.specs.Pay.{works}
+use Rattle.strip_model.specs.Film.{FilmData}
+use Rattle.strip_model.specs.Pay.{works}
 use Rattle.strip_film.specs.Film.{IsFilm, LiesIn}
 use Rattle.strip_film.specs.Shoot.{on_location, ready, step_cost}
 use Rattle.strip_film.specs.Finish.{EachOnce, steps_cost}

@@ -2,7 +2,7 @@
 use Rattle.std.proofs.Common.{◌≡◌, ℕ, true, length}
 use Rattle.strip_mask.specs.Set.{IsSet, has}
 use Rattle.strip_mask.proofs.Below.{is_set_below}
-use Rattle.strip_pay.specs.Film.{FilmData}
+use Rattle.strip_model.specs.Film.{FilmData}
 use Rattle.strip_film.specs.Film.{IsFilm, LiesIn}
 use Rattle.strip_film.proofs.Lists.{ready_there}
 use Rattle.strip_rule.specs.Rule.{open_firsts}

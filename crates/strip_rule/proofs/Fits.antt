@@ -3,8 +3,8 @@ use Rattle.std.proofs.Common.{◌≡◌, ◌≢◌, ℕ, ◌<◌, ◌⊎◌, Boo
 use Rattle.std.proofs.lemmas.Bool.{and_parts, cases_Bool, eq-eqb, eqb-false, eqb-true, lt-ltb, ltb-true, ne_eqb, not-true, and_from}
 use Rattle.strip_mask.specs.Set.{has, union, minus}
 use Rattle.strip_mask.proofs.ByMembers.{has-empty, has-minus, has-union, has_from_union, empty_from}
-use Rattle.strip_pay.specs.Film.{FilmData}
-use Rattle.strip_pay.specs.Pay.{works}
+use Rattle.strip_model.specs.Film.{FilmData}
+use Rattle.strip_model.specs.Pay.{works}
 use Rattle.std.proofs.Math.Bool.{or-true}
 use Rattle.strip_film.specs.Shoot.{on_location, ready}
 use Rattle.strip_rule.specs.Rule.{is_part, fits_before, rules_out}

@@ -6,9 +6,9 @@ use Rattle.strip_mask.specs.Set.{has, members}
 use Rattle.strip_mask.proofs.ByMembers.{has-empty, same_has}
 use Rattle.strip_mask.proofs.Below.{is_set_below, LiesBelow-minus}
 use Rattle.strip_mask.proofs.Members.{Contains-members}
-use Rattle.strip_pay.specs.Film.{FilmData}
+use Rattle.strip_model.specs.Film.{FilmData}
 use Rattle.strip_mask.proofs.Agree.{same_test}
-use Rattle.strip_pay.proofs.Lists.{any_from, any_is}
+use Rattle.strip_model.proofs.Lists.{any_from, any_is}
 use Rattle.strip_film.specs.Film.{IsFilm, LiesIn}
 use Rattle.strip_film.specs.Shoot.{behind, on_location, ready}
 use Rattle.strip_rule.specs.Rule.{is_part, rules_out, is_ruled_out, open_firsts}

@@ -8,7 +8,7 @@ use Rattle.std.proofs.lemmas.Bool.{and_parts, eqb-true, eq-eqb, not-true, not-fa
 use Rattle.strip_mask.specs.Set.{IsSet, has, with, members}
 use Rattle.strip_mask.proofs.ByMembers.{has-with, has-empty}
 use Rattle.strip_mask.proofs.Members.{Contains-members, has_from_members}
-use Rattle.strip_pay.proofs.Lists.{any_from, any_is}
+use Rattle.strip_model.proofs.Lists.{any_from, any_is}
 
 abbrev leave : (ℕ → Bool) → ℕ → ℕ → ℕ
 leave test found scene = cond (test scene) found (with found scene)

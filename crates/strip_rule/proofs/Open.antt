@@ -5,9 +5,9 @@ use Rattle.strip_mask.specs.Set.{IsSet, has, members}
 use Rattle.strip_mask.proofs.ByMembers.{IsSet-minus}
 use Rattle.strip_mask.proofs.Below.{is_set_below}
 use Rattle.strip_mask.proofs.Members.{Contains-members}
-use Rattle.strip_pay.specs.Film.{FilmData}
+use Rattle.strip_model.specs.Film.{FilmData}
 use Rattle.strip_mask.proofs.Lists.{contains_cases, contains_none}
-use Rattle.strip_pay.proofs.Lists.{any_from, any_is}
+use Rattle.strip_model.proofs.Lists.{any_from, any_is}
 use Rattle.strip_film.specs.Film.{IsFilm, LiesIn}
 use Rattle.strip_film.specs.Shoot.{behind, ready}
 use Rattle.strip_film.specs.Finish.{BeginsLeast}

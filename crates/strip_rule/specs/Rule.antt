@@ -2,7 +2,7 @@
 use Rattle.std.specs.Prelude.{ℕ, ◌==◌, nat_lt, Bool, not, ◌&&◌, ◌||◌, if◌then◌else◌, fold, slice_index}
 use Rattle.std.specs.List.{list_any}
 use Rattle.strip_mask.specs.Set.{has, with, union, minus, members}
-use Rattle.strip_pay.specs.Film.{FilmData}
+use Rattle.strip_model.specs.Film.{FilmData}
 use Rattle.strip_film.specs.Shoot.{on_location, ready}
 
 -- every number of the first set is in the second

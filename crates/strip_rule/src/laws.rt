@@ -1,7 +1,7 @@
 //! Laws of the dominance rule: functions that do nothing when they run, with theorems as contracts.
 ghost use Rattle.std.specs.Prelude.{◌≡◌, ◌↔◌, ℕ, ◌≤◌, true, false, List, ◌∷◌};
 ghost use Rattle.strip_mask.specs.Set.{IsSet, has};
-ghost use Rattle.strip_pay.specs.Film.{FilmData};
+ghost use Rattle.strip_model.specs.Film.{FilmData};
 ghost use Rattle.strip_film.specs.Film.{IsFilm, LiesIn};
 ghost use Rattle.strip_film.specs.Shoot.{ready};
 ghost use Rattle.strip_film.specs.Finish.{EachOnce, steps_cost};

@@ -1,9 +1,9 @@
 -- Plans by bounds that were chosen.
 use Rattle.std.proofs.Common.{◌≡◌, ◌≤◌, ℕ, Bool, true, false, Option, None, Some, Vec, Global, Result, Ok, Err, IfOk, IsSome, min, inl, inr, true≢false, sym, subst, arith}
 use Rattle.strip_film.specs.declared.shared.Line.{Line}
-use Rattle.strip_kind.specs.declared.kind.Kind.{Kind}
-use Rattle.strip_kind.specs.declared.kind.Kind.TheVariants.{Pairs, Arrivals}
-use Rattle.strip_pay.specs.Film.{FilmData}
+use Rattle.strip_model.specs.declared.kind.Kind.{Kind}
+use Rattle.strip_model.specs.declared.kind.Kind.TheVariants.{Pairs, Arrivals}
+use Rattle.strip_model.specs.Film.{FilmData}
 use Rattle.strip_film.specs.Path.{PathData}
 use Rattle.strip_proof.specs.declared.plan.Plan.{Plan}
 use Rattle.strip_proof.specs.Plan.{PlanData, plan_data}

@@ -3,16 +3,16 @@ use Rattle.std.proofs.Common.{◌≡◌, ◌↔◌, ◌==◌, ◌∙◌, ℕ, Bo
 use Rattle.std.proofs.lemmas.Bool.{cases_eq}
 use Rattle.std.proofs.lemmas.Bool.Decides.{nat_tests}
 use Rattle.std.proofs.lemmas.List.Elements.{All-nil}
-use Rattle.strip_kind.specs.declared.kind.Kind.TheVariants.{Pairs}
-use Rattle.strip_pay.specs.Film.{FilmData}
-use Rattle.strip_pay.specs.Order.{IsKeptOrder, IsOrder}
-use Rattle.strip_pay.specs.Pay.{pay_of}
+use Rattle.strip_model.specs.declared.kind.Kind.TheVariants.{Pairs}
+use Rattle.strip_model.specs.Film.{FilmData}
+use Rattle.strip_model.specs.Order.{IsKeptOrder, IsOrder}
+use Rattle.strip_model.specs.Pay.{pay_of}
 use Rattle.strip_proof.specs.declared.plan.Status.{Status}
 use Rattle.strip_proof.specs.declared.plan.Status.TheVariants.{Optimal, Bounded}
 use Rattle.strip_film.specs.Film.{LiesIn}
 use Rattle.strip_lines.specs.Lines.{IsJustified}
 use Rattle.strip_model.specs.Data.{InstanceData, IsInstance}
-use Rattle.strip_model.specs.Film.{film_of}
+use Rattle.strip_model.specs.FilmOf.{film_of}
 use Rattle.strip_model.proofs.Small.{pay_small_of}
 use Rattle.strip_reduce.specs.Reduction.{reduced}
 use Rattle.strip_proof.specs.Text.{IsReadableLine, IsReadablePlan}

@@ -2,9 +2,9 @@
 use Rattle.std.proofs.Common.{◌≡◌, ◌≢◌, ◌<◌, ◌≤◌, ◌^◌, ℕ, List, [], ◌∷◌, length, get_or, All, Bool, subst, arith}
 use Rattle.std.proofs.lemmas.List.{length-map}
 use Rattle.strip_mask.proofs.Below.{is_set_below}
-use Rattle.strip_kind.specs.declared.kind.Kind.{Kind}
-use Rattle.strip_pay.specs.Film.{FilmData}
-use Rattle.strip_pay.specs.Order.{IsOrder}
+use Rattle.strip_model.specs.declared.kind.Kind.{Kind}
+use Rattle.strip_model.specs.Film.{FilmData}
+use Rattle.strip_model.specs.Order.{IsOrder}
 use Rattle.strip_film.specs.declared.shared.Line.{Line}
 use Rattle.strip_film.specs.Film.{IsFilm, LiesIn}
 use Rattle.strip_film.proofs.Small.{finish_small}
@@ -12,7 +12,7 @@ use Rattle.strip_film.specs.Rules.{BeginLeast, BoundsFinish}
 use Rattle.strip_lines.specs.Lines.{AreJustified}
 use Rattle.strip_lines.proofs.Justified.{lines_are_true}
 use Rattle.strip_model.specs.Data.{InstanceData, IsInstance}
-use Rattle.strip_model.specs.Film.{film_of}
+use Rattle.strip_model.specs.FilmOf.{film_of}
 use Rattle.strip_model.proofs.Small.{pay_small_of}
 use Rattle.strip_reduce.specs.Reduction.{reduced}
 use Rattle.strip_proof.specs.Plan.{PlanData}

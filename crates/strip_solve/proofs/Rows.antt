@@ -5,9 +5,9 @@ use Rattle.std.proofs.lemmas.Bool.{cases_eq}
 use Rattle.std.proofs.lemmas.List.Elements.{All-append, All-cons, All-nil}
 use Rattle.strip_mask.specs.Set.{numbers_below}
 use Rattle.strip_mask.proofs.Lists.{count, count-append, count_here, count_other}
-use Rattle.strip_pay.specs.Order.{IsOrder}
+use Rattle.strip_model.specs.Order.{IsOrder}
 use Rattle.strip_model.specs.Data.{InstanceData}
-use Rattle.strip_model.specs.Film.{film_of}
+use Rattle.strip_model.specs.FilmOf.{film_of}
 use Rattle.strip_solve.specs.Own.{own_order}
 
 lie_below : (most n : ℕ) → n ≤ most → All (λ scene. scene < most) (numbers_below n)

@@ -1,7 +1,7 @@
 -- What is asked of a search, and what is answered.
 use Rattle.std.specs.Prelude.{◌≡◌, ℕ, ◌<◌, ◌≤◌, Result, Err, IfOk, OnOk}
 use Rattle.strip_model.specs.Data.{InstanceData}
-use Rattle.strip_model.specs.Film.{film_of}
+use Rattle.strip_model.specs.FilmOf.{film_of}
 use Rattle.strip_reduce.specs.declared.fault.ReduceFault.{ReduceFault}
 use Rattle.strip_reduce.specs.declared.fault.ReduceFault.TheVariants.{TooManyClasses}
 use Rattle.strip_reduce.specs.Reduction.{class_count}

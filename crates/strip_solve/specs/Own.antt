@@ -1,9 +1,9 @@
 -- The order of a film's rows.
 use Rattle.std.specs.Prelude.{◌≡◌, ℕ, ◌-◌, ◌^◌, Option, None, Some, List, length, min}
 use Rattle.strip_mask.specs.Set.{numbers_below}
-use Rattle.strip_pay.specs.Film.{FilmData}
-use Rattle.strip_pay.specs.Order.{IsKeptOrder}
-use Rattle.strip_pay.specs.Pay.{pay_of}
+use Rattle.strip_model.specs.Film.{FilmData}
+use Rattle.strip_model.specs.Order.{IsKeptOrder}
+use Rattle.strip_model.specs.Pay.{pay_of}
 use Rattle.strip_solve.specs.declared.own.Own.{Own}
 
 -- the scenes as they are numbered

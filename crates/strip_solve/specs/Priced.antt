@@ -1,8 +1,8 @@
 -- The plan of the order that a film's rows have.
 use Rattle.std.specs.Prelude.{ℕ, ◌+◌, ◌==◌, if◌then◌else◌, []}
-use Rattle.strip_kind.specs.declared.kind.Kind.TheVariants.{Pairs}
-use Rattle.strip_pay.specs.Film.{FilmData}
-use Rattle.strip_pay.specs.Pay.{pay_of}
+use Rattle.strip_model.specs.declared.kind.Kind.TheVariants.{Pairs}
+use Rattle.strip_model.specs.Film.{FilmData}
+use Rattle.strip_model.specs.Pay.{pay_of}
 use Rattle.strip_film.specs.Film.{all_scenes}
 use Rattle.strip_bound.specs.Bounds.{bound}
 use Rattle.strip_reduce.specs.Reduction.{reduced}

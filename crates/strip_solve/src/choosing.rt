@@ -1,9 +1,9 @@
 // The option `--auto`: a search with pair bounds and few lines, then if needed a search by layers with arrival bounds.
 ghost use Rattle.std.specs.Prelude.{◌≡◌, ◌≤◌, IfOk, min};
-ghost use Rattle.strip_kind.specs.declared.kind.Kind.TheVariants.{Arrivals as ByArrivals, Pairs as ByPairs};
-ghost use Rattle.strip_pay.specs.Film.{FilmData};
-ghost use Rattle.strip_pay.specs.Order.{IsKeptOrder};
-ghost use Rattle.strip_pay.specs.Pay.{pay_of};
+ghost use Rattle.strip_model.specs.declared.kind.Kind.TheVariants.{Arrivals as ByArrivals, Pairs as ByPairs};
+ghost use Rattle.strip_model.specs.Film.{FilmData};
+ghost use Rattle.strip_model.specs.Order.{IsKeptOrder};
+ghost use Rattle.strip_model.specs.Pay.{pay_of};
 ghost use Rattle.strip_film.specs.Path.{IsComplete};
 ghost use Rattle.strip_film.specs.Shown.{path_data};
 ghost use Rattle.strip_reduce.specs.Law.{StandsFor};
@@ -25,8 +25,8 @@ use std::thread::Threads;
 use strip_bound::{BoundTables, StoredBound, static_reach};
 use strip_film::{Film, Path};
 use strip_io::Memory;
-use strip_kind::Kind;
 use strip_mask::Mask;
+use strip_model::Kind;
 use strip_proof::Plan;
 use strip_reduce::Reduced;
 use strip_start::{greedy, improve, or_listed, path_of, vary_beside};

@@ -1,7 +1,7 @@
 // The order of an instance's rows.
 ghost use Rattle.std.specs.Prelude.{◌≡◌, ◌^◌, ◌<◌, IfOk};
 ghost use Rattle.strip_mask.specs.Set.{numbers_below};
-ghost use Rattle.strip_model.specs.Film.{film_of};
+ghost use Rattle.strip_model.specs.FilmOf.{film_of};
 ghost use Rattle.strip_solve.specs.Own.{IsOwn, own_cost};
 
 use std::alloc::Global;

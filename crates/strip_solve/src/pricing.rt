@@ -1,9 +1,9 @@
 // The plan of the rows' order, without a search.
 ghost use Rattle.std.specs.Prelude.{◌≡◌, ◌+◌, ◌<◌, ◌≤◌, ℕ, Err, IfOk, OnOk};
-ghost use Rattle.strip_kind.specs.declared.kind.Kind.TheVariants.{Pairs};
+ghost use Rattle.strip_model.specs.declared.kind.Kind.TheVariants.{Pairs};
 ghost use Rattle.strip_film.specs.Film.{all_scenes};
 ghost use Rattle.strip_bound.specs.Bounds.{bound};
-ghost use Rattle.strip_model.specs.Film.{film_of};
+ghost use Rattle.strip_model.specs.FilmOf.{film_of};
 ghost use Rattle.strip_reduce.specs.declared.fault.ReduceFault.TheVariants.{TooManyClasses};
 ghost use Rattle.strip_reduce.specs.Reduction.{class_count, reduced as reduction};
 ghost use Rattle.strip_reduce.specs.Shown.{reduced_data};
@@ -14,9 +14,8 @@ use crate::own::numbers;
 use std::alloc::Global;
 use strip_bound::{BoundTables, pairs};
 use strip_io::Memory;
-use strip_kind::Kind;
 use strip_lines::laws::the_rules_are_true;
-use strip_model::{Instance, pay};
+use strip_model::{Instance, Kind, pay};
 use strip_proof::{Plan, Status};
 use strip_reduce::{ReduceFault, Reduced, reduce};
 

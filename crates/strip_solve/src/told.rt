@@ -1,6 +1,6 @@
 // Progress reports of the search of an instance's classes.
-use strip_kind::Kind;
 use strip_layers::{Reached, Watch};
+use strip_model::Kind;
 use strip_worker::{Ended, Gate, Limit, Stage, Standing};
 
 /// The gate of a search of classes. It reports costs and bounds with the cost set apart, in units of money.

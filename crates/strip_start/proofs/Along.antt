@@ -7,10 +7,10 @@ use Rattle.strip_mask.specs.Set.{LiesBelow, has, union, meet}
 use Rattle.strip_mask.proofs.ByMembers.{has-union, has-meet, has-empty, has_from_meet, same_has}
 use Rattle.std.proofs.lemmas.Bool.{and_from}
 use Rattle.strip_mask.proofs.Below.{has_full, LiesBelow-full}
-use Rattle.strip_pay.specs.Film.{FilmData}
-use Rattle.strip_pay.specs.Pay.{works}
+use Rattle.strip_model.specs.Film.{FilmData}
+use Rattle.strip_model.specs.Pay.{works}
 use Rattle.strip_mask.proofs.Agree.{same_test}
-use Rattle.strip_pay.proofs.Lists.{any_from, any_is}
+use Rattle.strip_model.proofs.Lists.{any_from, any_is}
 use Rattle.strip_film.specs.Film.{IsFilm, all_scenes}
 use Rattle.strip_film.specs.Finish.{rest_after}
 use Rattle.strip_film.specs.Shoot.{on_location}

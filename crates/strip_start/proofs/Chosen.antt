@@ -5,7 +5,7 @@ use Rattle.std.proofs.lemmas.Bool.{cases_eq, cases_lt, le-ltb, lt-ltb}
 use Rattle.std.proofs.lemmas.List.Elements.{Contains-append_left, Contains-push, Contains-push_cases}
 use Rattle.strip_mask.specs.Set.{IsSet, members}
 use Rattle.strip_mask.proofs.Members.{Contains-members, has_from_members}
-use Rattle.strip_pay.specs.Film.{FilmData}
+use Rattle.strip_model.specs.Film.{FilmData}
 use Rattle.strip_mask.proofs.Lists.{contains_none}
 use Rattle.strip_film.specs.Film.{IsFilm}
 use Rattle.strip_film.specs.Shoot.{ready, step_cost}

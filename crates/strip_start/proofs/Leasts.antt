@@ -2,7 +2,7 @@
 use Rattle.std.proofs.Common.{◌≡◌, ℕ, true, false, List, [], ◌∷◌, ◌++◌, inl, inr, refl, sym, subst, arith}
 use Rattle.strip_mask.specs.Set.{has, without}
 use Rattle.strip_mask.proofs.ByMembers.{has-empty}
-use Rattle.strip_pay.specs.Film.{FilmData}
+use Rattle.strip_model.specs.Film.{FilmData}
 use Rattle.strip_film.specs.Finish.{EachOnce, rest_after}
 use Rattle.strip_film.proofs.Lists.{ready_there}
 use Rattle.strip_start.specs.Greedy.{HaveLeastSteps, IsLeastStep}

@@ -3,8 +3,8 @@ use Rattle.std.proofs.Common.{◌≡◌, ◌≢◌, ℕ, true, false, List, ◌�
 use Rattle.std.proofs.lemmas.Bool.Decides.{eqb_tells}
 use Rattle.strip_mask.specs.Set.{has, without}
 use Rattle.strip_mask.proofs.ByMembers.{has-without_other, has_from_without, without_swap, still_out}
-use Rattle.strip_pay.specs.Film.{FilmData}
-use Rattle.strip_pay.specs.Pairs.{Precedes}
+use Rattle.strip_model.specs.Film.{FilmData}
+use Rattle.strip_model.specs.Pairs.{Precedes}
 use Rattle.strip_film.specs.Film.{all_scenes}
 use Rattle.strip_film.specs.Finish.{EachOnce, Remained, rest_after}
 use Rattle.strip_film.specs.Shoot.{ready}

@@ -1,8 +1,8 @@
 -- The scene of a place is taken past the one behind it, by what the code has at hand.
 use Rattle.std.proofs.Common.{◌≡◌, ℕ, ◌+◌, ◌<◌, ◌≤◌, List, length, take, drop, slice_index, sym, ap, ◌∙◌, subst, arith}
 use Rattle.strip_mask.specs.Set.{union}
-use Rattle.strip_pay.specs.Film.{FilmData}
-use Rattle.strip_pay.specs.Pairs.{Precedes}
+use Rattle.strip_model.specs.Film.{FilmData}
+use Rattle.strip_model.specs.Pairs.{Precedes}
 use Rattle.strip_film.specs.Film.{IsFilm}
 use Rattle.strip_start.specs.Moves.{IsBetter, taken_out}
 use Rattle.strip_start.specs.Sides.{cast_along, turn_cost}

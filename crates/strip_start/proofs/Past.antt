@@ -2,8 +2,8 @@
 use Rattle.std.proofs.Common.{◌≡◌, ◌↔◌, ℕ, ◌+◌, ◌<◌, ◌≤◌, Bool, true, false, IsTrue, List, length, take, drop, slice_index, refl, sym, ap, ◌∙◌, subst, arith}
 use Rattle.std.proofs.lemmas.List.{drop_more}
 use Rattle.strip_mask.specs.Set.{union}
-use Rattle.strip_pay.specs.Film.{FilmData}
-use Rattle.strip_pay.specs.Pairs.{Precedes}
+use Rattle.strip_model.specs.Film.{FilmData}
+use Rattle.strip_model.specs.Pairs.{Precedes}
 use Rattle.strip_film.specs.Film.{IsFilm, all_scenes}
 use Rattle.strip_film.specs.Path.{IsComplete, IsPath, PathData}
 use Rattle.strip_film.proofs.Moves.{scenes_known}

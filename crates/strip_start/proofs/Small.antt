@@ -3,7 +3,7 @@ use Rattle.std.proofs.Common.{ℕ, ◌+◌, ◌*◌, ◌<◌, ◌≤◌, ◌^◌
 use Rattle.std.proofs.Math.Nat.{mul-le-mul_left}
 use Rattle.strip_mask.specs.Set.{LiesBelow, meet, minus, sum_over}
 use Rattle.strip_mask.proofs.ByMembers.{has_from_meet}
-use Rattle.strip_pay.specs.Film.{FilmData}
+use Rattle.strip_model.specs.Film.{FilmData}
 use Rattle.strip_film.specs.declared.limits.TheConstants.{MAX_DAY_SUM}
 use Rattle.strip_film.specs.Film.{IsFilm}
 use Rattle.strip_film.proofs.Casts.{cast_lies}

@@ -6,8 +6,8 @@ use Rattle.std.proofs.lemmas.Bool.Decides.{eqb_tells}
 use Rattle.std.proofs.lemmas.List.{drop_more, get_or-drop, get_or-take, length-drop, length-take-le, take-append-drop}
 use Rattle.std.proofs.lemmas.List.Elements.{All-contains_itself, Contains-append_right}
 use Rattle.strip_mask.proofs.Below.{IsSet-full}
-use Rattle.strip_pay.specs.Film.{FilmData}
-use Rattle.strip_pay.specs.Pairs.{Precedes}
+use Rattle.strip_model.specs.Film.{FilmData}
+use Rattle.strip_model.specs.Pairs.{Precedes}
 use Rattle.strip_mask.proofs.Lists.{contains_here}
 use Rattle.strip_film.specs.declared.limits.TheConstants.{MAX_DAY_SUM}
 use Rattle.strip_film.specs.Film.{IsFilm, all_scenes}

@@ -5,7 +5,7 @@ use Rattle.std.proofs.Math.Bool.{and-false}
 use Rattle.strip_mask.specs.Set.{has, union, meet, minus, without, sum_over}
 use Rattle.strip_mask.proofs.ByMembers.{has-union, has-meet, has-minus, has_from_meet, has_from_minus, same_has, without_swap}
 use Rattle.strip_mask.proofs.Totals.{sum_over-union}
-use Rattle.strip_pay.specs.Film.{FilmData}
+use Rattle.strip_model.specs.Film.{FilmData}
 use Rattle.strip_film.specs.Film.{IsFilm, all_scenes}
 use Rattle.strip_film.specs.Finish.{rest_after, steps_cost}
 use Rattle.strip_film.specs.Shoot.{on_location, step_cost}

@@ -1,6 +1,6 @@
 -- What a run of tries gives, and the cheapest of several paths.
 use Rattle.std.specs.Prelude.{◌≡◌, ℕ, List, ◌≤◌, All, Contains}
-use Rattle.strip_pay.specs.Film.{FilmData}
+use Rattle.strip_model.specs.Film.{FilmData}
 use Rattle.strip_film.specs.Path.{PathData, IsComplete}
 use Rattle.strip_film.specs.Shown.{path_data}
 use Rattle.strip_film.specs.declared.path.Path.{Path}

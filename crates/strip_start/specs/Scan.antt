@@ -1,6 +1,6 @@
 -- The places that one scene of an order is tried at.
 use Rattle.std.specs.Prelude.{ℕ, ◌<◌, ◌≤◌, List}
-use Rattle.strip_pay.specs.Film.{FilmData}
+use Rattle.strip_model.specs.Film.{FilmData}
 use Rattle.strip_start.specs.Moves.{IsBetter}
 
 -- the scene is better put at no place from the first up to the second, which is not tried

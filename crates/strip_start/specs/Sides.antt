@@ -1,7 +1,7 @@
 -- Who works before and behind a place of an order, and what two neighbours cost by which of them is shot first.
 use Rattle.std.specs.Prelude.{◌≡◌, ℕ, ◌+◌, ◌*◌, ◌<◌, List, [], ◌∷◌, length, take, drop, slice_index}
 use Rattle.strip_mask.specs.Set.{union, meet, minus, sum_over}
-use Rattle.strip_pay.specs.Film.{FilmData}
+use Rattle.strip_model.specs.Film.{FilmData}
 use Rattle.strip_start.specs.declared.sides.Sides.{Sides}
 
 -- who works in some scene of the list

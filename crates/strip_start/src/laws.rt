@@ -1,6 +1,6 @@
 //! Laws of the initial order: functions that do nothing when they run, with theorems as contracts.
 ghost use Rattle.std.specs.Prelude.{◌≡◌, ℕ, ◌<◌, ◌≤◌, List, length, slice_index};
-ghost use Rattle.strip_pay.specs.Film.{FilmData};
+ghost use Rattle.strip_model.specs.Film.{FilmData};
 ghost use Rattle.strip_film.specs.Film.{all_scenes};
 ghost use Rattle.strip_film.specs.Finish.{EachOnce, steps_cost};
 ghost use Rattle.strip_start.specs.Greedy.{IsGreedy};

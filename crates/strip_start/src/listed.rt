@@ -1,7 +1,7 @@
 // Paths along given orders.
 ghost use Rattle.std.specs.Prelude.{◌≡◌, ◌≤◌};
-ghost use Rattle.strip_pay.specs.Order.{IsKeptOrder};
-ghost use Rattle.strip_pay.specs.Pay.{pay_of};
+ghost use Rattle.strip_model.specs.Order.{IsKeptOrder};
+ghost use Rattle.strip_model.specs.Pay.{pay_of};
 ghost use Rattle.strip_film.specs.Path.{IsComplete};
 ghost use Rattle.strip_film.specs.Shown.{path_data};
 

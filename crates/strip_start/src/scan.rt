@@ -1,7 +1,7 @@
 // Places to which one scene of an order can be moved.
 ghost use Rattle.std.specs.Prelude.{◌≡◌, ◌↔◌, ℕ, ◌+◌, ◌<◌, ◌≤◌, ◌^◌, None, length, slice_index, IfSome, IsTrue};
 ghost use Rattle.strip_mask.specs.Set.{LiesBelow};
-ghost use Rattle.strip_pay.specs.Pairs.{Precedes};
+ghost use Rattle.strip_model.specs.Pairs.{Precedes};
 ghost use Rattle.strip_film.specs.Path.{IsComplete};
 ghost use Rattle.strip_film.specs.Shown.{path_data};
 ghost use Rattle.strip_start.specs.Moves.{IsBetter};

@@ -1,7 +1,7 @@
 -- What is kept of a set.
 use Rattle.std.specs.Prelude.{◌≡◌, ◌≤◌, true}
-use Rattle.strip_kind.specs.declared.kind.Kind.{Kind}
-use Rattle.strip_pay.specs.Film.{FilmData}
+use Rattle.strip_model.specs.declared.kind.Kind.{Kind}
+use Rattle.strip_model.specs.Film.{FilmData}
 use Rattle.strip_bound.specs.Bounds.{bound}
 use Rattle.strip_store.specs.declared.entry.Entry.{Entry}
 

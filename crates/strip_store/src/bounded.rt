@@ -3,8 +3,8 @@ use std::marker::Brand;
 
 /// A type that names a film and a kind of static bound. It lets the invariant of a lock's contents refer to them.
 pub trait Bounded {
-    ghost use Rattle.strip_kind.specs.declared.kind.Kind.{Kind};
-    ghost use Rattle.strip_pay.specs.Film.{FilmData};
+    ghost use Rattle.strip_model.specs.declared.kind.Kind.{Kind};
+    ghost use Rattle.strip_model.specs.Film.{FilmData};
 
     ghost film: { FilmData };
 
@@ -12,7 +12,7 @@ pub trait Bounded {
 }
 
 impl Bounded for Brand {
-    ghost use Rattle.strip_kind.specs.declared.kind.Kind.TheVariants.{Plain};
+    ghost use Rattle.strip_model.specs.declared.kind.Kind.TheVariants.{Plain};
     ghost use Rattle.strip_store.specs.Bounded.{no_film};
 
     ghost film = { no_film };

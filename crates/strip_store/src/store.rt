@@ -12,8 +12,8 @@ use std::alloc::Global;
 use std::sync::{Mutex, Wait};
 use strip_bound::StoredBound;
 use strip_io::Memory;
-use strip_kind::Kind;
 use strip_mask::Mask;
+use strip_model::Kind;
 
 /// A store of static bounds that workers share: 64 drawers, each behind its own lock. A set's place holds the set
 /// stored there last.

@@ -8,7 +8,7 @@ use Rattle.std.proofs.lemmas.List.Elements.{All-cons, All-nil, All-head, All-con
 use Rattle.std.proofs.lemmas.List.{get_or_default}
 use Rattle.std.proofs.lemmas.List.Kept.{Contains-from_dedup}
 use Rattle.std.proofs.lemmas.List.Sorted.{Contains-permutation, IsPermutation-sym}
-use Rattle.strip_pay.proofs.Lists.{contains_here, contains_later, contains_cases, contains_none}
+use Rattle.strip_model.proofs.Lists.{contains_here, contains_later, contains_cases, contains_none}
 use Rattle.strip_film.specs.declared.shared.Line.{Line}
 use Rattle.strip_lines.specs.Lines.{line_at}
 use Rattle.strip_trim.specs.declared.best.BestLine.{BestLine}

@@ -6,7 +6,7 @@ use Rattle.std.proofs.lemmas.List.Elements.{All-contains, filter_passes}
 use Rattle.std.proofs.lemmas.List.Kept.{IsStrictlyIncreasing-filter}
 use Rattle.strip_mask.specs.Set.{numbers_below}
 use Rattle.strip_mask.proofs.Members.{contains_number, kept-more, numbers_rise}
-use Rattle.strip_pay.proofs.Lists.{contains_here, contains_later, contains_cases, contains_none}
+use Rattle.strip_model.proofs.Lists.{contains_here, contains_later, contains_cases, contains_none}
 use Rattle.strip_film.specs.declared.shared.Line.{Line}
 use Rattle.strip_film.specs.Rules.{Rules}
 use Rattle.strip_lines.specs.Lines.{line_at}

@@ -7,9 +7,9 @@ use Rattle.strip_mask.specs.Set.{has, members, with, without}
 use Rattle.strip_mask.proofs.Below.{LiesBelow-without, is_set_below}
 use Rattle.strip_mask.proofs.ByMembers.{has-empty, has-with_other, has-with_same}
 use Rattle.strip_mask.proofs.Members.{Contains-members, has_from_members}
-use Rattle.strip_kind.specs.declared.kind.Kind.{Kind}
-use Rattle.strip_pay.specs.Film.{FilmData}
-use Rattle.strip_pay.proofs.Lists.{contains_none}
+use Rattle.strip_model.specs.declared.kind.Kind.{Kind}
+use Rattle.strip_model.specs.Film.{FilmData}
+use Rattle.strip_model.proofs.Lists.{contains_none}
 use Rattle.strip_film.specs.Film.{IsFilm, LiesIn}
 use Rattle.strip_film.specs.Path.{IsPath, PathData}
 use Rattle.strip_film.specs.Rules.{rank}

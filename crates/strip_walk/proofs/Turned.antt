@@ -5,7 +5,7 @@ use Rattle.strip_io.specs.declared.files.Memory.{Memory}
 use Rattle.strip_mask.specs.Set.{IsSet, has, without}
 use Rattle.strip_mask.proofs.Below.{LiesBelow-without, is_set_below}
 use Rattle.strip_mask.proofs.ByMembers.{has_from_without}
-use Rattle.strip_pay.specs.Film.{FilmData}
+use Rattle.strip_model.specs.Film.{FilmData}
 use Rattle.strip_film.specs.Film.{IsFilm, LiesIn}
 use Rattle.strip_film.specs.Path.{IsPath, PathData}
 use Rattle.strip_film.specs.Ranks.{IsSooner}

@@ -1,8 +1,8 @@
 -- The children of a path that are walked, and what the others reach.
 use Rattle.std.specs.Prelude.{◌≡◌, ℕ, ◌+◌, ◌≤◌, true, false, List, Contains}
 use Rattle.strip_mask.specs.Set.{has, without}
-use Rattle.strip_kind.specs.declared.kind.Kind.{Kind}
-use Rattle.strip_pay.specs.Film.{FilmData}
+use Rattle.strip_model.specs.declared.kind.Kind.{Kind}
+use Rattle.strip_model.specs.Film.{FilmData}
 use Rattle.strip_film.specs.Path.{PathData}
 use Rattle.strip_film.specs.Rules.{rank}
 use Rattle.strip_film.specs.Shoot.{step_cost}

@@ -1,7 +1,7 @@
 -- Elements of lists, of mapped lists and of filtered ones.
 use Rattle.std.proofs.Common.{◌≡◌, ◌↔◌, zero, suc, Option, None, Some, List, [], ◌∷◌, map, All, Any, Contains, ◌⊎◌, inl, inr, refl, sym, ap, subst, arith}
 use Rattle.std.specs.List.{filter_map, cons_option}
-use Rattle.strip_pay.proofs.Lists.{contains_none, contains_here, contains_later, contains_cases}
+use Rattle.strip_model.proofs.Lists.{contains_none, contains_here, contains_later, contains_cases}
 use Rattle.std.proofs.lemmas.List.Elements.{All-nil, All-cons, All-head, All-tail, All-map}
 
 pub any_none : {X : Type 0} (P : X → Type 0) → Any P [] → ⊥

@@ -6,7 +6,7 @@ use Rattle.std.proofs.lemmas.Slice.Eq.{bytes_eq-Decides}
 use Rattle.std.proofs.lemmas.Bool.{and_parts, not-true}
 use Rattle.strip_words.specs.Words.{Word, Command, Item, Operand, Joined, Apart, Flag, IsPlain, BelongsTo}
 use Rattle.strip_words.specs.Reader.{Begins, is_option_name, has_names}
-use Rattle.strip_pay.proofs.Lists.{any_from, contains_here, contains_later}
+use Rattle.strip_model.proofs.Lists.{any_from, contains_here, contains_later}
 
 -- two hyphens and more, no equals sign
 pub record IsName (word : Word) : Type 0 where

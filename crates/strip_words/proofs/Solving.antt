@@ -2,14 +2,14 @@
 use Rattle.std.proofs.Common.{◌≡◌, ◌≤◌, ℕ, false, true≢false, bytes_eq, List, Option, None, Some, Contains, inl, inr, rules, refl, sym, ap, subst, arith, ◌∙◌}
 use Rattle.std.proofs.lemmas.List.Elements.{recursion_from_All}
 use Rattle.std.proofs.lemmas.Slice.Eq.{bytes_eq-Decides}
-use Rattle.strip_kind.specs.declared.kind.Kind.{Kind}
-use Rattle.strip_kind.specs.declared.kind.Kind.TheVariants.{Plain, Pairs, Groups, Arrivals}
+use Rattle.strip_model.specs.declared.kind.Kind.{Kind}
+use Rattle.strip_model.specs.declared.kind.Kind.TheVariants.{Plain, Pairs, Groups, Arrivals}
 use Rattle.strip_words.specs.Words.{Word, Item, AreDistinct, IsSpelled, options_in}
 use Rattle.strip_words.specs.Options.{IsChosen, IsNumber, IsPicked}
 use Rattle.strip_words.specs.declared.item.Item.{Item as CodeItem}
 use Rattle.strip_words.specs.Shown.{items_data}
 use Rattle.strip_words.specs.Solve.{AreWorkers, all_workers, nodes_for, solve, workers_option, table_option, tries_option, steps_option, bounds_option, bound_word, SolveData, SayJob, NameSolve}
-use Rattle.strip_pay.proofs.Lists.{same_test}
+use Rattle.strip_model.proofs.Lists.{same_test}
 use Rattle.strip_words.proofs.Given.{chosen_once, given_number_once, not_chosen, picked_once}
 use Rattle.strip_words.proofs.Spelled.{said}
 

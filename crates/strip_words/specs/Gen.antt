@@ -3,7 +3,7 @@ use Rattle.std.specs.Prelude.{◌≡◌, ℕ, ◌≤◌, Option, List, [], ◌�
 use Rattle.strip_words.specs.Words.{Word, Command, Item, IsSpelled, operands_of}
 use Rattle.strip_words.specs.Options.{IsNumber, IsChosen, IsGiven, IsPicked}
 use Rattle.strip_words.specs.Solve.{nodes_option, table_option, tries_option, steps_option, bounds_option, bound_word}
-use Rattle.strip_kind.specs.declared.kind.Kind.{Kind}
+use Rattle.strip_model.specs.declared.kind.Kind.{Kind}
 
 -- a film that is made from a number: how many scenes it has, and how many actors
 pub record GenData : Type 0 where

@@ -2,8 +2,8 @@
 use Rattle.std.specs.Prelude.{◌≡◌, ◌↔◌, ℕ, Bool, true, if◌then◌else◌, Option, None, Some, List, [], ◌∷◌, Any, Contains, codes}
 use Rattle.strip_words.specs.Words.{Word, Command, Item, Flag, IsSpelled, operands_of}
 use Rattle.strip_words.specs.Options.{NumberOption, FreeOption, ChoiceOption, Gives, IsLeftOut, IsChosen, IsGiven, IsPicked}
-use Rattle.strip_kind.specs.declared.kind.Kind.{Kind}
-use Rattle.strip_kind.specs.declared.kind.Kind.TheVariants.{Plain, Pairs, Groups, Arrivals}
+use Rattle.strip_model.specs.declared.kind.Kind.{Kind}
+use Rattle.strip_model.specs.declared.kind.Kind.TheVariants.{Plain, Pairs, Groups, Arrivals}
 
 abbrev pub workers_option : NumberOption
 workers_option = record { name = codes "--workers"; least = 1; most = 64; default = 1 }

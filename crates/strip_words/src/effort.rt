@@ -1,6 +1,6 @@
 // The options of a search that `solve` and `trial` have in common.
 ghost use Rattle.std.specs.Prelude.{ℕ, Option, IfOk, IfErr};
-ghost use Rattle.strip_kind.specs.declared.kind.Kind.{Kind as StaticBound};
+ghost use Rattle.strip_model.specs.declared.kind.Kind.{Kind as StaticBound};
 ghost use Rattle.strip_words.specs.Words.{AreDistinct, options_in};
 ghost use Rattle.strip_words.specs.Options.{IsChosen, IsGiven, IsPicked};
 ghost use Rattle.strip_words.specs.Solve.{table_option, tries_option, steps_option, bounds_option, bound_word};
@@ -9,7 +9,7 @@ ghost use Rattle.strip_words.specs.Shown.{items_data};
 use crate::WordsFault;
 use crate::item::Item;
 use crate::solve::{BOUNDS, STEPS, TABLE, TRIES, kind_of};
-use strip_kind::Kind;
+use strip_model::Kind;
 
 /// The values of the options that `solve` and `trial` have in common.
 #[derive(Clone, Copy)]

@@ -11,7 +11,7 @@ use crate::number::number_of;
 use crate::reader::read;
 use crate::solve::{BOUNDS, NODES, STEPS, TABLE, TRIES};
 use std::alloc::Global;
-use strip_kind::Kind;
+use strip_model::Kind;
 
 const GEN: Command = Command {
     word: "gen",

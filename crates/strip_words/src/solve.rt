@@ -14,7 +14,7 @@ use crate::number::number_of;
 use crate::options::{has_flag, is_left_out, value_of};
 use crate::reader::read;
 use std::alloc::Global;
-use strip_kind::Kind;
+use strip_model::Kind;
 
 const SOLVE: Command = Command {
     word: "solve",

@@ -2,8 +2,8 @@
 use Rattle.std.proofs.Common.{◌≡◌, ℕ, suc, ◌<◌, Bool, true, Some, Result, Ok, List, length, map, slice_index_or, slice_set, false, ◌||◌, inl, refl, sym, ap, ◌∙◌, subst, arith, All}
 use Rattle.std.proofs.lemmas.List.{get_or-map, get_or_default, length-map}
 use Rattle.strip_film.specs.Rules.{IsOpen}
-use Rattle.strip_kind.specs.declared.kind.Kind.{Kind}
-use Rattle.strip_pay.specs.Film.{FilmData}
+use Rattle.strip_model.specs.declared.kind.Kind.{Kind}
+use Rattle.strip_model.specs.Film.{FilmData}
 use Rattle.strip_io.specs.declared.files.Memory.{Memory}
 use Rattle.strip_film.specs.declared.path.Path.{Path}
 use Rattle.strip_film.specs.Path.{PathData}

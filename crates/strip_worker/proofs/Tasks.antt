@@ -1,8 +1,8 @@
 -- A task of the front is open, and may be walked from where its part begins.
 use Rattle.std.proofs.Common.{◌≡◌, ℕ, suc, ◌<◌, true, Some, List, length, nat_eq, slice_index_or, All, sym, subst, arith}
 use Rattle.std.specs.List.{starts_with}
-use Rattle.strip_kind.specs.declared.kind.Kind.{Kind}
-use Rattle.strip_pay.specs.Film.{FilmData}
+use Rattle.strip_model.specs.declared.kind.Kind.{Kind}
+use Rattle.strip_model.specs.Film.{FilmData}
 use Rattle.strip_film.specs.Path.{PathData}
 use Rattle.strip_film.specs.Rules.{IsOpen}
 use Rattle.strip_lines.specs.Lines.{rules_of}

@@ -1,7 +1,7 @@
 // Reports of a running search.
 
 use strip_hand::Tally;
-use strip_kind::Kind;
+use strip_model::Kind;
 
 /// The state of a search: the best order's cost and the bound of all orders proved so far, if there is one, in units of
 /// money. There are `lines` lines, out of at most `most`.

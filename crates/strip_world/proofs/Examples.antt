@@ -5,10 +5,10 @@ use Rattle.std.proofs.lemmas.List.Elements.{All-cons, All-nil}
 use Rattle.std.proofs.lemmas.List.Kept.{AllPairs-cons}
 use Rattle.strip_mask.specs.Set.{LiesBelow, has, union, meet, minus, with, without, members, numbers_below, sum_over, full}
 use Rattle.strip_mask.proofs.Below.{lies_by_minus}
-use Rattle.strip_kind.specs.declared.kind.Kind.TheVariants.{Plain}
-use Rattle.strip_pay.specs.Film.{FilmData}
-use Rattle.strip_pay.specs.Pairs.{IsChain, IsKnownPair}
-use Rattle.strip_pay.proofs.Lists.{contains_none}
+use Rattle.strip_model.specs.declared.kind.Kind.TheVariants.{Plain}
+use Rattle.strip_model.specs.Film.{FilmData}
+use Rattle.strip_model.specs.Pairs.{IsChain, IsKnownPair}
+use Rattle.strip_model.proofs.Lists.{contains_none}
 use Rattle.strip_film.specs.declared.shared.Known.{Known}
 use Rattle.strip_film.specs.declared.shared.Listed.TheVariants.{Line as NewLine, Spent}
 use Rattle.strip_film.specs.declared.shared.Noted.TheVariants.{Fresh}

@@ -3,7 +3,7 @@ use Rattle.std.proofs.Common.{◌≡◌, ◌≢◌, ℕ, ◌+◌, ◌<◌, max, 
 use Rattle.std.proofs.lemmas.Bool.{eq-eqb, ne_eqb}
 use Rattle.std.proofs.lemmas.List.{take_more}
 use Rattle.std.proofs.lemmas.List.Elements.{Contains-append_cases}
-use Rattle.strip_pay.proofs.Lists.{contains_cases, contains_none}
+use Rattle.strip_model.proofs.Lists.{contains_cases, contains_none}
 use Rattle.strip_film.specs.declared.shared.Line.{Line}
 use Rattle.strip_film.specs.Rules.{Rules}
 use Rattle.strip_lines.specs.Lines.{known, line_at, no_line}

@@ -4,7 +4,7 @@ use Rattle.std.specs.List.{starts_with}
 use Rattle.std.proofs.lemmas.List.{get_or-map, take_more}
 use Rattle.strip_mask.specs.Set.{LiesBelow, has, without}
 use Rattle.strip_mask.proofs.Below.{LiesBelow-full}
-use Rattle.strip_pay.specs.Film.{FilmData}
+use Rattle.strip_model.specs.Film.{FilmData}
 use Rattle.strip_film.specs.declared.path.Path.{Path}
 use Rattle.strip_film.specs.Film.{LiesIn, all_scenes}
 use Rattle.strip_film.specs.Finish.{AreFirsts, Remained, rest_after}

@@ -1,7 +1,7 @@
 -- The world that a search opens with, and its limits.
 use Rattle.std.specs.Prelude.{suc, ◌/◌, ◌≤◌, None, List, [], length, replicate}
-use Rattle.strip_kind.specs.declared.kind.Kind.{Kind}
-use Rattle.strip_pay.specs.Film.{FilmData}
+use Rattle.strip_model.specs.declared.kind.Kind.{Kind}
+use Rattle.strip_model.specs.Film.{FilmData}
 use Rattle.strip_film.specs.Path.{PathData}
 use Rattle.strip_world.specs.declared.event.Limits.{Limits}
 use Rattle.strip_hand.specs.Search.{SearchData}

@@ -15,7 +15,7 @@ use crate::world::World;
 use std::alloc::{AllocError, Global};
 use strip_film::{Film, Path};
 use strip_io::Memory;
-use strip_kind::Kind;
+use strip_model::Kind;
 use strip_table::{STRIPES, Stripe};
 
 impl World {

@@ -1,6 +1,6 @@
 // Running a list of events.
 ghost use Rattle.std.specs.Prelude.{◌≡◌, ℕ, ◌<◌, ◌≤◌, length, Contains};
-ghost use Rattle.strip_pay.specs.Pay.{IsOptimum};
+ghost use Rattle.strip_model.specs.Pay.{IsOptimum};
 ghost use Rattle.strip_film.specs.declared.shared.Known.{Known};
 ghost use Rattle.strip_film.specs.Finish.{IsAtMostFinish};
 ghost use Rattle.strip_bound.specs.StoredBound.{Keeps};

@@ -9,7 +9,7 @@ ghost use Rattle.strip_world.specs.World.{stripe_at, worker_at};
 use crate::state::{Part, Worker};
 use std::marker::Model;
 use strip_film::{Film, Line, Path};
-use strip_kind::Kind;
+use strip_model::Kind;
 use strip_table::{Bucket, Stripe};
 
 /// The world of a search: the least cost, the lines, the table, and each part's claimer. For each worker it has the

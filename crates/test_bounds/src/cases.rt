@@ -5,9 +5,8 @@ use std::alloc::Global;
 use std::test::Fail;
 use strip_bound::{BoundTables, StoredBound, static_reach};
 use strip_film::Film;
-use strip_kind::Kind;
 use strip_mask::Mask;
-use strip_pay::Pair;
+use strip_model::{Kind, Pair};
 
 /// Makes the film of these lists.
 pub(crate) fn film_of(

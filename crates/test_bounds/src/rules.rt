@@ -4,7 +4,7 @@ use std::alloc::Global;
 use std::test::Fail;
 use strip_film::Film;
 use strip_mask::Mask;
-use strip_pay::Pair;
+use strip_model::Pair;
 use strip_rule::{open_firsts, yields};
 
 struct Row {

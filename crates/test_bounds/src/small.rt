@@ -6,8 +6,8 @@ use std::alloc::Global;
 use std::test::Fail;
 use strip_bound::{BoundTables, StoredBound, plain, static_reach};
 use strip_film::Film;
-use strip_kind::Kind;
 use strip_mask::Mask;
+use strip_model::Kind;
 
 #[derive(Drop)]
 struct Row {

@@ -4,7 +4,7 @@ use crate::lists::{Lists, instance_of};
 use std::alloc::Global;
 use std::test::Fail;
 use strip_film::Film;
-use strip_pay::Pair;
+use strip_model::Pair;
 use strip_reduce::reduce;
 
 /// A film, the scenes of each class, the cost set apart, and the film of the classes.

@@ -7,7 +7,7 @@ use Rattle.std.proofs.lemmas.List.Sums.{AllPass-from_list_all}
 use Rattle.strip_mask.specs.Set.{full, has, meet, members, minus, numbers_below, sum_over, union, with, without}
 use Rattle.strip_mask.proofs.Below.{lies_by_minus}
 use Rattle.strip_mask.proofs.Members.{Contains-members}
-use Rattle.strip_kind.specs.declared.kind.Kind.TheVariants.{Pairs, Plain}
+use Rattle.strip_model.specs.declared.kind.Kind.TheVariants.{Pairs, Plain}
 use Rattle.strip_film.specs.declared.shared.Line.{Line}
 use Rattle.strip_film.specs.Film.{LiesIn}
 use Rattle.strip_film.specs.Rules.{Rules}

@@ -1,7 +1,7 @@
 -- A search over a hand, on its way from the front through the tasks.
 use Rattle.std.specs.Prelude.{◌≡◌, ℕ, List, length}
-use Rattle.strip_kind.specs.declared.kind.Kind.{Kind}
-use Rattle.strip_pay.specs.Film.{FilmData}
+use Rattle.strip_model.specs.declared.kind.Kind.{Kind}
+use Rattle.strip_model.specs.Film.{FilmData}
 use Rattle.strip_lines.specs.Lines.{rules_of}
 use Rattle.strip_hand.specs.Hand.{HandData, IsSearchOf}
 use Rattle.strip_front.specs.Calls.{AreFound}

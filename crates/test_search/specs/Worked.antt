@@ -1,6 +1,6 @@
 -- Films and lines that were worked by hand.
 use Rattle.std.specs.Prelude.{List, [], ◌∷◌}
-use Rattle.strip_pay.specs.Film.{FilmData}
+use Rattle.strip_model.specs.Film.{FilmData}
 use Rattle.strip_film.specs.Film.{film_data}
 use Rattle.strip_film.specs.declared.shared.Line.{Line}
 

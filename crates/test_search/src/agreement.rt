@@ -8,7 +8,7 @@ use std::alloc::Global;
 use std::test::Fail;
 use strip_exhaustive::cheapest_order;
 use strip_film::{Film as Classes, Line};
-use strip_kind::Kind;
+use strip_model::Kind;
 use strip_reduce::reduce;
 use strip_start::{greedy, improve};
 use strip_worker::Ended;

@@ -2,7 +2,7 @@
 use std::alloc::Global;
 use std::test::Fail;
 use strip_film::Film;
-use strip_pay::Pair;
+use strip_model::Pair;
 
 /// Makes the film of these lists, or returns none if they break the limits.
 pub(crate) fn film_of(

@@ -13,8 +13,8 @@ use strip_bound::{BoundTables, StoredBound, static_reach};
 use strip_film::{Film, Path};
 use strip_front::laws::tasks_are_starts;
 use strip_front::make_front;
-use strip_kind::Kind;
 use strip_mask::Mask;
+use strip_model::Kind;
 use strip_start::{greedy, improve};
 use strip_world::{Limits, World};
 

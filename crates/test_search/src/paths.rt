@@ -8,7 +8,7 @@ use std::alloc::Global;
 use std::test::Fail;
 use strip_film::{Cursor, Film, Path, cast_of, laws, on, ready};
 use strip_mask::Mask;
-use strip_pay::Pair;
+use strip_model::Pair;
 
 fn pair(first: u16, then: u16) -> Pair {
     Pair { first, then }

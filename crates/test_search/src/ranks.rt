@@ -3,7 +3,7 @@ use crate::films::eight;
 use crate::paths::path;
 use crate::searched::searched;
 use std::test::Fail;
-use strip_kind::Kind;
+use strip_model::Kind;
 
 // The initial order costs 83, and a cheapest order 51. With group bounds, children are ordered by step plus static
 // bound of the rest, which takes 21 lines; by scene numbers it would take 71. An independent program of the same rules

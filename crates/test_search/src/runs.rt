@@ -5,7 +5,7 @@ use std::alloc::Global;
 use std::test::Fail;
 use std::thread::Threads;
 use strip_film::{Film, Path};
-use strip_pay::Pair;
+use strip_model::Pair;
 use strip_start::{greedy, improve, vary, vary_beside};
 
 /// Number of moves in three runs.

@@ -4,7 +4,7 @@ use crate::films::film_of;
 use std::alloc::Global;
 use std::test::Fail;
 use strip_film::Film;
-use strip_pay::Pair;
+use strip_model::Pair;
 use strip_start::{greedy, improve};
 
 struct Row {

@@ -8,8 +8,8 @@ use std::test::Fail;
 use strip_bound::{BoundTables, StoredBound, static_reach};
 use strip_film::Film;
 use strip_front::{Front, make_front};
-use strip_kind::Kind;
 use strip_mask::Mask;
+use strip_model::Kind;
 
 /// Tells whether the front's tasks are the paths of these scenes, in this order.
 fn are_along(front: &Front, scenes: &[&[u8]]) -> bool {

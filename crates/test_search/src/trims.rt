@@ -8,9 +8,9 @@ use std::alloc::Global;
 use std::test::Fail;
 use strip_bound::{BoundTables, StoredBound, static_reach};
 use strip_film::{Film, Line};
-use strip_kind::Kind;
 use strip_mask::Mask;
 use strip_memo::Memo;
+use strip_model::Kind;
 use strip_trim::trim;
 
 fn triangle(alloc: Global) -> Result<Film, Fail>

@@ -12,8 +12,8 @@ use Rattle.strip_count.specs.Parts.{lies_in, no_task}
 use Rattle.strip_hand.specs.Search.{depth_of}
 use Rattle.test_workers.specs.Team.{IsOfWholes}
 use Rattle.strip_mask.proofs.Lists.{contains_cases, contains_none}
-use Rattle.strip_kind.specs.declared.kind.Kind.{Kind}
-use Rattle.strip_pay.specs.Film.{FilmData}
+use Rattle.strip_model.specs.declared.kind.Kind.{Kind}
+use Rattle.strip_model.specs.Film.{FilmData}
 use Rattle.strip_film.specs.Film.{all_scenes}
 use Rattle.strip_film.specs.Finish.{AreFirsts}
 use Rattle.strip_film.specs.Path.{IsPath, PathData}

@@ -1,6 +1,6 @@
 -- What a worker of a test has made.
 use Rattle.std.specs.Prelude.{◌≡◌, ℕ, ◌<◌, length}
-use Rattle.strip_pay.specs.Film.{FilmData}
+use Rattle.strip_model.specs.Film.{FilmData}
 use Rattle.strip_film.specs.Film.{all_scenes}
 use Rattle.strip_lines.specs.Lines.{line_at}
 use Rattle.strip_hand.specs.Hand.{HandData}

@@ -1,7 +1,7 @@
 -- What the workers of a test hold.
 use Rattle.std.specs.Prelude.{◌≡◌, ℕ, ◌≤◌, None, List, [], length, slice_index_or}
-use Rattle.strip_kind.specs.declared.kind.Kind.{Kind}
-use Rattle.strip_pay.specs.Film.{FilmData}
+use Rattle.strip_model.specs.declared.kind.Kind.{Kind}
+use Rattle.strip_model.specs.Film.{FilmData}
 use Rattle.strip_count.specs.Parts.{no_task}
 use Rattle.strip_hand.specs.Search.{GoesBy, SearchData}
 use Rattle.strip_book.specs.declared.book.Book.{Book}

@@ -23,8 +23,8 @@ use strip_book::{Book, BookPass};
 use strip_bound::{BoundTables, StoredBound, static_reach};
 use strip_film::{Film, Known, Line, Listed, Noted, Path, Probe, ready, step};
 use strip_io::Memory;
-use strip_kind::Kind;
 use strip_mask::Mask;
+use strip_model::Kind;
 use strip_rule::open_firsts;
 use strip_stripes::{Named, Stripes};
 

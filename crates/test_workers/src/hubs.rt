@@ -24,9 +24,9 @@ use strip_bound::{BoundTables, StoredBound, static_reach};
 use strip_film::{Cursor, Film, Known, Listed, Noted, Path, Probe};
 use strip_hand::Hand;
 use strip_hub::{Hub, HubParts, Source};
-use strip_kind::Kind;
 use strip_least::Least;
 use strip_mask::Mask;
+use strip_model::Kind;
 use strip_stripes::{Named, Stripes};
 
 /// Makes a film of two actors who work alone and then together, at 10 and 20 a day, also for waiting.

@@ -10,7 +10,7 @@ use std::thread;
 use std::thread::Threads;
 use strip_film::{Film, Path, laws, ready};
 use strip_least::{Least, LeastPass};
-use strip_pay::Pair;
+use strip_model::Pair;
 
 /// Makes the film of these lists, in which waiting is paid like work.
 pub(crate) fn film_of(

@@ -7,7 +7,7 @@ use std::sync::atomic::{AtomicU32, Ordering};
 use std::test::Fail;
 use std::thread;
 use std::thread::Threads;
-use strip_kind::Kind;
+use strip_model::Kind;
 use strip_progress::Progress;
 use strip_worker::{Gate, Limit, Stage, Standing};
 

@@ -18,9 +18,9 @@ use std::thread::Threads;
 use strip_bound::{BoundTables, StoredBound, static_reach};
 use strip_crew::race;
 use strip_film::{Film, Path};
-use strip_kind::Kind;
 use strip_mask::Mask;
 use strip_memo::Memo;
+use strip_model::Kind;
 use strip_worker::{Ended, OpenGate};
 use strip_world::Limits;
 

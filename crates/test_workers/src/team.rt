@@ -16,8 +16,8 @@ use strip_bound::{BoundTables, StoredBound, static_reach};
 use strip_check::{Verdict, check};
 use strip_film::{Line, Listed, Path};
 use strip_instance::read_instance;
-use strip_kind::Kind;
 use strip_mask::Mask;
+use strip_model::Kind;
 use strip_proof::{Plan, Status};
 
 const WORKERS: u32 = 4;

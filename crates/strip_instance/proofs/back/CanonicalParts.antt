@@ -2,7 +2,7 @@
 use Rattle.std.proofs.Common.{◌≡◌, ℕ, Bool, true, false, not, ◌||◌, List, [], ◌∷◌, ◌++◌, length, map, drop, All, Some, None, refl, ap, ◌∙◌, codes, if◌then◌else◌}
 use Rattle.std.proofs.lemmas.List.Elements.{All-head, All-tail}
 use Rattle.std.proofs.Math.Seq.{drop-append_seam}
-use Rattle.strip_pay.specs.declared.pair.Pair.{Pair}
+use Rattle.strip_model.specs.declared.pair.Pair.{Pair}
 use Rattle.strip_model.specs.Data.{SceneData, ActorData, InstanceData}
 use Rattle.strip_text.specs.Field.{Field}
 use Rattle.strip_text.specs.Rows.{Row, field_of, row_of}

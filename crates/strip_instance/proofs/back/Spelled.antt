@@ -7,7 +7,7 @@ use Rattle.std.proofs.lemmas.List.{ext_get_or, get_or-map, length-map}
 use Rattle.std.proofs.lemmas.List.Elements.{All-append, All-cons, All-head, All-tail, All-map, All-weaker}
 use Rattle.std.proofs.lemmas.List.FromFn.{get_or-map-range_with_len, length-map-range_with_len}
 use Rattle.std.proofs.lemmas.Simd.{map-map}
-use Rattle.strip_pay.specs.Pairs.{FitPairs}
+use Rattle.strip_model.specs.Pairs.{FitPairs}
 use Rattle.strip_model.specs.Data.{SceneData, ActorData, InstanceData, IsInstance, IsScene, IsActor}
 use Rattle.strip_text.specs.Field.{Field, trimmed}
 use Rattle.strip_text.specs.Number.{number_of}

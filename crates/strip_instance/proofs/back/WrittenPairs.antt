@@ -7,9 +7,9 @@ use Rattle.std.proofs.lemmas.List.{get_or-map, length-map, take-map, take_more}
 use Rattle.std.proofs.lemmas.List.Elements.{All-head, All-tail, All-map, All-weaker}
 use Rattle.std.proofs.lemmas.List.Sums.{position_or_len_is}
 use Rattle.std.proofs.lemmas.Slice.Eq.{bytes_eq-Decides}
-use Rattle.strip_pay.specs.declared.pair.Pair.{Pair}
-use Rattle.strip_pay.specs.Pairs.{FitPairs, IsKnownPair}
-use Rattle.strip_pay.proofs.Fits.{fit-take, last_not_back}
+use Rattle.strip_model.specs.declared.pair.Pair.{Pair}
+use Rattle.strip_model.specs.Pairs.{FitPairs, IsKnownPair}
+use Rattle.strip_model.proofs.Fits.{fit-take, last_not_back}
 use Rattle.strip_text.specs.Field.{Field, trimmed}
 use Rattle.strip_text.specs.Checks.{first_fault}
 use Rattle.strip_text.specs.Rows.{Row, field_of, row_of}

@@ -4,11 +4,11 @@ use Rattle.std.specs.List.{list_any}
 use Rattle.std.proofs.lemmas.Bool.{cases_Bool, cond-true, cond-false, false≢true}
 use Rattle.std.specs.String.{string_bytes}
 use Rattle.std.proofs.lemmas.List.{get_or-map, length-map, map-append, take_more}
-use Rattle.strip_pay.specs.declared.pair.Pair.{Pair}
-use Rattle.strip_pay.specs.Pairs.{FitPairs, IsChain, IsKnownPair, Leads}
-use Rattle.strip_pay.proofs.Fits.{fit-push}
-use Rattle.strip_pay.proofs.Leads.{no_chain}
-use Rattle.strip_pay.proofs.Lists.{any_from, any_is}
+use Rattle.strip_model.specs.declared.pair.Pair.{Pair}
+use Rattle.strip_model.specs.Pairs.{FitPairs, IsChain, IsKnownPair, Leads}
+use Rattle.strip_model.proofs.Fits.{fit-push}
+use Rattle.strip_model.proofs.Leads.{no_chain}
+use Rattle.strip_model.proofs.Lists.{any_from, any_is}
 use Rattle.strip_instance.specs.Ways.{IsShortestWay, IsWay}
 use Rattle.strip_model.specs.declared.scene.Scene.{Scene}
 use Rattle.strip_model.specs.Data.{SceneData}

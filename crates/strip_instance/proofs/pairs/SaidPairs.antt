@@ -7,8 +7,8 @@ use Rattle.std.specs.String.{string_bytes}
 use Rattle.std.proofs.lemmas.List.{append-nil, length-map}
 use Rattle.std.proofs.lemmas.List.Elements.{filter-append, filter_map-append}
 use Rattle.std.proofs.lemmas.Map.Views.{any-filter_same}
-use Rattle.strip_pay.specs.declared.pair.Pair.{Pair}
-use Rattle.strip_pay.specs.Pairs.{IsKnownPair}
+use Rattle.strip_model.specs.declared.pair.Pair.{Pair}
+use Rattle.strip_model.specs.Pairs.{IsKnownPair}
 use Rattle.strip_model.specs.declared.scene.Scene.{Scene}
 use Rattle.strip_model.specs.Data.{SceneData}
 use Rattle.strip_model.specs.Instance.{scene_data}

@@ -4,12 +4,12 @@ use Rattle.std.specs.Option.{option_or}
 use Rattle.std.proofs.lemmas.Bool.{cases_lt, and_parts, cases_Bool, cond-true, cond-false, eq-eqb, eqb-true, false≢true}
 use Rattle.std.proofs.lemmas.List.{length-append}
 use Rattle.std.proofs.lemmas.List.Elements.{All-nil, All-cons, All-contains}
-use Rattle.strip_pay.specs.declared.pair.Pair.{Pair}
-use Rattle.strip_pay.specs.Order.{IsBefore}
-use Rattle.strip_pay.specs.Pairs.{HasCycle, IsChain, IsKnownPair, Precedes}
-use Rattle.strip_pay.proofs.Before.{before-itself, before_trans}
-use Rattle.strip_pay.proofs.Chains.{cycle_from_long}
-use Rattle.strip_pay.proofs.Lists.{any_from, any_is}
+use Rattle.strip_model.specs.declared.pair.Pair.{Pair}
+use Rattle.strip_model.specs.Order.{IsBefore}
+use Rattle.strip_model.specs.Pairs.{HasCycle, IsChain, IsKnownPair, Precedes}
+use Rattle.strip_model.proofs.Before.{before-itself, before_trans}
+use Rattle.strip_model.proofs.Chains.{cycle_from_long}
+use Rattle.strip_model.proofs.Lists.{any_from, any_is}
 use Rattle.strip_instance.specs.Ways.{IsShortestWay, IsWay}
 use Rattle.strip_instance.specs.Befores.{first_below, least_way, precedes, same_pair, shortest_way}
 

@@ -2,8 +2,8 @@
 use Rattle.std.proofs.Common.{◌≡◌, ℕ, Bool, List, length, take, ap, sym, ◌∙◌, subst, arith}
 use Rattle.std.proofs.Math.Seq.{take-append_seam}
 use Rattle.std.proofs.lemmas.List.{length-append}
-use Rattle.strip_pay.specs.declared.pair.Pair.{Pair}
-use Rattle.strip_pay.specs.Pairs.{FitPairs}
+use Rattle.strip_model.specs.declared.pair.Pair.{Pair}
+use Rattle.strip_model.specs.Pairs.{FitPairs}
 use Rattle.strip_text.specs.Field.{Field}
 use Rattle.strip_text.specs.Rows.{Row}
 use Rattle.strip_instance.specs.Checks.{Checks}

@@ -1,7 +1,7 @@
 -- No check of a text's rows has want of memory for its fault.
 use Rattle.std.proofs.Common.{◌≡◌, ◌≢◌, ℕ, ◌+◌, List, [], ◌∷◌, ◌++◌, length, take, Option, None, Some, Err}
 use Rattle.strip_instance.specs.Fault.{FaultData, BadRate, BadHold, Memory}
-use Rattle.strip_pay.specs.declared.pair.Pair.{Pair}
+use Rattle.strip_model.specs.declared.pair.Pair.{Pair}
 use Rattle.strip_text.specs.Field.{Field}
 use Rattle.strip_text.specs.Checks.{first_fault}
 use Rattle.strip_text.proofs.Spared.{Spares, spares-nil, spares-cons, spares-append, spares-below, spares-if}

@@ -6,7 +6,7 @@ use Rattle.std.proofs.lemmas.List.{length-drop, length-map, length_push, get_or-
 use Rattle.std.proofs.lemmas.List.FromFn.{get_or-map-range_with_len, length-map-range_with_len}
 use Rattle.std.proofs.lemmas.List.Elements.{All-push}
 use Rattle.std.proofs.lemmas.List.Quantifiers.{all_pairs_push}
-use Rattle.strip_pay.specs.Pairs.{FitPairs}
+use Rattle.strip_model.specs.Pairs.{FitPairs}
 use Rattle.strip_model.specs.Data.{ActorData, SceneData, IsActor, IsScene, IsInstance}
 use Rattle.strip_instance.specs.Fault.{FaultData, BadRate, BadHold}
 use Rattle.strip_text.specs.Field.{Field}

@@ -2,7 +2,7 @@
 use Rattle.std.proofs.Common.{◌≡◌, ◌+◌, ◌-◌, ℕ, List, [], ◌∷◌, ◌++◌, length, map, drop, get_or, codes, None, sym, ap, ◌∙◌, subst, arith}
 use Rattle.std.specs.Str.{bytes_eq}
 use Rattle.std.proofs.lemmas.List.{drop-drop, get_or-drop, length-drop}
-use Rattle.strip_kind.specs.declared.kind.Kind.{Kind}
+use Rattle.strip_model.specs.declared.kind.Kind.{Kind}
 use Rattle.strip_film.specs.declared.shared.Line.{Line}
 use Rattle.strip_model.specs.Data.{InstanceData}
 use Rattle.strip_text.specs.Number.{number_of}

@@ -3,7 +3,7 @@ use Rattle.std.proofs.lemmas.List.{length-map}
 use Rattle.strip_mask.specs.Sums.{sum_below}
 use Rattle.strip_mask.proofs.Sums.{sum_below-zero, sum_below-more}
 use Rattle.strip_model.specs.Data.{ActorData}
-use Rattle.strip_model.specs.Film.{film_of}
+use Rattle.strip_model.specs.FilmOf.{film_of}
 use Rattle.strip_board.specs.Html.{row_text}
 use Rattle.strip_board.specs.Actors.{actor_cells, earned_by}
 use Rattle.strip_board.proofs.Pieces.{place_next}

@@ -1,7 +1,7 @@
 use Rattle.std.proofs.Common.{◌≡◌, ◌*◌, ◌++◌, ◌≤◌, map}
 use Rattle.std.specs.List.{range_with_len}
 use Rattle.strip_mask.specs.Sums.{sum_below}
-use Rattle.strip_model.specs.Film.{film_of}
+use Rattle.strip_model.specs.FilmOf.{film_of}
 use Rattle.strip_board.specs.Html.{rows_text}
 use Rattle.strip_board.specs.Actors.{actor_cells, earned_by}
 use Rattle.strip_board.proofs.actors.push_rows.Given as goal

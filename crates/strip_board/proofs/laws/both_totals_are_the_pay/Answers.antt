@@ -1,6 +1,6 @@
 use Rattle.std.proofs.Common.{◌*◌, length, slice_index, sym, ◌∙◌}
 use Rattle.strip_mask.proofs.Sums.{sum_below-add}
-use Rattle.strip_model.specs.Film.{film_of}
+use Rattle.strip_model.specs.FilmOf.{film_of}
 use Rattle.strip_reports.specs.Days.{crews_of, hold_days, work_days}
 use Rattle.strip_reports.proofs.Paid.{total_pay}
 use Rattle.strip_reports.proofs.Total.{total_is_pay}

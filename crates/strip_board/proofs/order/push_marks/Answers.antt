@@ -1,5 +1,5 @@
 use Rattle.std.proofs.Common.{◌+◌, map, ◌∙◌}
-use Rattle.strip_model.specs.Film.{film_of}
+use Rattle.strip_model.specs.FilmOf.{film_of}
 use Rattle.strip_board.specs.Board.{mark_at, mark_of}
 use Rattle.strip_board.specs.Cells.{cell_data}
 use Rattle.strip_board.proofs.Columns.{cell_next}

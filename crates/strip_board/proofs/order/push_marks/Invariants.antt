@@ -1,6 +1,6 @@
 use Rattle.std.proofs.Common.{◌≡◌, ◌++◌, map}
 use Rattle.std.specs.List.{range_with_len}
-use Rattle.strip_model.specs.Film.{film_of}
+use Rattle.strip_model.specs.FilmOf.{film_of}
 use Rattle.strip_board.specs.Board.{mark_at}
 use Rattle.strip_board.specs.Cells.{cell_data}
 use Rattle.strip_board.proofs.order.push_marks.Given as goal

@@ -1,7 +1,7 @@
 use Rattle.std.proofs.Common.{◌≡◌, ℕ, ◌+◌, List, [], ◌∷◌, ◌++◌, if◌then◌else◌, length, map, ap, ◌∙◌, arith}
 use Rattle.std.proofs.lemmas.Result.{on_ok_weaker}
-use Rattle.strip_pay.proofs.Counts.{length-order}
-use Rattle.strip_model.specs.Film.{film_of}
+use Rattle.strip_model.proofs.Counts.{length-order}
+use Rattle.strip_model.specs.FilmOf.{film_of}
 use Rattle.strip_reports.specs.declared.figures.Figures.{Figures}
 use Rattle.strip_board.specs.Board.{columns, is_last, mark_at}
 use Rattle.strip_board.specs.Cells.{cell_data}

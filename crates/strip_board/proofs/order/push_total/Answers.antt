@@ -2,7 +2,7 @@ use Rattle.std.proofs.Common.{◌≡◌, ℕ, ◌-◌, [], ◌∷◌, ◌++◌, 
 use Rattle.std.specs.List.{range_with_len}
 use Rattle.std.proofs.lemmas.List.{map-append}
 use Rattle.std.proofs.lemmas.Result.{on_ok_weaker}
-use Rattle.strip_pay.proofs.Counts.{length-order}
+use Rattle.strip_model.proofs.Counts.{length-order}
 use Rattle.strip_board.specs.Board.{is_last, order_total}
 use Rattle.strip_board.specs.Cells.{cell_data}
 use Rattle.strip_board.specs.Html.{Cells, Empty, Number, Word, row_text}

@@ -1,5 +1,5 @@
 use Rattle.std.proofs.Common.{◌≡◌, ◌==◌, drop}
-use Rattle.strip_pay.specs.Pay.{from_first}
+use Rattle.strip_model.specs.Pay.{from_first}
 use Rattle.strip_board.proofs.summary.breaks.Given as goal
 
 -- the other scene wasn't passed

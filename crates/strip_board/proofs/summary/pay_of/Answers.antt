@@ -1,8 +1,8 @@
 use Rattle.std.proofs.Common.{◌≡◌, ◌+◌, length, sym, ap, ◌∙◌, arith}
 use Rattle.strip_mask.specs.Sums.{sum_below}
 use Rattle.strip_mask.proofs.Sums.{sum_below-zero, sum_below-more}
-use Rattle.strip_pay.proofs.Counts.{length-order}
-use Rattle.strip_model.specs.Film.{film_of}
+use Rattle.strip_model.proofs.Counts.{length-order}
+use Rattle.strip_model.specs.FilmOf.{film_of}
 use Rattle.strip_reports.specs.Days.{pay_at}
 use Rattle.strip_reports.specs.declared.figures.Figures.{Figures}
 use Rattle.strip_board.proofs.summary.pay_of.Goals as goal

@@ -1,9 +1,9 @@
 use Rattle.std.proofs.Common.{◌++◌, length, decimal, ap, ◌∙◌, arith}
 use Rattle.std.proofs.lemmas.Result.{on_ok_weaker}
-use Rattle.strip_pay.proofs.Counts.{length-order}
-use Rattle.strip_model.specs.Film.{film_of}
+use Rattle.strip_model.proofs.Counts.{length-order}
+use Rattle.strip_model.specs.FilmOf.{film_of}
 use Rattle.strip_reports.specs.Days.{days_of}
-use Rattle.strip_pay.specs.Pay.{pay_of}
+use Rattle.strip_model.specs.Pay.{pay_of}
 use Rattle.strip_board.proofs.Sentence.{sentence, sentence_made}
 use Rattle.strip_board.proofs.summary.push_summary.Goals as goal
 

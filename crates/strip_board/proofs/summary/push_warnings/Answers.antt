@@ -1,5 +1,5 @@
 use Rattle.std.proofs.Common.{ap, sym, ◌∙◌}
-use Rattle.strip_pay.specs.declared.pair.Pair.{Pair}
+use Rattle.strip_model.specs.declared.pair.Pair.{Pair}
 use Rattle.strip_board.specs.Board.{breaks, warning}
 use Rattle.strip_board.proofs.Warned.{with_text, without_text}
 use Rattle.strip_board.proofs.summary.push_warnings.Goals as goal

@@ -1,5 +1,5 @@
 use Rattle.std.proofs.Common.{arith}
-use Rattle.strip_kind.specs.declared.kind.Kind.TheVariants.{Arrivals}
+use Rattle.strip_model.specs.declared.kind.Kind.TheVariants.{Arrivals}
 use Rattle.strip_bound.proofs.Small.{bound_small}
 use Rattle.strip_bound.proofs.bounds.arrivals_reach.Goals as goal
 

@@ -2,7 +2,7 @@ use Rattle.std.proofs.Common.{◌≡◌, ℕ, ◌+◌, ◌<◌, false, true, len
 use Rattle.strip_mask.specs.Set.{members, size}
 use Rattle.strip_mask.proofs.Below.{is_set_below}
 use Rattle.strip_film.proofs.Located.{location_lies}
-use Rattle.strip_kind.specs.declared.kind.Kind.TheVariants.{Groups}
+use Rattle.strip_model.specs.declared.kind.Kind.TheVariants.{Groups}
 use Rattle.strip_group.specs.Group.{GroupData, group_extra}
 use Rattle.strip_bound.specs.Bounds.{by_six, groups_extra, groups_of, set_of}
 use Rattle.strip_bound.proofs.Small.{bound_small}

@@ -3,7 +3,7 @@ use Rattle.strip_mask.specs.Set.{has, members, without}
 use Rattle.strip_mask.proofs.ByMembers.{has_from_without}
 use Rattle.strip_film.specs.Shoot.{on_location}
 use Rattle.strip_film.proofs.Located.{location_lies}
-use Rattle.strip_kind.specs.declared.kind.Kind.TheVariants.{Pairs}
+use Rattle.strip_model.specs.declared.kind.Kind.TheVariants.{Pairs}
 use Rattle.strip_bound.specs.Bounds.{pairs_extra}
 use Rattle.strip_bound.proofs.Small.{bound_small}
 use Rattle.strip_bound.proofs.Turns.{some_size, size_begins, pairs_few, pairs_sum}

@@ -1,5 +1,5 @@
 use Rattle.std.proofs.Common.{◌∙◌, sym, subst, arith}
-use Rattle.strip_kind.specs.declared.kind.Kind.TheVariants.{Plain}
+use Rattle.strip_model.specs.declared.kind.Kind.TheVariants.{Plain}
 use Rattle.strip_bound.specs.Tables.{AreWeights}
 use Rattle.strip_bound.proofs.Small.{bound_small}
 use Rattle.strip_bound.proofs.Weights.{sum_weights}

@@ -1,6 +1,6 @@
 use Rattle.std.proofs.Common.{◌≡◌, inl, inr, sym, ap, ◌∙◌, arith}
-use Rattle.strip_kind.specs.declared.kind.Kind.{Kind}
-use Rattle.strip_kind.specs.declared.kind.Kind.TheVariants.{Arrivals}
+use Rattle.strip_model.specs.declared.kind.Kind.{Kind}
+use Rattle.strip_model.specs.declared.kind.Kind.TheVariants.{Arrivals}
 use Rattle.strip_bound.specs.Bounds.{bound}
 use Rattle.strip_bound.proofs.Small.{bound_small}
 use Rattle.strip_bound.proofs.bounds.static_bound.Goals as goal

@@ -1,7 +1,7 @@
 use Rattle.std.proofs.Common.{◌≡◌, ℕ, true, not, ◌&&◌, nat_lt, leb, filter, length, slice_index, ap, ◌∙◌, sym, arith}
 use Rattle.std.proofs.lemmas.Grind.{get_or_default_zero}
 use Rattle.strip_mask.specs.Set.{has, meet, members, size}
-use Rattle.strip_pay.specs.Pay.{works}
+use Rattle.strip_model.specs.Pay.{works}
 use Rattle.strip_film.specs.Shoot.{on_location}
 use Rattle.strip_bound.proofs.Steps.{scenes_counted, two_or_more}
 use Rattle.strip_bound.proofs.newcomers.is_newcomer.Goals as goal

@@ -1,6 +1,6 @@
 use Rattle.std.proofs.Common.{◌≡◌, ℕ, ◌<◌, length, slice_index}
 use Rattle.strip_mask.specs.Set.{has}
-use Rattle.strip_pay.specs.Pay.{works}
+use Rattle.strip_model.specs.Pay.{works}
 use Rattle.strip_bound.proofs.tables.plays_of.Given as goal
 
 -- the scenes of the actors so far

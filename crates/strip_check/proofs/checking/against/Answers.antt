@@ -1,5 +1,5 @@
 use Rattle.std.proofs.Common.{◌≡◌, IfOk, subst}
-use Rattle.strip_model.specs.Film.{film_of}
+use Rattle.strip_model.specs.FilmOf.{film_of}
 use Rattle.strip_proof.specs.Plan.{plan_data}
 use Rattle.strip_reduce.specs.Shown.{reduced_data}
 use Rattle.strip_check.specs.Reasons.{order_checks, proof_checks}

@@ -1,6 +1,6 @@
 use Rattle.std.proofs.Common.{◌≡◌, ◌↔◌, ◌≤◌, ◌+◌, ℕ, All, true, not, inr, refl, sym, ap, ◌∙◌, subst}
 use Rattle.strip_mask.specs.Set.{members, without}
-use Rattle.strip_pay.specs.Film.{FilmData}
+use Rattle.strip_model.specs.Film.{FilmData}
 use Rattle.strip_film.specs.Film.{IsFilm}
 use Rattle.strip_film.specs.Shoot.{step_cost}
 use Rattle.strip_bound.specs.Bounds.{bound}

@@ -3,7 +3,7 @@ use Rattle.strip_mask.specs.Iter.{rest_of}
 use Rattle.strip_mask.specs.Set.{members, without}
 use Rattle.strip_mask.proofs.Below.{LiesBelow-without, is_set_below}
 use Rattle.strip_mask.proofs.Turns.{turn_below, turn_member, turns_all}
-use Rattle.strip_pay.specs.Film.{FilmData}
+use Rattle.strip_model.specs.Film.{FilmData}
 use Rattle.strip_film.specs.Film.{IsFilm, LiesIn}
 use Rattle.strip_film.specs.Shoot.{step_cost}
 use Rattle.strip_lines.specs.Lines.{known, rules_of}

@@ -1,6 +1,6 @@
 use Rattle.std.proofs.Common.{length}
 use Rattle.strip_mask.proofs.Below.{IsSet-full, LiesBelow-full}
-use Rattle.strip_pay.specs.Film.{FilmData}
+use Rattle.strip_model.specs.Film.{FilmData}
 use Rattle.strip_film.specs.Film.{IsFilm, all_scenes}
 use Rattle.strip_lines.specs.Lines.{known}
 use Rattle.strip_reduce.specs.Reduction.{reduced}

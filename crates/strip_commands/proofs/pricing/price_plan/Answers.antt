@@ -1,5 +1,5 @@
 use Rattle.std.proofs.Common.{◌≡◌, ◌∙◌, ◌↔◌, sym, subst}
-use Rattle.strip_model.specs.Film.{film_of}
+use Rattle.strip_model.specs.FilmOf.{film_of}
 use Rattle.strip_proof.specs.Plan.{plan_data}
 use Rattle.strip_check.specs.declared.verdict.Verdict.{Verdict}
 use Rattle.strip_check.specs.declared.verdict.Verdict.TheVariants.{Accepted}

@@ -1,5 +1,5 @@
 use Rattle.std.proofs.Common.{◌∙◌, inl}
-use Rattle.strip_model.specs.Film.{film_of}
+use Rattle.strip_model.specs.FilmOf.{film_of}
 use Rattle.strip_reports.specs.Sheet.{sheet_rows}
 use Rattle.strip_answer.specs.Ending.{answer_text}
 use Rattle.strip_commands.proofs.Reported.{sheet_total, told_by_rows}

@@ -1,5 +1,5 @@
 use Rattle.std.proofs.Common.{subst}
-use Rattle.strip_model.specs.Film.{film_of}
+use Rattle.strip_model.specs.FilmOf.{film_of}
 use Rattle.strip_proof.specs.Plan.{plan_data}
 use Rattle.strip_solve.specs.declared.solve.SearchOptions.{SearchOptions}
 use Rattle.strip_solve.specs.Solved.{IsSolvedBy}

@@ -1,6 +1,6 @@
 use Rattle.std.proofs.Common.{◌≡◌, length}
-use Rattle.strip_kind.specs.declared.kind.Kind.{Kind}
-use Rattle.strip_pay.specs.Film.{FilmData}
+use Rattle.strip_model.specs.declared.kind.Kind.{Kind}
+use Rattle.strip_model.specs.Film.{FilmData}
 use Rattle.strip_crew.specs.Spread.{AreValues}
 use Rattle.strip_crew.proofs.Taken.{AreAnsweredTo}
 use Rattle.strip_crew.proofs.answering.take_values.Given as goal

@@ -1,5 +1,5 @@
 use Rattle.std.proofs.Common.{◌≡◌, ap, sym, subst, arith}
-use Rattle.strip_pay.specs.Film.{FilmData}
+use Rattle.strip_model.specs.Film.{FilmData}
 use Rattle.strip_film.specs.Path.{IsComplete, PathData}
 use Rattle.strip_film.specs.Shown.{path_data}
 use Rattle.strip_hand.specs.Hand.{HandData}

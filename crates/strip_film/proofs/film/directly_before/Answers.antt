@@ -1,7 +1,7 @@
 use Rattle.std.proofs.Common.{ℕ, ◌<◌, ◌∙◌, arith, length, take, slice_index_or}
 use Rattle.std.proofs.lemmas.List.{length-replicate, take_more}
 use Rattle.std.proofs.Math.ListN.{length-set}
-use Rattle.strip_pay.specs.declared.pair.Pair.{Pair}
+use Rattle.strip_model.specs.declared.pair.Pair.{Pair}
 use Rattle.strip_film.proofs.Table.{TellsBefore-none, TellsBefore-more}
 use Rattle.strip_film.proofs.film.directly_before.Goals as goal
 

@@ -4,7 +4,7 @@ use Rattle.strip_mask.specs.Set.{has}
 use Rattle.strip_mask.specs.Iter.{rest_of}
 use Rattle.strip_mask.proofs.Below.{is_set_below}
 use Rattle.strip_mask.proofs.Turns.{turn_member, turn_below}
-use Rattle.strip_pay.proofs.Counts.{count}
+use Rattle.strip_model.proofs.Counts.{count}
 use Rattle.strip_mask.proofs.Sizes.{mark}
 use Rattle.strip_film.proofs.Turned.{count_once, down_turn, up_turn, some_to_move, room_to_move}
 use Rattle.strip_film.proofs.running.move_counts.Goals as goal

@@ -1,7 +1,7 @@
 use Rattle.std.proofs.Common.{◌≡◌, ℕ, ◌+◌, ◌++◌, length, slice_index}
 use Rattle.strip_mask.specs.Set.{has, members}
 use Rattle.strip_mask.specs.Iter.{rest_of}
-use Rattle.strip_pay.proofs.Counts.{count}
+use Rattle.strip_model.proofs.Counts.{count}
 use Rattle.strip_mask.proofs.Sizes.{mark}
 use Rattle.strip_film.proofs.running.move_counts.Given as goal
 

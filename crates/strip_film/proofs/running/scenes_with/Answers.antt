@@ -3,7 +3,7 @@ use Rattle.std.proofs.lemmas.Bool.{cases_Bool}
 use Rattle.strip_mask.specs.Set.{has}
 use Rattle.strip_mask.specs.Iter.{rest_of}
 use Rattle.strip_mask.proofs.Turns.{turn_member, turns_all}
-use Rattle.strip_pay.specs.Pay.{works}
+use Rattle.strip_model.specs.Pay.{works}
 use Rattle.strip_mask.proofs.Sizes.{mark}
 use Rattle.strip_film.proofs.Turned.{count-push, turn_count}
 use Rattle.strip_film.proofs.running.scenes_with.Goals as goal

@@ -1,7 +1,7 @@
 use Rattle.std.proofs.Common.{◌≡◌, ◌++◌, count_by}
 use Rattle.strip_mask.specs.Set.{members}
 use Rattle.strip_mask.specs.Iter.{rest_of}
-use Rattle.strip_pay.specs.Pay.{works}
+use Rattle.strip_model.specs.Pay.{works}
 use Rattle.strip_film.proofs.running.scenes_with.Given as goal
 
 -- the count of the scenes so far; these and those to come are the set

@@ -1,5 +1,5 @@
 use Rattle.std.proofs.Common.{◌≡◌, ◌∙◌, ◌↔◌, IsSome, subst, length, sym, ap}
-use Rattle.strip_pay.specs.Film.{FilmData}
+use Rattle.strip_model.specs.Film.{FilmData}
 use Rattle.strip_film.specs.Shown.{cursor_data}
 use Rattle.strip_lines.specs.Lines.{rules_of}
 use Rattle.strip_hand.specs.Hand.{HandData}

@@ -2,7 +2,7 @@ use Rattle.std.proofs.lemmas.Bool.{true≢false}
 use Rattle.std.proofs.Common.{◌≡◌, ◌∙◌, ◌<◌, ◌++◌, ◌∷◌, [], List, Contains, append-nil, map, true, sym, ap, subst, arith}
 use Rattle.strip_mask.specs.Set.{has, size}
 use Rattle.strip_mask.proofs.Sizes.{size-without}
-use Rattle.strip_pay.specs.Film.{FilmData}
+use Rattle.strip_model.specs.Film.{FilmData}
 use Rattle.strip_film.specs.Film.{IsFilm}
 use Rattle.strip_film.specs.Path.{IsPath, PathData}
 use Rattle.strip_film.specs.Shown.{path_data, turns_data}

@@ -4,7 +4,7 @@ use Rattle.strip_mask.specs.Set.{has}
 use Rattle.strip_mask.specs.Iter.{rest_of}
 use Rattle.strip_mask.proofs.Members.{Contains-members}
 use Rattle.strip_mask.proofs.Turns.{turn_below, turn_member, turns_all}
-use Rattle.strip_pay.specs.Film.{FilmData}
+use Rattle.strip_model.specs.Film.{FilmData}
 use Rattle.strip_film.specs.Film.{IsFilm}
 use Rattle.strip_film.specs.Rules.{rank}
 use Rattle.strip_film.specs.Shown.{turns_data}

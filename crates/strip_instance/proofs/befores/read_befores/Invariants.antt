@@ -1,5 +1,5 @@
 use Rattle.std.proofs.Common.{length}
-use Rattle.strip_pay.specs.Befores.{Knows}
+use Rattle.strip_model.specs.Befores.{Knows}
 use Rattle.strip_instance.specs.Befores.{pairs_of}
 use Rattle.strip_instance.specs.Shown.{names_of, rows_from}
 use Rattle.strip_instance.proofs.read.Body.{IsRead}

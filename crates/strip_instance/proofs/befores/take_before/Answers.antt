@@ -5,9 +5,9 @@ use Rattle.std.proofs.lemmas.List.{length-map}
 use Rattle.strip_model.specs.Data.{SceneData}
 use Rattle.strip_model.specs.Instance.{scene_data}
 use Rattle.strip_model.specs.declared.scene.Scene.{Scene}
-use Rattle.strip_pay.specs.Pairs.{FitPairs, Leads}
-use Rattle.strip_pay.specs.declared.pair.Pair.{Pair}
-use Rattle.strip_pay.proofs.Lists.{any_from}
+use Rattle.strip_model.specs.Pairs.{FitPairs, Leads}
+use Rattle.strip_model.specs.declared.pair.Pair.{Pair}
+use Rattle.strip_model.proofs.Lists.{any_from}
 use Rattle.strip_text.specs.Checks.{first_fault}
 use Rattle.strip_text.specs.Rows.{Row, is_empty_row}
 use Rattle.strip_instance.specs.Befores.{joined, said_pair, same_pair, shortest_way}

@@ -1,6 +1,6 @@
 use Rattle.std.proofs.Common.{[], length, sym, ap, subst}
 use Rattle.std.proofs.lemmas.Bool.{false≢true}
-use Rattle.strip_pay.specs.Pairs.{FitPairs}
+use Rattle.strip_model.specs.Pairs.{FitPairs}
 use Rattle.strip_model.specs.Data.{InstanceData, IsInstance}
 use Rattle.strip_instance.proofs.pairs.Fit.{no_pairs}
 use Rattle.strip_instance.proofs.reading.made.Goals as goal

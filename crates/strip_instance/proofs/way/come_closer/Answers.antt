@@ -1,4 +1,4 @@
-use Rattle.strip_pay.specs.declared.pair.Pair.{Pair}
+use Rattle.strip_model.specs.declared.pair.Pair.{Pair}
 use Rattle.strip_instance.proofs.Closer.{so_far-lowered, so_far-same}
 use Rattle.strip_instance.proofs.way.come_closer.Goals as goal
 use Rattle.strip_instance.proofs.way.come_closer.Goals.{then-count-steps, else-count-steps}

@@ -1,6 +1,6 @@
 use Rattle.std.proofs.Common.{◌+◌, take, sym, subst}
-use Rattle.strip_pay.specs.declared.pair.Pair.{Pair}
-use Rattle.strip_pay.proofs.Fits.{never_both}
+use Rattle.strip_model.specs.declared.pair.Pair.{Pair}
+use Rattle.strip_model.proofs.Fits.{never_both}
 use Rattle.strip_instance.proofs.Least.{LeastOf, least-more, least-same}
 use Rattle.strip_instance.proofs.way.next_scene.Goals as goal
 use Rattle.strip_instance.proofs.way.next_scene.Goals.{then-nears, else-nears}

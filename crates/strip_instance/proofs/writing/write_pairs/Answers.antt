@@ -1,5 +1,5 @@
 use Rattle.std.proofs.Common.{◌++◌, get_or, ap, ◌∙◌}
-use Rattle.strip_pay.specs.declared.pair.Pair.{Pair}
+use Rattle.strip_model.specs.declared.pair.Pair.{Pair}
 use Rattle.strip_text.specs.Rows.{csv_row}
 use Rattle.strip_instance.specs.Shown.{names_of as scene_names}
 use Rattle.strip_instance.specs.Canonical.{pair_fields}

@@ -3,8 +3,8 @@ use Rattle.strip_mask.specs.Iter.{rest_of}
 use Rattle.strip_mask.specs.Set.{members, without}
 use Rattle.strip_mask.proofs.Below.{LiesBelow-full, LiesBelow-without}
 use Rattle.strip_mask.proofs.Turns.{turn_below, turn_member, turns_all}
-use Rattle.strip_kind.specs.declared.kind.Kind.{Kind}
-use Rattle.strip_pay.specs.Film.{FilmData}
+use Rattle.strip_model.specs.declared.kind.Kind.{Kind}
+use Rattle.strip_model.specs.Film.{FilmData}
 use Rattle.strip_film.specs.Film.{LiesIn, all_scenes}
 use Rattle.strip_film.specs.Shoot.{on_location, step_cost}
 use Rattle.strip_film.proofs.Located.{location_lies}

@@ -1,6 +1,6 @@
 use Rattle.std.proofs.Common.{◌≡◌, drop}
-use Rattle.strip_pay.specs.Pay.{works, from_first}
-use Rattle.strip_model.specs.Film.{film_of}
+use Rattle.strip_model.specs.Pay.{works, from_first}
+use Rattle.strip_model.specs.FilmOf.{film_of}
 use Rattle.strip_model.proofs.pricing.from_first_scene.Given as goal
 
 -- no scene before this place is one of the actor's

@@ -1,5 +1,5 @@
 use Rattle.std.proofs.Common.{ℕ, sym, subst}
-use Rattle.strip_pay.specs.Order.{IsOrder}
+use Rattle.strip_model.specs.Order.{IsOrder}
 use Rattle.strip_model.proofs.pricing.is_order.Goals as goal
 
 pub returns-then-lie_below : goal.returns-then-lie_below

@@ -1,7 +1,7 @@
 use Rattle.std.proofs.Common.{◌↔◌, List, subst}
 use Rattle.std.specs.Bool.{IsTrue}
-use Rattle.strip_pay.specs.declared.pair.Pair.{Pair}
-use Rattle.strip_pay.specs.Order.{Keeps}
+use Rattle.strip_model.specs.declared.pair.Pair.{Pair}
+use Rattle.strip_model.specs.Order.{Keeps}
 use Rattle.strip_model.proofs.pricing.keeps_pairs.Goals as goal
 
 pub returns : goal.returns

@@ -1,8 +1,8 @@
 use Rattle.std.proofs.Common.{length, sum_by, sym, refl, arith}
 use Rattle.strip_mask.proofs.Sums.{sum_below-zero, sum_below-more}
-use Rattle.strip_pay.specs.Pay.{day_pay, span}
-use Rattle.strip_pay.proofs.Counts.{length-order}
-use Rattle.strip_model.specs.Film.{film_of}
+use Rattle.strip_model.specs.Pay.{day_pay, span}
+use Rattle.strip_model.proofs.Counts.{length-order}
+use Rattle.strip_model.specs.FilmOf.{film_of}
 use Rattle.strip_model.proofs.pricing.pay.Goals as goal
 
 pub pay_of_actor-total-requires : goal.pay_of_actor-total-requires

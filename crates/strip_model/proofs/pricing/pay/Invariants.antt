@@ -1,7 +1,7 @@
 use Rattle.std.proofs.Common.{◌≡◌, ◌*◌, ◌≤◌, sum_by}
 use Rattle.strip_mask.specs.Sums.{sum_below}
-use Rattle.strip_pay.specs.Pay.{day_pay, span}
-use Rattle.strip_model.specs.Film.{film_of}
+use Rattle.strip_model.specs.Pay.{day_pay, span}
+use Rattle.strip_model.specs.FilmOf.{film_of}
 use Rattle.strip_model.proofs.pricing.pay.Given as goal
 
 abbrev pub invariant-loop-actor : goal.invariant-loop-actor

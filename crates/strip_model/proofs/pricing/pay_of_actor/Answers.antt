@@ -1,7 +1,7 @@
 use Rattle.std.proofs.Common.{◌<◌, ◌≤◌, length, All, subst, sym, ap, arith}
-use Rattle.strip_pay.specs.Pay.{works}
-use Rattle.strip_model.specs.Film.{film_of}
-use Rattle.strip_pay.proofs.Spans.{All-from_first, length-from_first}
+use Rattle.strip_model.specs.Pay.{works}
+use Rattle.strip_model.specs.FilmOf.{film_of}
+use Rattle.strip_model.proofs.Spans.{All-from_first, length-from_first}
 use Rattle.strip_model.proofs.pricing.pay_of_actor.Goals as goal
 use Rattle.strip_model.proofs.pricing.pay_of_actor.Goals.{After-from_first_scene}
 

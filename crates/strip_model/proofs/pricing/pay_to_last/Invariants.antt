@@ -1,6 +1,6 @@
 use Rattle.std.proofs.Common.{◌≡◌, ◌*◌, ◌≤◌, take, sum_by}
-use Rattle.strip_pay.specs.Pay.{day_pay, works, to_last}
-use Rattle.strip_model.specs.Film.{film_of}
+use Rattle.strip_model.specs.Pay.{day_pay, works, to_last}
+use Rattle.strip_model.specs.FilmOf.{film_of}
 use Rattle.strip_model.proofs.pricing.pay_to_last.Given as goal
 
 abbrev pub invariant-loop-scene : goal.invariant-loop-scene

@@ -1,6 +1,6 @@
 use Rattle.std.proofs.Common.{rules, ◌≡◌, ◌∙◌, sym}
-use Rattle.strip_pay.proofs.Counts.{order_permuted}
-use Rattle.strip_pay.proofs.Pays.{pay-reverse}
+use Rattle.strip_model.proofs.Counts.{order_permuted}
+use Rattle.strip_model.proofs.Pays.{pay-reverse}
 use Rattle.strip_reduce.specs.Oriented.{oriented}
 use Rattle.strip_reduce.proofs.Ends.{oriented-reverse}
 use Rattle.strip_reduce.proofs.back.orient.Goals as goal

@@ -1,7 +1,7 @@
 use Rattle.std.proofs.Common.{◌≡◌, ◌+◌, ◌∙◌, length, ap, sym, subst, arith}
 use Rattle.std.proofs.lemmas.Result.{IfOk-weaker}
 use Rattle.strip_film.specs.Film.{IsFilmUpTo}
-use Rattle.strip_model.specs.Film.{film_of}
+use Rattle.strip_model.specs.FilmOf.{film_of}
 use Rattle.strip_reduce.specs.Draft.{draft_state}
 use Rattle.strip_reduce.specs.Law.{StandsFor}
 use Rattle.strip_reduce.specs.Reduction.{after_steps, reduced}

@@ -1,5 +1,5 @@
 use Rattle.std.proofs.Common.{◌≡◌, true, [], length, sym, ◌∙◌, arith}
-use Rattle.strip_pay.specs.Film.{FilmData}
+use Rattle.strip_model.specs.Film.{FilmData}
 use Rattle.strip_film.specs.Film.{film_data}
 use Rattle.strip_reduce.specs.Steps.{can_drop}
 use Rattle.strip_reduce.proofs.Least.{least_is, least_none}

@@ -1,9 +1,9 @@
 use Rattle.std.proofs.Common.{◌≡◌, ℕ, List, Vec, Global, map, [], ◌∷◌, length, sym, ap, ◌∙◌, subst}
 use Rattle.std.proofs.lemmas.List.{length-map}
 use Rattle.strip_mask.specs.Set.{numbers_below}
-use Rattle.strip_pay.specs.declared.pair.Pair.{Pair}
+use Rattle.strip_model.specs.declared.pair.Pair.{Pair}
 use Rattle.strip_model.specs.Data.{InstanceData, SceneData}
-use Rattle.strip_model.specs.Film.{film_of}
+use Rattle.strip_model.specs.FilmOf.{film_of}
 use Rattle.strip_model.specs.Instance.{actor_data, scene_data}
 use Rattle.strip_reduce.specs.Draft.{IsDraft, draft_state}
 use Rattle.strip_reduce.specs.State.{State, start}

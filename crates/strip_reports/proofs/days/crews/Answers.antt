@@ -1,5 +1,5 @@
 use Rattle.std.proofs.Common.{◌≡◌, arith, sym, ap, get_or, length, take, ◌∙◌}
-use Rattle.strip_model.specs.Film.{film_of}
+use Rattle.strip_model.specs.FilmOf.{film_of}
 use Rattle.std.proofs.lemmas.List.{take_all}
 use Rattle.strip_model.proofs.Scenes.{cast_at, days_at}
 use Rattle.strip_reports.proofs.Sized.{crews_next, few_days}

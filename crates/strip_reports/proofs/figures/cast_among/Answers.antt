@@ -1,8 +1,8 @@
 use Rattle.std.proofs.Common.{Bool, ◌||◌, length, take, subst, sym, ap, ◌∙◌, arith}
 use Rattle.strip_mask.specs.Set.{LiesBelow, has}
 use Rattle.strip_mask.proofs.ByMembers.{has-empty, has-union}
-use Rattle.strip_pay.specs.Pay.{works}
-use Rattle.strip_model.specs.Film.{film_of}
+use Rattle.strip_model.specs.Pay.{works}
+use Rattle.strip_model.specs.FilmOf.{film_of}
 use Rattle.strip_reports.specs.Days.{works_among}
 use Rattle.strip_reports.proofs.Places.{any_more, empty_lies, union_lies}
 use Rattle.strip_reports.proofs.figures.cast_among.Goals as goal

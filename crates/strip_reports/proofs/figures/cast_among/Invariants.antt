@@ -1,6 +1,6 @@
 use Rattle.std.proofs.Common.{◌≡◌, ℕ, take, length}
 use Rattle.strip_mask.specs.Set.{LiesBelow, has}
-use Rattle.strip_model.specs.Film.{film_of}
+use Rattle.strip_model.specs.FilmOf.{film_of}
 use Rattle.strip_reports.specs.Days.{works_among}
 use Rattle.strip_reports.proofs.figures.cast_among.Given as goal
 

@@ -1,9 +1,9 @@
 use Rattle.std.proofs.Common.{ℕ, ◌+◌, ◌*◌, length, take, slice_index, sym, ap, ◌∙◌}
 use Rattle.std.proofs.lemmas.List.{length-map}
 use Rattle.std.proofs.lemmas.List.Sums.{sum_by_more}
-use Rattle.strip_pay.specs.Pay.{works}
+use Rattle.strip_model.specs.Pay.{works}
 use Rattle.strip_model.specs.Data.{ActorData}
-use Rattle.strip_model.specs.Film.{film_of}
+use Rattle.strip_model.specs.FilmOf.{film_of}
 use Rattle.strip_reports.specs.Days.{days_of, is_held, scene_at}
 use Rattle.strip_reports.proofs.Below.{size_counts, rates_sum}
 use Rattle.strip_reports.proofs.figures.figures_at.Goals as goal

@@ -3,8 +3,8 @@ use Rattle.std.proofs.lemmas.List.{length-drop, take_all}
 use Rattle.strip_mask.specs.Set.{LiesBelow, meet, minus}
 use Rattle.strip_mask.proofs.Below.{LiesBelow-minus}
 use Rattle.strip_mask.proofs.ByMembers.{has-meet, has-minus}
-use Rattle.strip_pay.specs.Pay.{works}
-use Rattle.strip_model.specs.Film.{film_of}
+use Rattle.strip_model.specs.Pay.{works}
+use Rattle.strip_model.specs.FilmOf.{film_of}
 use Rattle.strip_reports.specs.Days.{scene_at, works_among}
 use Rattle.strip_reports.proofs.Places.{meet_lies}
 use Rattle.strip_reports.proofs.figures.held_at.Goals as goal

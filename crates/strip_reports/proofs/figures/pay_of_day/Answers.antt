@@ -1,7 +1,7 @@
 use Rattle.std.proofs.Common.{sym, refl, arith}
 use Rattle.strip_mask.specs.Set.{has}
 use Rattle.strip_mask.proofs.Sums.{sum_below-zero, sum_below-more}
-use Rattle.strip_model.specs.Film.{film_of}
+use Rattle.strip_model.specs.FilmOf.{film_of}
 use Rattle.strip_reports.specs.Days.{rate_by}
 use Rattle.strip_reports.proofs.figures.pay_of_day.Goals as goal
 

@@ -1,7 +1,7 @@
 use Rattle.std.proofs.Common.{◌≡◌, ◌*◌, ◌≤◌}
 use Rattle.strip_mask.specs.Set.{has}
 use Rattle.strip_mask.specs.Sums.{sum_below}
-use Rattle.strip_model.specs.Film.{film_of}
+use Rattle.strip_model.specs.FilmOf.{film_of}
 use Rattle.strip_reports.specs.Days.{rate_by}
 use Rattle.strip_reports.proofs.figures.pay_of_day.Given as goal
 

@@ -2,8 +2,8 @@ use Rattle.std.proofs.Common.{◌≡◌, ◌∙◌, ◌+◌, ◌++◌, length, s
 use Rattle.std.proofs.lemmas.Result.{IfOk-weaker}
 use Rattle.strip_mask.specs.Sums.{sum_below}
 use Rattle.strip_mask.proofs.Sums.{sum_below-zero, sum_below-more}
-use Rattle.strip_pay.proofs.Counts.{length-order}
-use Rattle.strip_model.specs.Film.{film_of}
+use Rattle.strip_model.proofs.Counts.{length-order}
+use Rattle.strip_model.specs.FilmOf.{film_of}
 use Rattle.strip_text.specs.Rows.{csv_row}
 use Rattle.strip_reports.specs.Days.{pay_at}
 use Rattle.strip_reports.specs.Sheet.{header_row, sheet_text}

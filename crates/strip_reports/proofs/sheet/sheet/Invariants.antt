@@ -1,7 +1,7 @@
 use Rattle.std.proofs.Common.{◌≡◌, ◌*◌, ◌≤◌, ◌++◌, map}
 use Rattle.std.specs.List.{range_with_len}
 use Rattle.strip_mask.specs.Sums.{sum_below}
-use Rattle.strip_model.specs.Film.{film_of}
+use Rattle.strip_model.specs.FilmOf.{film_of}
 use Rattle.strip_text.specs.Rows.{csv_row, csv_text}
 use Rattle.strip_reports.specs.Days.{pay_at}
 use Rattle.strip_reports.specs.Sheet.{header_row, scene_row}

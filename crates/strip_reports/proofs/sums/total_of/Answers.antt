@@ -1,6 +1,6 @@
 use Rattle.std.proofs.Common.{◌+◌, arith, sym, ap, ◌∙◌}
 use Rattle.strip_mask.proofs.Sums.{sum_below-zero, sum_below-more}
-use Rattle.strip_model.specs.Film.{film_of}
+use Rattle.strip_model.specs.FilmOf.{film_of}
 use Rattle.strip_reports.specs.Days.{hold_days, work_days}
 use Rattle.strip_reports.specs.Sums.{pay_for}
 use Rattle.strip_reports.proofs.sums.total_of.Goals as goal

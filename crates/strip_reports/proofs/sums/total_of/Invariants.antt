@@ -1,6 +1,6 @@
 use Rattle.std.proofs.Common.{◌≡◌, ◌≤◌, ◌*◌}
 use Rattle.strip_mask.specs.Sums.{sum_below}
-use Rattle.strip_model.specs.Film.{film_of}
+use Rattle.strip_model.specs.FilmOf.{film_of}
 use Rattle.strip_reports.specs.Days.{hold_days, work_days}
 use Rattle.strip_reports.specs.Sums.{pay_for}
 use Rattle.strip_reports.proofs.sums.total_of.Given as goal

@@ -1,7 +1,7 @@
 use Rattle.std.proofs.Common.{◌∙◌, true≢false, length, ap, sym, subst}
-use Rattle.strip_pay.specs.Order.{Keeps}
-use Rattle.strip_pay.specs.Pay.{pay_of}
-use Rattle.strip_model.specs.Film.{film_of}
+use Rattle.strip_model.specs.Order.{Keeps}
+use Rattle.strip_model.specs.Pay.{pay_of}
+use Rattle.strip_model.specs.FilmOf.{film_of}
 use Rattle.strip_solve.proofs.Rows.{numbers_order, rows_of, rows_order}
 use Rattle.strip_solve.proofs.own.own_order.Goals as goal
 

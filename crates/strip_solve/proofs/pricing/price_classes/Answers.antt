@@ -1,9 +1,9 @@
 use Rattle.std.proofs.Common.{◌≡◌, ◌+◌, ◌∙◌, length, ap}
-use Rattle.strip_kind.specs.declared.kind.Kind.TheVariants.{Pairs}
+use Rattle.strip_model.specs.declared.kind.Kind.TheVariants.{Pairs}
 use Rattle.strip_film.specs.Film.{all_scenes}
-use Rattle.strip_model.specs.Film.{film_of}
+use Rattle.strip_model.specs.FilmOf.{film_of}
 use Rattle.strip_bound.specs.Bounds.{bound}
-use Rattle.strip_pay.specs.Pay.{pay_of}
+use Rattle.strip_model.specs.Pay.{pay_of}
 use Rattle.strip_reduce.specs.State.{State}
 use Rattle.strip_solve.specs.Own.{own_order}
 use Rattle.strip_solve.specs.Priced.{priced_status, whole_bound}

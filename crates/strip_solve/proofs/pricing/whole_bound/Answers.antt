@@ -1,6 +1,6 @@
 use Rattle.std.proofs.Common.{◌≡◌, ◌∙◌, ◌+◌, ℕ, length, ap, arith}
 use Rattle.strip_mask.proofs.Below.{LiesBelow-full}
-use Rattle.strip_kind.specs.declared.kind.Kind.TheVariants.{Pairs}
+use Rattle.strip_model.specs.declared.kind.Kind.TheVariants.{Pairs}
 use Rattle.strip_film.specs.Film.{all_scenes}
 use Rattle.strip_film.proofs.Small.{finish_small}
 use Rattle.strip_bound.specs.Bounds.{bound}

@@ -1,6 +1,6 @@
 use Rattle.std.proofs.Common.{◌≡◌, ℕ, List, ◌∙◌, length, ap, sym, subst}
-use Rattle.strip_pay.specs.Order.{IsKeptOrder, IsOrder}
-use Rattle.strip_pay.proofs.Counts.{length-order}
+use Rattle.strip_model.specs.Order.{IsKeptOrder, IsOrder}
+use Rattle.strip_model.proofs.Counts.{length-order}
 use Rattle.strip_reduce.specs.Oriented.{oriented}
 use Rattle.strip_solve.proofs.Back.{kept_without_pairs, none_there, turned_once, written_over}
 use Rattle.strip_solve.proofs.solve.oriented.Goals as goal

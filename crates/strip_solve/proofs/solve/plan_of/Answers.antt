@@ -1,7 +1,7 @@
 use Rattle.std.proofs.Common.{sym, subst, ◌+◌, ◌*◌, ◌<◌, ◌≤◌, ◌^◌, length, arith}
 use Rattle.strip_mask.proofs.Below.{IsSet-full}
-use Rattle.strip_pay.specs.Film.{FilmData}
-use Rattle.strip_pay.specs.Order.{IsOrder}
+use Rattle.strip_model.specs.Film.{FilmData}
+use Rattle.strip_model.specs.Order.{IsOrder}
 use Rattle.strip_film.specs.Film.{all_scenes}
 use Rattle.strip_film.specs.Path.{PathData}
 use Rattle.strip_film.specs.Shown.{path_data}

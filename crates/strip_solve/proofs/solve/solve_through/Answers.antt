@@ -1,6 +1,6 @@
 use Rattle.std.proofs.Common.{subst}
 use Rattle.strip_film.specs.Film.{IsFilm}
-use Rattle.strip_model.specs.Film.{film_of}
+use Rattle.strip_model.specs.FilmOf.{film_of}
 use Rattle.strip_proof.specs.Plan.{plan_data}
 use Rattle.strip_reduce.specs.Reduction.{reduced}
 use Rattle.strip_reduce.specs.State.{State}

@@ -4,7 +4,7 @@ use Rattle.strip_mask.specs.Set.{IsSet, members}
 use Rattle.strip_mask.proofs.Below.{is_set_below}
 use Rattle.strip_mask.proofs.ByMembers.{IsSet-minus}
 use Rattle.strip_mask.proofs.Turns.{turn_member, turns_all}
-use Rattle.strip_pay.specs.Film.{FilmData}
+use Rattle.strip_model.specs.Film.{FilmData}
 use Rattle.strip_film.specs.Film.{IsFilm}
 use Rattle.strip_film.specs.Path.{IsPath, PathData}
 use Rattle.strip_film.specs.Shoot.{behind, ready}

@@ -3,7 +3,7 @@ use Rattle.strip_mask.specs.Set.{has, size, without}
 use Rattle.strip_mask.proofs.Below.{is_set_below}
 use Rattle.strip_mask.proofs.ByMembers.{below_64}
 use Rattle.strip_mask.proofs.Sizes.{size-without}
-use Rattle.strip_pay.specs.Film.{FilmData}
+use Rattle.strip_model.specs.Film.{FilmData}
 use Rattle.strip_film.specs.Film.{IsFilm, LiesIn}
 use Rattle.strip_film.specs.Path.{PathData}
 use Rattle.strip_film.specs.Shoot.{step_cost}

@@ -3,7 +3,7 @@ use Rattle.strip_words.specs.Words.{Word, operands_of}
 use Rattle.strip_words.specs.Options.{IsChosen}
 use Rattle.strip_words.specs.Solve.{SayJob, nodes_for}
 use Rattle.strip_words.specs.Shown.{texts, strs, items_data, rest_data, solve_data}
-use Rattle.strip_pay.proofs.Lists.{same_test}
+use Rattle.strip_model.proofs.Lists.{same_test}
 use Rattle.strip_words.proofs.Results.{err_from, if_err, no_memory}
 use Rattle.strip_words.proofs.Shows.{one_str, operand_count}
 use Rattle.strip_words.proofs.Given.{distinct_in}

@@ -3,8 +3,8 @@ use Rattle.std.proofs.lemmas.List.{length-replicate}
 use Rattle.strip_film.specs.Film.{IsFilm}
 use Rattle.strip_film.specs.Path.{IsComplete}
 use Rattle.strip_film.specs.Shown.{path_data}
-use Rattle.strip_kind.specs.declared.kind.Kind.{Kind}
-use Rattle.strip_pay.specs.Film.{FilmData}
+use Rattle.strip_model.specs.declared.kind.Kind.{Kind}
+use Rattle.strip_model.specs.Film.{FilmData}
 use Rattle.strip_front.specs.Front.{IsFrontOf}
 use Rattle.strip_front.specs.Layers.{AreTasksOf}
 use Rattle.strip_lines.specs.Lines.{rules_of}

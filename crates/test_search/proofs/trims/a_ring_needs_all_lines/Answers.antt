@@ -1,6 +1,6 @@
 use Rattle.std.proofs.Common.{sym, subst}
-use Rattle.strip_kind.specs.declared.kind.Kind.TheVariants.{Plain}
-use Rattle.strip_pay.specs.Film.{FilmData}
+use Rattle.strip_model.specs.declared.kind.Kind.TheVariants.{Plain}
+use Rattle.strip_model.specs.Film.{FilmData}
 use Rattle.strip_lines.specs.Lines.{AreJustified, rules_of}
 use Rattle.test_search.specs.Worked.{ring_lines}
 use Rattle.test_search.proofs.Justified.{ring_justified}

@@ -1,8 +1,8 @@
 use Rattle.std.proofs.Common.{map, sym, subst}
 use Rattle.strip_film.specs.Film.{IsFilm}
 use Rattle.strip_film.specs.Shown.{path_data}
-use Rattle.strip_kind.specs.declared.kind.Kind.{Kind}
-use Rattle.strip_pay.specs.Film.{FilmData}
+use Rattle.strip_model.specs.declared.kind.Kind.{Kind}
+use Rattle.strip_model.specs.Film.{FilmData}
 use Rattle.strip_lines.specs.Lines.{rules_of}
 use Rattle.strip_front.specs.Front.{IsFrontOf}
 use Rattle.strip_front.specs.Layers.{AreTasksOf}

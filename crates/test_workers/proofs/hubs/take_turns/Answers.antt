@@ -1,6 +1,6 @@
 use Rattle.std.proofs.Common.{length, sym, ap, ◌∙◌, subst}
 use Rattle.strip_mask.proofs.Below.{LiesBelow-full}
-use Rattle.strip_pay.specs.Film.{FilmData}
+use Rattle.strip_model.specs.Film.{FilmData}
 use Rattle.strip_film.specs.Film.{LiesIn, all_scenes}
 use Rattle.strip_hand.specs.Search.{SearchData}
 use Rattle.test_workers.proofs.hubs.take_turns.Goals as goal

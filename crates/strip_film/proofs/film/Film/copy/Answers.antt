@@ -1,7 +1,7 @@
 use Rattle.std.proofs.Common.{◌≡◌, ◌∙◌, ℕ, List, length, ap, subst, sym}
 use Rattle.std.specs.List.{each_same}
 use Rattle.strip_mask.specs.Set.{full}
-use Rattle.strip_pay.specs.declared.pair.Pair.{Pair}
+use Rattle.strip_model.specs.declared.pair.Pair.{Pair}
 use Rattle.strip_film.specs.Film.{IsFilm, TellsBefore, film_data}
 use Rattle.strip_film.proofs.film.Film.copy.Goals as goal
 

@@ -1,6 +1,6 @@
 use Rattle.std.proofs.Common.{◌≡◌, All}
-use Rattle.strip_kind.specs.declared.kind.Kind.{Kind}
-use Rattle.strip_pay.specs.Film.{FilmData}
+use Rattle.strip_model.specs.declared.kind.Kind.{Kind}
+use Rattle.strip_model.specs.Film.{FilmData}
 use Rattle.strip_layers.specs.Search.{AreTrue, AskedIsTrue}
 use Rattle.strip_layers.specs.Shown.{search_data}
 use Rattle.strip_layers.proofs.state.Search.remember.Given as goal

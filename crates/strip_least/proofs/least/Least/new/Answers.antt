@@ -1,5 +1,5 @@
 use Rattle.std.proofs.Common.{◌≡◌, arith, sym, subst}
-use Rattle.strip_pay.specs.Film.{FilmData}
+use Rattle.strip_model.specs.Film.{FilmData}
 use Rattle.strip_film.specs.Film.{IsFilm}
 use Rattle.strip_film.specs.Path.{IsComplete}
 use Rattle.strip_film.specs.Shown.{path_data}

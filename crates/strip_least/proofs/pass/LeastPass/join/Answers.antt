@@ -1,7 +1,7 @@
 use Rattle.std.proofs.Common.{◌≡◌, ◌∙◌, ap, arith, subst, sym}
 use Rattle.std.specs.Prelude.{⊤}
 use Rattle.atomic_table.specs.Table.{Me}
-use Rattle.strip_pay.specs.Film.{FilmData}
+use Rattle.strip_model.specs.Film.{FilmData}
 use Rattle.strip_film.specs.Path.{IsComplete, PathData}
 use Rattle.strip_film.specs.Shown.{path_data}
 use Rattle.strip_least.specs.declared.view.View.{View}

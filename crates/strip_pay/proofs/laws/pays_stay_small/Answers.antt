@@ -1,5 +1,0 @@
-use Rattle.strip_pay.proofs.Pays.{pay_most, pay_small}
-use Rattle.strip_pay.proofs.laws.pays_stay_small.Goals as goal
-
-pub returns : goal.returns
-returns c = record { most = pay_most; small = pay_small }

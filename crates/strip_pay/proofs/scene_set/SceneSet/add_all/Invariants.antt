@@ -1,5 +1,0 @@
-use Rattle.strip_pay.proofs.SceneSets.{AreUnited}
-use Rattle.strip_pay.proofs.scene_set.SceneSet.add_all.Given as goal
-
-abbrev pub invariant-loop-place : goal.invariant-loop-place
-invariant-loop-place l = AreUnited l.place l.others.masks l.fn.self.masks l.mask-items

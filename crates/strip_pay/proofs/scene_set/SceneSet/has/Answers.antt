@@ -1,6 +1,0 @@
-use Rattle.std.proofs.Common.{sym, ◌∙◌}
-use Rattle.strip_pay.proofs.SceneSets.{has_scene-is}
-use Rattle.strip_pay.proofs.scene_set.SceneSet.has.Goals as goal
-
-pub returns : goal.returns
-returns c = c.has.ensures ∙ sym (has_scene-is c.args.self.now c.args.scene)

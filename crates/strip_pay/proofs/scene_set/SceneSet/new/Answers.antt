@@ -1,5 +1,0 @@
-use Rattle.strip_pay.proofs.SceneSets.{has_scene-empty}
-use Rattle.strip_pay.proofs.scene_set.SceneSet.new.Goals as goal
-
-pub returns : goal.returns
-returns c = has_scene-empty
