@@ -1,1 +1,3 @@
+pub mod Bounded
+pub mod Entry
 pub mod Memo

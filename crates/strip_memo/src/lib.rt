@@ -1,7 +1,14 @@
-//! A direct-mapped cache of static bounds, of one worker (memo). Its keys are sets of remaining scenes; a new set
-//! replaces the set at its place.
+//! Caches of static bounds, keyed by sets of remaining scenes. A memo is one worker's: it is direct-mapped, so a new
+//! set replaces the set at its place. The workers of a search share a store, which has 64 shards (drawers), each behind
+//! a lock. Only `reach` of the store waits for a lock, and no bound is computed while one is held.
 #![tactic(auto)]
 
+mod bounded;
+mod drawer;
+mod entry;
 mod memo;
+mod store;
 
+pub use bounded::Bounded;
 pub use memo::Memo;
+pub use store::Store;

@@ -33,13 +33,12 @@ use strip_film::{Film, Line, Path};
 use strip_io::Memory;
 use strip_lines::laws::the_rules_are_true;
 use strip_mask::Mask;
-use strip_memo::Memo;
+use strip_memo::{Bounded, Memo, Store};
 use strip_model::laws::pays_stay_small;
 use strip_model::{Instance, Kind};
 use strip_proof::{Plan, Status};
 use strip_reduce::{ReduceFault, Reduced, expand, orient, reduce};
 use strip_start::{greedy, improve, or_listed, vary, vary_beside};
-use strip_store::{Bounded, Store};
 use strip_worker::{Ended, Gate, OpenGate};
 use strip_world::Limits;
 

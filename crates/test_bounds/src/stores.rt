@@ -15,8 +15,8 @@ use std::thread::Threads;
 use strip_bound::{BoundTables, StoredBound, static_bound, static_reach};
 use strip_film::Film;
 use strip_mask::Mask;
+use strip_memo::{Bounded, Store};
 use strip_model::Kind;
-use strip_store::{Bounded, Store};
 
 fn triangle(alloc: Global) -> Result<Film, Fail> {
     film_of(

@@ -1,6 +1,6 @@
 use Rattle.std.proofs.Common.{◌≡◌, ◌+◌, ◌-◌, ◌/◌, ◌%◌, ◌^◌, ◌<◌, ◌≤◌, ℕ, subst, arith}
 use Rattle.std.proofs.Math.Pow.{shr_lt}
-use Rattle.strip_store.proofs.drawer.Drawer.place.Goals as goal
+use Rattle.strip_memo.proofs.drawer.Drawer.place.Goals as goal
 
 -- the top bits of a number of 58
 top_bits : (n shift : ℕ) → shift ≤ 58 → n < 2 ^ 58 → n / 2 ^ shift < 2 ^ (58 - shift)

@@ -3,7 +3,7 @@ ghost use Rattle.std.specs.Prelude.{◌≡◌, ◌≤◌, ◌⊎◌, true, vec_l
 ghost use Rattle.strip_film.specs.Film.{LiesIn};
 ghost use Rattle.strip_bound.specs.Bounds.{bound};
 ghost use Rattle.strip_bound.specs.StoredBound.{Keeps};
-ghost use Rattle.strip_store.specs.Entry.{IsEntry};
+ghost use Rattle.strip_memo.specs.Entry.{IsEntry};
 
 use crate::bounded::Bounded;
 use crate::drawer::{DRAWERS, Drawer, drawer_of};

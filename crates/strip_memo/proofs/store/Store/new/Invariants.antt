@@ -1,5 +1,5 @@
 use Rattle.std.proofs.Common.{◌≡◌, vec_len}
-use Rattle.strip_store.proofs.store.Store.new.Given as goal
+use Rattle.strip_memo.proofs.store.Store.new.Given as goal
 
 -- as many drawers as turns
 abbrev pub invariant-loop-turn : goal.invariant-loop-turn

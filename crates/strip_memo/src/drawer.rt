@@ -1,7 +1,7 @@
 // A shard (drawer) of the store.
 ghost use Rattle.std.specs.Prelude.{◌≡◌, ◌-◌, ◌^◌, ◌<◌, ◌≤◌, ◌⊎◌, length, vec_len, IfSome};
 ghost use Rattle.strip_bound.specs.Bounds.{bound};
-ghost use Rattle.strip_store.specs.Entry.{IsEntry};
+ghost use Rattle.strip_memo.specs.Entry.{IsEntry};
 
 use crate::bounded::Bounded;
 use crate::entry::Entry;
@@ -28,8 +28,8 @@ pub(crate) struct Drawer<N: Bounded> {
 
 impl<N: Bounded> Model for Drawer<N> {
     ghost use Rattle.std.specs.Prelude.{◌-◌, ◌^◌, ◌≤◌, List, All, length};
-    ghost use Rattle.strip_store.specs.declared.entry.Entry.{Entry};
-    ghost use Rattle.strip_store.specs.Entry.{IsEntry};
+    ghost use Rattle.strip_memo.specs.declared.entry.Entry.{Entry};
+    ghost use Rattle.strip_memo.specs.Entry.{IsEntry};
 
     ghost Value = { List Entry };
 

@@ -13,7 +13,7 @@ pub trait Bounded {
 
 impl Bounded for Brand {
     ghost use Rattle.strip_model.specs.declared.kind.Kind.TheVariants.{Plain};
-    ghost use Rattle.strip_store.specs.Bounded.{no_film};
+    ghost use Rattle.strip_memo.specs.Bounded.{no_film};
 
     ghost film = { no_film };
 
