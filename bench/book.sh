@@ -18,9 +18,9 @@ work=$(cd "$work" && pwd)
 
 cp "$repository/HANDLES" "$work/"
 crates="strip_io strip_mask strip_model strip_film strip_group strip_sets strip_arrivals strip_bound"
-crates+=" strip_rule strip_lines strip_count strip_hand strip_table strip_book strip_stripes"
+crates+=" strip_rule strip_lines strip_hand strip_table strip_book strip_stripes"
 grep -E "^(${crates// /|}):" "$repository/crates.txt" > "$work/crates.txt"
-uses="strip_io strip_mask strip_film strip_model strip_bound strip_rule strip_lines strip_count strip_hand"
+uses="strip_io strip_mask strip_film strip_model strip_bound strip_rule strip_lines strip_hand"
 echo "calls: $uses strip_book strip_stripes" >> "$work/crates.txt"
 for name in $crates; do
     mkdir -p "$work/crates/$name"

@@ -7,9 +7,9 @@ use Rattle.strip_mask.proofs.Lists.{count, count-cons, count_here}
 use Rattle.strip_mask.proofs.Sums.{sum_below-none, sum_below-point}
 use Rattle.strip_film.specs.declared.shared.Line.{Line}
 use Rattle.strip_film.specs.Film.{IsFilm}
-use Rattle.strip_count.specs.Parts.{AreCounted, IsShare, inside}
-use Rattle.strip_count.specs.Paths.{is_candidate, leaving, number_up_to}
-use Rattle.strip_count.proofs.Enumerated.{counted_none}
+use Rattle.strip_lines.specs.Parts.{AreCounted, IsShare, inside}
+use Rattle.strip_lines.specs.Paths.{is_candidate, leaving, number_up_to}
+use Rattle.strip_lines.proofs.Enumerated.{counted_none}
 use Rattle.strip_hand.specs.Hand.{IsRecord, RecordData}
 use Rattle.strip_hand.specs.Search.{SearchData, depth_of, search_rules}
 use Rattle.strip_book.specs.View.{AreApart, EntryData, last_in, last_of, number_in, number_of_record, parts_of, record_at}

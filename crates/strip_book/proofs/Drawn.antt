@@ -16,10 +16,10 @@ use Rattle.strip_film.specs.Path.{PathData}
 use Rattle.strip_film.proofs.Paths.{rest_lies}
 use Rattle.strip_lines.specs.Lines.{AreJustified, line_at, no_line}
 use Rattle.strip_lines.proofs.Grown.{added-grows, grow_self, justified-added}
-use Rattle.strip_count.specs.Parts.{inside, lies_in}
-use Rattle.strip_count.specs.Paths.{IsUnfinished, is_candidate, leaving, number_up_to}
-use Rattle.strip_count.proofs.Later.{counts_more, counts_stay}
-use Rattle.strip_count.proofs.Shares.{is_candidate_from}
+use Rattle.strip_lines.specs.Parts.{inside, lies_in}
+use Rattle.strip_lines.specs.Paths.{IsUnfinished, is_candidate, leaving, number_up_to}
+use Rattle.strip_lines.proofs.Later.{counts_more, counts_stay}
+use Rattle.strip_lines.proofs.Shares.{is_candidate_from}
 use Rattle.strip_hand.specs.Hand.{RecordData}
 use Rattle.strip_hand.specs.Search.{SearchData, depth_of, search_rules}
 use Rattle.strip_book.specs.View.{EntryData, ViewData, enlisted}

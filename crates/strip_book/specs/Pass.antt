@@ -10,8 +10,8 @@ use Rattle.strip_film.specs.Film.{IsFilm}
 use Rattle.strip_film.specs.Path.{PathData}
 use Rattle.strip_film.specs.Rules.{IsOpen}
 use Rattle.strip_lines.specs.Lines.{AreJustified, GrowTo, IsJustified, line_at}
-use Rattle.strip_count.specs.Parts.{lies_in}
-use Rattle.strip_count.specs.Paths.{ComesAfter}
+use Rattle.strip_lines.specs.Parts.{lies_in}
+use Rattle.strip_lines.specs.Paths.{ComesAfter}
 use Rattle.strip_hand.specs.Hand.{RecordData, no_path_yet}
 use Rattle.strip_hand.specs.Search.{SearchData, depth_of, search_rules}
 use Rattle.strip_book.specs.declared.book.Book.{Book}

@@ -8,8 +8,8 @@ use Rattle.strip_film.specs.declared.shared.Line.{Line}
 use Rattle.strip_film.specs.Film.{IsFilm}
 use Rattle.strip_model.specs.declared.kind.Kind.TheVariants.{Plain}
 use Rattle.strip_lines.specs.Lines.{AreJustified, GrowTo, line_at}
-use Rattle.strip_count.specs.Parts.{inside}
-use Rattle.strip_count.specs.Paths.{is_candidate, leaving, number_up_to}
+use Rattle.strip_lines.specs.Parts.{inside}
+use Rattle.strip_lines.specs.Paths.{is_candidate, leaving, number_up_to}
 use Rattle.strip_hand.specs.Hand.{IsRecord}
 use Rattle.strip_hand.specs.Search.{SearchData, depth_of, search_rules}
 use Rattle.strip_book.specs.View.{DraftData, EntryData, ViewData}

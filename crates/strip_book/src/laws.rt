@@ -2,7 +2,7 @@
 ghost use Rattle.std.specs.Prelude.{◌≡◌, ℕ, ◌≤◌, ◌==◌, Some, None, List, All, count_by, length};
 ghost use Rattle.strip_film.specs.declared.shared.Line.{Line};
 ghost use Rattle.strip_film.specs.Film.{IsFilm};
-ghost use Rattle.strip_count.specs.Parts.{AreCounted};
+ghost use Rattle.strip_lines.specs.Parts.{AreCounted};
 ghost use Rattle.strip_hand.specs.Hand.{IsRecord, RecordData};
 ghost use Rattle.strip_hand.specs.Search.{SearchData, depth_of, search_rules};
 ghost use Rattle.strip_book.specs.Rule.{IsEntry, candidates_at, lines_of, number_of, total};

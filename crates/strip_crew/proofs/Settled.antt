@@ -7,7 +7,7 @@ use Rattle.strip_mask.proofs.Lists.{count, count-cons}
 use Rattle.strip_film.specs.Film.{IsFilm}
 use Rattle.strip_film.specs.Path.{PathData}
 use Rattle.strip_film.specs.declared.shared.Line.{Line}
-use Rattle.strip_count.specs.Parts.{AreCounted}
+use Rattle.strip_lines.specs.Parts.{AreCounted}
 use Rattle.strip_hand.specs.Hand.{IsHand, IsRecord, RecordData, no_path_yet}
 use Rattle.strip_hand.specs.Search.{SearchData, depth_of, search_rules}
 use Rattle.strip_least.specs.declared.view.View.{View as LeastView}

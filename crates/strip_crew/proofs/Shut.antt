@@ -7,7 +7,7 @@ use Rattle.strip_film.specs.Film.{all_scenes}
 use Rattle.strip_film.specs.Path.{PathData}
 use Rattle.strip_lines.specs.Lines.{ahead, known, rules_of}
 use Rattle.strip_lines.proofs.Grown.{known-grows}
-use Rattle.strip_count.specs.Paths.{candidate_count}
+use Rattle.strip_lines.specs.Paths.{candidate_count}
 use Rattle.strip_hand.specs.Hand.{HandData, IsHand}
 use Rattle.strip_hand.specs.Search.{GoesBy, SearchData, search_rules}
 use Rattle.strip_worker.specs.declared.ended.Ended.{Ended}

@@ -12,7 +12,7 @@ use Rattle.strip_model.proofs.Lists.{contains_none}
 use Rattle.strip_rule.specs.Rule.{open_firsts}
 use Rattle.strip_film.specs.Path.{PathData}
 use Rattle.strip_film.specs.Rules.{Rules}
-use Rattle.strip_count.specs.Parts.{no_task}
+use Rattle.strip_lines.specs.Parts.{no_task}
 use Rattle.strip_front.specs.Filled.{Follows, IsWanted}
 use Rattle.strip_front.specs.Front.{FrontData, IsFrontOf, line_of, path_at, task_at}
 use Rattle.strip_front.specs.Marked.{MarksMore}

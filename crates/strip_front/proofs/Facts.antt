@@ -8,7 +8,7 @@ use Rattle.strip_film.specs.Path.{PathData}
 use Rattle.strip_film.specs.Rules.{IsOpen}
 use Rattle.strip_rule.specs.Rule.{open_firsts}
 use Rattle.strip_lines.specs.Lines.{rules_of}
-use Rattle.strip_count.specs.Paths.{path_along}
+use Rattle.strip_lines.specs.Paths.{path_along}
 use Rattle.strip_front.specs.Layers.{layer}
 
 -- its paths are open ones of so many scenes, no two of which leave the same, few, and some where the film has so many scenes; each open

@@ -8,8 +8,8 @@ use Rattle.strip_hand.specs.Calls.{StandsAt}
 use Rattle.strip_hand.specs.Hand.{HandData, IsHand, RecordData}
 use Rattle.strip_hand.specs.Search.{depth_of, search_rules}
 use Rattle.strip_film.specs.Film.{all_scenes}
-use Rattle.strip_count.specs.Parts.{inside}
-use Rattle.strip_count.specs.Paths.{is_candidate, lists_from, number_up_to}
+use Rattle.strip_lines.specs.Parts.{inside}
+use Rattle.strip_lines.specs.Paths.{is_candidate, lists_from, number_up_to}
 use Rattle.strip_front.specs.Calls.{IsCutShort, count_in}
 use Rattle.strip_front.specs.Filled.{HasLines, IsFilled, IsWanted, IsWhole}
 use Rattle.strip_front.specs.Front.{FrontData, is_wanted, root_of}

@@ -15,9 +15,9 @@ use Rattle.strip_film.specs.Rules.{IsOpen}
 use Rattle.strip_film.specs.Shoot.{step_cost}
 use Rattle.strip_rule.specs.Rule.{open_firsts}
 use Rattle.strip_lines.specs.Lines.{rules_of}
-use Rattle.strip_count.specs.Paths.{path_along}
+use Rattle.strip_lines.specs.Paths.{path_along}
 use Rattle.strip_hand.specs.Search.{SearchData, depth_of}
-use Rattle.strip_count.specs.Parts.{no_task}
+use Rattle.strip_lines.specs.Parts.{no_task}
 use Rattle.strip_paths.proofs.After.{more_leaves, more_open, more_pays, one_more}
 use Rattle.strip_paths.proofs.Rests.{others_permuted}
 use Rattle.strip_front.specs.Layers.{layer}

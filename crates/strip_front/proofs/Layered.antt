@@ -25,8 +25,8 @@ use Rattle.strip_rule.specs.Rule.{open_firsts}
 use Rattle.strip_rule.proofs.Open.{open_begins_least}
 use Rattle.strip_rule.proofs.Firsts.{firsts_set}
 use Rattle.strip_lines.specs.Lines.{rules_of}
-use Rattle.strip_count.specs.Paths.{path_along}
-use Rattle.strip_count.specs.Parts.{no_task}
+use Rattle.strip_lines.specs.Paths.{path_along}
+use Rattle.strip_lines.specs.Parts.{no_task}
 use Rattle.strip_paths.specs.Paths.{paths_after}
 use Rattle.strip_paths.proofs.Added.{Differs, Pays, apart_of, each_of, more_of, pairs_of, pays_of}
 use Rattle.strip_paths.proofs.After.{each_after, more_leaves, more_open, more_pays, one_more, path_is}

@@ -16,7 +16,7 @@ use Rattle.strip_film.specs.Ranks.{IsEarlier, IsSooner}
 use Rattle.strip_film.specs.Rules.{Rules, rank}
 use Rattle.strip_film.specs.Turns.{GoBy, TakesNext, TurnsData}
 use Rattle.strip_film.proofs.Ranks.{earlier_longer, earlier_parted, earlier_trans}
-use Rattle.strip_count.specs.Paths.{path_along}
+use Rattle.strip_lines.specs.Paths.{path_along}
 use Rattle.strip_front.specs.Onward.{AreOnward, GoesOn}
 
 -- ---- lists

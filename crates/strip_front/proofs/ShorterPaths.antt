@@ -16,7 +16,7 @@ use Rattle.strip_film.specs.Rules.{IsOpen, Rules}
 use Rattle.strip_film.proofs.Lists.{AllRemained-from_ready, size-rest_after}
 use Rattle.strip_film.proofs.Ranks.{earlier-itself}
 use Rattle.strip_lines.specs.Lines.{rules_of}
-use Rattle.strip_count.specs.Paths.{path_along}
+use Rattle.strip_lines.specs.Paths.{path_along}
 use Rattle.strip_front.specs.Front.{AreShorter}
 use Rattle.strip_front.specs.Layers.{layer}
 use Rattle.strip_front.proofs.Facts.{LayerFacts}

@@ -8,7 +8,7 @@ use Rattle.std.proofs.lemmas.List.Sorted.{All-permutation, length_permutation}
 use Rattle.strip_film.specs.Film.{IsFilm}
 use Rattle.strip_film.specs.Path.{IsPath, PathData}
 use Rattle.strip_film.specs.Rules.{IsOpen, Rules}
-use Rattle.strip_count.specs.Parts.{no_task}
+use Rattle.strip_lines.specs.Parts.{no_task}
 use Rattle.strip_hand.specs.Search.{AreStarts, SearchData, depth_of, search_rules}
 use Rattle.strip_paths.proofs.Rests.{others_permuted}
 use Rattle.strip_front.specs.Front.{IsDepth}

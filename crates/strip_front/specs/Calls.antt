@@ -7,8 +7,8 @@ use Rattle.strip_film.specs.Rules.{IsOpen, Rules}
 use Rattle.strip_film.specs.Shown.{CursorData}
 use Rattle.strip_bound.specs.Bounds.{bound}
 use Rattle.strip_lines.specs.Lines.{GrowTo, ahead, known, line_at}
-use Rattle.strip_count.specs.Parts.{lies_in}
-use Rattle.strip_count.specs.Paths.{ComesAfter}
+use Rattle.strip_lines.specs.Parts.{lies_in}
+use Rattle.strip_lines.specs.Paths.{ComesAfter}
 use Rattle.strip_hand.specs.Calls.{StandsAt}
 use Rattle.strip_hand.specs.Hand.{HandData, RecordData}
 use Rattle.strip_hand.specs.Search.{SearchData, depth_of, search_rules}

@@ -6,7 +6,7 @@ use Rattle.strip_film.specs.Film.{all_scenes}
 use Rattle.strip_film.specs.Path.{PathData}
 use Rattle.strip_film.specs.Ranks.{IsEarlier}
 use Rattle.strip_film.specs.Rules.{Rules}
-use Rattle.strip_count.specs.Parts.{no_task}
+use Rattle.strip_lines.specs.Parts.{no_task}
 use Rattle.strip_front.specs.Layers.{AreTasksOf, layer}
 
 -- how many scenes a task has; the tasks; which of them are asked for; the shorter paths, and for each of these its line

@@ -7,7 +7,7 @@ use Rattle.std.specs.Ordering.{nat_cmp}
 use Rattle.strip_model.specs.Film.{FilmData}
 use Rattle.strip_film.specs.Path.{PathData}
 use Rattle.strip_film.specs.Rules.{Rules}
-use Rattle.strip_count.specs.Paths.{path_along}
+use Rattle.strip_lines.specs.Paths.{path_along}
 use Rattle.strip_paths.specs.Paths.{paths_after, with_path}
 
 -- the paths of so many scenes: of those that go on from the layer before, for each set that can remain the first one

@@ -6,7 +6,7 @@ use Rattle.strip_film.specs.Film.{all_scenes}
 use Rattle.strip_film.specs.Path.{PathData}
 use Rattle.strip_film.specs.Ranks.{IsEarlier}
 use Rattle.strip_film.specs.Rules.{Rules}
-use Rattle.strip_count.specs.Paths.{path_along}
+use Rattle.strip_lines.specs.Paths.{path_along}
 
 -- the path is one of the layer, and goes on from the shorter one with a first of what remains
 pub record GoesOn (rules : Rules) (layer : List PathData) (shorter path : PathData) : Type 0 where

@@ -4,8 +4,8 @@ use Rattle.strip_io.specs.declared.files.Memory.{Memory}
 use Rattle.strip_film.specs.Path.{PathData}
 use Rattle.strip_film.specs.Rules.{IsOpen}
 use Rattle.strip_film.specs.Shown.{CursorData}
-use Rattle.strip_count.specs.Parts.{lies_in}
-use Rattle.strip_count.specs.Paths.{ComesAfter}
+use Rattle.strip_lines.specs.Parts.{lies_in}
+use Rattle.strip_lines.specs.Paths.{ComesAfter}
 use Rattle.strip_hand.specs.Calls.{IsSpent, MakesLine, Refuses, StandsAt}
 use Rattle.strip_hand.specs.Hand.{HandData}
 use Rattle.strip_hand.specs.Search.{SearchData, depth_of, search_rules}

@@ -13,8 +13,8 @@ use Rattle.strip_film.specs.Shown.{CursorData}
 use Rattle.strip_io.specs.declared.files.Memory.{Memory}
 use Rattle.strip_io.specs.Counts.{Rose}
 use Rattle.strip_lines.specs.Lines.{GrowTo, IsJustified, line_at}
-use Rattle.strip_count.specs.Parts.{lies_in}
-use Rattle.strip_count.specs.Paths.{ComesAfter}
+use Rattle.strip_lines.specs.Parts.{lies_in}
+use Rattle.strip_lines.specs.Paths.{ComesAfter}
 use Rattle.strip_hand.specs.Hand.{HandData, Knows, LetsThrough, no_path_yet}
 use Rattle.strip_hand.specs.Search.{depth_of, search_rules}
 

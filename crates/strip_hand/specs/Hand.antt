@@ -9,7 +9,7 @@ use Rattle.strip_film.specs.declared.shared.Probe.TheVariants.{Hit, Miss}
 use Rattle.strip_film.specs.Film.{IsFilm}
 use Rattle.strip_film.specs.Path.{PathData}
 use Rattle.strip_lines.specs.Lines.{AreJustified, line_at}
-use Rattle.strip_count.specs.Parts.{IsShare, lies_in}
+use Rattle.strip_lines.specs.Parts.{IsShare, lies_in}
 use Rattle.strip_hand.specs.Search.{AreStarts, GoesBy, SearchData, depth_of, search_rules}
 
 -- a probe of the table: the set that was asked for, and the answer

@@ -6,7 +6,7 @@ use Rattle.strip_model.specs.Film.{FilmData}
 use Rattle.strip_film.specs.Path.{PathData, IsPath}
 use Rattle.strip_film.specs.Rules.{Rules}
 use Rattle.strip_lines.specs.Lines.{rules_of}
-use Rattle.strip_count.specs.Parts.{no_task}
+use Rattle.strip_lines.specs.Parts.{no_task}
 
 -- the film, the kind of the static bounds, the most lines there may be, what the order that the search starts with
 -- costs, and its tasks

@@ -8,7 +8,7 @@ use Rattle.strip_film.specs.declared.shared.Line.{Line}
 use Rattle.strip_film.specs.Rules.{Rules}
 use Rattle.strip_lines.specs.Lines.{GrowTo, known, line_at, no_line}
 use Rattle.strip_lines.proofs.Grown.{known-least, known-line, known-static}
-use Rattle.strip_count.specs.Apart.{AreApart}
+use Rattle.strip_lines.specs.Apart.{AreApart}
 use Rattle.strip_layers.proofs.Sets.{found_set, has_set, none_has}
 
 -- lines that have the same sets in their order

@@ -10,7 +10,7 @@ use Rattle.strip_film.specs.Path.{PathData}
 use Rattle.strip_bound.specs.Bounds.{bound}
 use Rattle.strip_lines.specs.Lines.{rules_of}
 use Rattle.strip_lines.proofs.Grown.{known-static}
-use Rattle.strip_count.specs.Parts.{no_task}
+use Rattle.strip_lines.specs.Parts.{no_task}
 use Rattle.strip_layers.specs.declared.ask.Ask.{Ask}
 use Rattle.strip_layers.specs.Asks.{AreAnswered, IsAnswer, Suffices}
 use Rattle.strip_layers.specs.Search.{AskedIsTrue}

@@ -16,9 +16,9 @@ use Rattle.strip_film.specs.Rules.{BeginLeast, BoundsFinish, Rules}
 use Rattle.strip_bound.specs.Bounds.{bound}
 use Rattle.strip_bound.proofs.Finish.{bound_finishes}
 use Rattle.strip_rule.proofs.Open.{open_begins_least}
-use Rattle.strip_count.specs.Apart.{IsLeft}
-use Rattle.strip_count.specs.Paths.{candidate_count}
-use Rattle.strip_count.proofs.Apart.{apart_few, apart_ways}
+use Rattle.strip_lines.specs.Apart.{IsLeft}
+use Rattle.strip_lines.specs.Paths.{candidate_count}
+use Rattle.strip_lines.proofs.Apart.{apart_few, apart_ways}
 use Rattle.strip_lines.specs.Lines.{known, line_at, no_line, rules_of}
 use Rattle.strip_lines.proofs.Justified.{known_is_true}
 use Rattle.strip_layers.specs.Layered.{HasEnded, IsEnd, IsLayered, LayeredData}

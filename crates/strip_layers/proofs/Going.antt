@@ -13,7 +13,7 @@ use Rattle.strip_film.specs.Path.{PathData}
 use Rattle.strip_film.specs.Rules.{IsOpen, Rules}
 use Rattle.strip_film.specs.Shoot.{step_cost}
 use Rattle.strip_lines.specs.Lines.{rules_of}
-use Rattle.strip_count.specs.Parts.{no_task}
+use Rattle.strip_lines.specs.Parts.{no_task}
 use Rattle.strip_paths.specs.Paths.{paths_after, with_path}
 use Rattle.strip_paths.proofs.Added.{AreApart, Differs, pairs_of}
 use Rattle.strip_paths.proofs.After.{apart_put, open_put, pays_on, pays_put, sizes_put}

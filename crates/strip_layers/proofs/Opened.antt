@@ -11,10 +11,10 @@ use Rattle.strip_film.specs.Rules.{IsOpen, Rules}
 use Rattle.strip_film.proofs.Paths.{rest_lies}
 use Rattle.strip_lines.specs.Lines.{line_at, no_line}
 use Rattle.strip_lines.proofs.Grown.{added-grows, justified-added}
-use Rattle.strip_count.specs.Apart.{AreApart, IsLeft}
-use Rattle.strip_count.specs.Paths.{candidate_count}
-use Rattle.strip_count.proofs.Apart.{apart_few}
-use Rattle.strip_count.proofs.Shares.{is_candidate_from}
+use Rattle.strip_lines.specs.Apart.{AreApart, IsLeft}
+use Rattle.strip_lines.specs.Paths.{candidate_count}
+use Rattle.strip_lines.proofs.Apart.{apart_few}
+use Rattle.strip_lines.proofs.Shares.{is_candidate_from}
 use Rattle.strip_layers.specs.Search.{Adds, Extends, HasLine, IsFull, IsSearch, SearchData}
 use Rattle.strip_layers.proofs.Apart.{apart_more}
 use Rattle.strip_layers.proofs.Grown.{extends_self, whole_stays}

@@ -15,8 +15,8 @@ use Rattle.strip_film.specs.Rules.{Rules}
 use Rattle.strip_bound.specs.Bounds.{bound}
 use Rattle.strip_lines.specs.Lines.{line_at, no_line, raised, rules_of, with_raised}
 use Rattle.strip_lines.proofs.Grown.{justified-added, justified-raised, known-static}
-use Rattle.strip_count.specs.Apart.{IsLeft}
-use Rattle.strip_count.proofs.Shares.{is_candidate_from}
+use Rattle.strip_lines.specs.Apart.{IsLeft}
+use Rattle.strip_lines.proofs.Shares.{is_candidate_from}
 use Rattle.strip_layers.specs.Begun.{HasBegun, LooksAhead}
 use Rattle.strip_layers.specs.Search.{Adds, SearchData}
 

@@ -7,7 +7,7 @@ use Rattle.strip_film.specs.Rules.{Rules}
 use Rattle.strip_film.specs.Shoot.{step_cost}
 use Rattle.strip_lines.specs.Lines.{GrowTo, IsJustified, known, line_at, no_line, raised, with_raised}
 use Rattle.strip_lines.proofs.Grown.{justified-raised, known-line, raised-grows}
-use Rattle.strip_count.specs.Apart.{IsLeft}
+use Rattle.strip_lines.specs.Apart.{IsLeft}
 use Rattle.strip_layers.specs.Search.{HasLine, IsFull, IsSearch, Rises, SearchData}
 use Rattle.strip_layers.proofs.Apart.{apart_same}
 use Rattle.strip_layers.proofs.Grown.{whole_stays}

@@ -13,7 +13,7 @@ use Rattle.strip_film.specs.Shoot.{step_cost}
 use Rattle.strip_film.proofs.Paths.{rest_lies}
 use Rattle.strip_lines.specs.Lines.{known, rules_of}
 use Rattle.strip_lines.proofs.Grown.{known-grows}
-use Rattle.strip_count.specs.Parts.{no_task}
+use Rattle.strip_lines.specs.Parts.{no_task}
 use Rattle.strip_layers.specs.declared.layer.Standing.{Standing}
 use Rattle.strip_layers.specs.Layer.{no_standing, standing_at, value_in}
 use Rattle.strip_layers.specs.Raised.{IsLeastOver, IsRaised, MayRaise}

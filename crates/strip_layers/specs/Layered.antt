@@ -7,8 +7,8 @@ use Rattle.strip_film.specs.declared.shared.Line.{Line}
 use Rattle.strip_film.specs.Film.{all_scenes}
 use Rattle.strip_film.specs.Path.{PathData, IsComplete}
 use Rattle.strip_lines.specs.Lines.{AreJustified, ahead, known, line_at, rules_of}
-use Rattle.strip_count.specs.Apart.{AreApart, IsLeft}
-use Rattle.strip_count.specs.Paths.{candidate_count, leaving_count}
+use Rattle.strip_lines.specs.Apart.{AreApart, IsLeft}
+use Rattle.strip_lines.specs.Paths.{candidate_count, leaving_count}
 use Rattle.strip_layers.specs.Search.{SearchData}
 
 pub record LayeredData : Type 0 where

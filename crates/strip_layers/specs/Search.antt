@@ -10,8 +10,8 @@ use Rattle.strip_film.specs.Path.{PathData, IsComplete}
 use Rattle.strip_film.specs.Rules.{Rules}
 use Rattle.strip_bound.specs.Bounds.{bound}
 use Rattle.strip_lines.specs.Lines.{AreJustified, GrowTo, ahead, line_at}
-use Rattle.strip_count.specs.Apart.{AreApart, IsLeft}
-use Rattle.strip_count.specs.Paths.{candidate_count}
+use Rattle.strip_lines.specs.Apart.{AreApart, IsLeft}
+use Rattle.strip_lines.specs.Paths.{candidate_count}
 use Rattle.strip_layers.specs.declared.ask.Ask.{Ask}
 use Rattle.strip_layers.specs.declared.found.Lowest.{Lowest}
 use Rattle.strip_layers.specs.Asks.{Suffices}

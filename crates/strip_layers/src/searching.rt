@@ -19,10 +19,10 @@ use crate::state::Search;
 use crate::walking::walk_whole;
 use indexmap::IndexMap;
 use std::alloc::Global;
-use strip_count::laws::lines_of_different_sets_are_few;
 use strip_film::Path;
 use strip_film::laws::{kept_orders_are_ready_lists, steps_add_up_to_the_pay};
 use strip_io::Memory;
+use strip_lines::laws::lines_of_different_sets_are_few;
 
 /// Searches for a cheapest order of the film, from a complete path, with at most `cap` lines. The cost limits rise from
 /// the look-ahead of all scenes to the best path's pay, at first in `steps` equal steps. A walk that needs more than

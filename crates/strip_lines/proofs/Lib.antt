@@ -2,3 +2,12 @@ pub mod Justified
 pub mod Ahead
 pub mod Grown
 pub mod Examples
+pub mod Sums
+pub mod Enumerated
+pub mod Length
+pub mod Ordered
+pub mod Later
+pub mod Shares
+pub mod CountExamples
+pub mod Lesser
+pub mod Apart

@@ -1,1 +1,4 @@
 pub mod Lines
+pub mod Paths
+pub mod Parts
+pub mod Apart

@@ -16,7 +16,7 @@ use Rattle.strip_film.proofs.Paths.{rest_lies}
 use Rattle.strip_rule.specs.Rule.{open_firsts}
 use Rattle.strip_rule.proofs.Firsts.{first_there, firsts_set}
 use Rattle.strip_lines.specs.Lines.{rules_of}
-use Rattle.strip_count.specs.Paths.{path_along}
+use Rattle.strip_lines.specs.Paths.{path_along}
 use Rattle.strip_paths.specs.Paths.{paths_after, with_path}
 use Rattle.strip_paths.proofs.Added.{AreApart, Pays, apart_of, each_of, pays_kept, pays_of}
 use Rattle.strip_paths.proofs.Lists.{Contains-map}

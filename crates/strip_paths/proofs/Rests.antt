@@ -12,7 +12,7 @@ use Rattle.std.proofs.lemmas.Map.Keys.{IsDistinct-IsPermutation}
 use Rattle.std.proofs.lemmas.Map.Made.{AllPairs-from_IsDistinct, IsDistinct-from_AllPairs}
 use Rattle.indexmap.specs.IndexSet.{insert_key}
 use Rattle.strip_film.specs.Path.{PathData}
-use Rattle.strip_count.specs.Parts.{no_task}
+use Rattle.strip_lines.specs.Parts.{no_task}
 use Rattle.strip_paths.proofs.Placed.{leaves, none_leaves}
 
 abbrev pub rests : List PathData → List ℕ

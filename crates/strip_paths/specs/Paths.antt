@@ -4,7 +4,7 @@ use Rattle.strip_mask.specs.Set.{members}
 use Rattle.strip_model.specs.Film.{FilmData}
 use Rattle.strip_film.specs.Path.{PathData}
 use Rattle.strip_rule.specs.Rule.{open_firsts}
-use Rattle.strip_count.specs.Paths.{path_along}
+use Rattle.strip_lines.specs.Paths.{path_along}
 
 -- the open paths that go on from a path with one scene more, by rising scenes
 abbrev pub paths_after : FilmData → PathData → List PathData

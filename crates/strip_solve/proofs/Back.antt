@@ -13,7 +13,7 @@ use Rattle.strip_film.specs.Path.{PathData}
 use Rattle.strip_film.specs.declared.shared.Line.{Line}
 use Rattle.strip_film.specs.Film.{all_scenes}
 use Rattle.strip_lines.specs.Lines.{AreJustified, known, rules_of}
-use Rattle.strip_count.specs.Paths.{factorial, candidate_count}
+use Rattle.strip_lines.specs.Paths.{factorial, candidate_count}
 use Rattle.strip_reduce.specs.Law.{StandsFor}
 use Rattle.strip_reduce.specs.Oriented.{oriented}
 use Rattle.strip_reduce.specs.Reduction.{reduced}

@@ -10,7 +10,7 @@ use Rattle.strip_film.specs.Film.{all_scenes}
 use Rattle.strip_film.specs.Path.{PathData, IsComplete}
 use Rattle.strip_film.specs.Rules.{Rules}
 use Rattle.strip_lines.specs.Lines.{AreJustified, ahead, known}
-use Rattle.strip_count.specs.Paths.{factorial, candidate_count, leaving_count}
+use Rattle.strip_lines.specs.Paths.{factorial, candidate_count, leaving_count}
 use Rattle.strip_reduce.specs.Oriented.{oriented}
 use Rattle.strip_reduce.specs.Reduction.{reduced}
 use Rattle.strip_reduce.specs.State.{way_back}

@@ -8,8 +8,8 @@ use Rattle.strip_film.specs.Path.{PathData}
 use Rattle.strip_film.specs.Rules.{IsOpen}
 use Rattle.strip_film.specs.Shown.{CursorData}
 use Rattle.strip_film.proofs.Paths.{rest_lies}
-use Rattle.strip_count.specs.Parts.{lies_in}
-use Rattle.strip_count.specs.Paths.{ComesAfter}
+use Rattle.strip_lines.specs.Parts.{lies_in}
+use Rattle.strip_lines.specs.Paths.{ComesAfter}
 use Rattle.strip_hand.specs.Search.{SearchData, depth_of, search_rules}
 use Rattle.strip_hand.specs.Hand.{HandData, IsHand, Knows}
 use Rattle.strip_hand.specs.Calls.{IsFound as IsTold, IsSpent, MakesLine, StandsAt}

@@ -22,7 +22,7 @@ use Rattle.strip_rule.proofs.Open.{open_is}
 use Rattle.strip_rule.proofs.Firsts.{firsts_set}
 use Rattle.strip_lines.specs.Lines.{GrowTo, IsJustified, ahead, line_at}
 use Rattle.strip_lines.proofs.Ahead.{least_step_le}
-use Rattle.strip_count.specs.Paths.{ComesAfter}
+use Rattle.strip_lines.specs.Paths.{ComesAfter}
 use Rattle.strip_hand.specs.Search.{SearchData, search_rules}
 use Rattle.strip_hand.specs.Hand.{HandData, IsHand, Knows}
 use Rattle.strip_hand.specs.Calls.{MayRaise}

@@ -18,8 +18,8 @@ use Rattle.strip_film.proofs.Ranks.{earlier_longer}
 use Rattle.strip_rule.specs.Rule.{open_firsts}
 use Rattle.strip_lines.specs.Lines.{known}
 use Rattle.strip_lines.proofs.Grown.{known-grows, known-static}
-use Rattle.strip_count.specs.Parts.{lies_in, no_task}
-use Rattle.strip_count.specs.Paths.{ComesAfter}
+use Rattle.strip_lines.specs.Parts.{lies_in, no_task}
+use Rattle.strip_lines.specs.Paths.{ComesAfter}
 use Rattle.strip_hand.specs.Search.{SearchData, depth_of, search_rules}
 use Rattle.strip_hand.specs.Hand.{HandData, IsHand}
 use Rattle.strip_walk.specs.declared.found.Found.{Found}

@@ -11,8 +11,8 @@ use Rattle.strip_film.specs.Rules.{IsOpen, Rules}
 use Rattle.strip_film.specs.Shown.{CursorData}
 use Rattle.strip_lines.specs.Lines.{GrowTo}
 use Rattle.strip_lines.proofs.Grown.{grow_trans}
-use Rattle.strip_count.specs.Parts.{lies_in}
-use Rattle.strip_count.specs.Paths.{ComesAfter}
+use Rattle.strip_lines.specs.Parts.{lies_in}
+use Rattle.strip_lines.specs.Paths.{ComesAfter}
 use Rattle.strip_hand.specs.Search.{SearchData, depth_of, search_rules}
 use Rattle.strip_hand.specs.Hand.{HandData, Knows, RecordData}
 use Rattle.strip_hand.specs.Calls.{StandsAt}

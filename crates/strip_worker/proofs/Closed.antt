@@ -18,8 +18,8 @@ use Rattle.strip_film.proofs.StepSum.{steps_are_pay}
 use Rattle.strip_lines.specs.Lines.{known, rules_of}
 use Rattle.strip_lines.proofs.Grown.{known-grows}
 use Rattle.strip_lines.proofs.Justified.{known_is_true}
-use Rattle.strip_count.specs.Paths.{candidate_count, leaving_count}
-use Rattle.strip_count.proofs.Shares.{lines_few, lines_ways}
+use Rattle.strip_lines.specs.Paths.{candidate_count, leaving_count}
+use Rattle.strip_lines.proofs.Shares.{lines_few, lines_ways}
 use Rattle.strip_hand.specs.Hand.{HandData, IsHand, IsSearchOf}
 use Rattle.strip_hand.specs.Search.{GoesBy, SearchData, depth_of, search_rules}
 use Rattle.strip_world.proofs.True.{tasks_apart}

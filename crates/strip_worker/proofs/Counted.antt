@@ -5,8 +5,8 @@ use Rattle.strip_mask.specs.Sums.{sum_below}
 use Rattle.strip_mask.proofs.Sums.{sum_below-suc, sum_below-zero}
 use Rattle.strip_film.specs.declared.shared.Line.{Line}
 use Rattle.strip_film.specs.Path.{PathData}
-use Rattle.strip_count.specs.Paths.{ComesAfter, candidate_count}
-use Rattle.strip_count.proofs.Shares.{is_candidate_from, lines_room}
+use Rattle.strip_lines.specs.Paths.{ComesAfter, candidate_count}
+use Rattle.strip_lines.proofs.Shares.{is_candidate_from, lines_room}
 use Rattle.strip_hand.specs.Hand.{HandData, IsHand, RecordData, no_path_yet}
 use Rattle.strip_hand.specs.Search.{depth_of, search_rules}
 use Rattle.strip_world.proofs.True.{tasks_apart}

@@ -8,7 +8,7 @@ use Rattle.strip_model.specs.declared.kind.Kind.{Kind}
 use Rattle.strip_model.specs.Film.{FilmData}
 use Rattle.strip_film.specs.Path.{PathData}
 use Rattle.strip_lines.proofs.Grown.{grow_self}
-use Rattle.strip_count.specs.Parts.{AreCounted}
+use Rattle.strip_lines.specs.Parts.{AreCounted}
 use Rattle.strip_hand.specs.Calls.{Claims}
 use Rattle.strip_hand.specs.Hand.{RecordData, no_path_yet}
 use Rattle.strip_hand.specs.Search.{GoesBy, SearchData, depth_of, search_rules}

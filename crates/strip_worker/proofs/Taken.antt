@@ -10,7 +10,7 @@ use Rattle.strip_film.specs.Path.{PathData}
 use Rattle.strip_film.specs.Shown.{CursorData, path_data}
 use Rattle.strip_lines.specs.Lines.{rules_of}
 use Rattle.strip_lines.proofs.Grown.{grow_self}
-use Rattle.strip_count.specs.Parts.{no_task}
+use Rattle.strip_lines.specs.Parts.{no_task}
 use Rattle.strip_hand.specs.Calls.{Claims}
 use Rattle.strip_hand.specs.Hand.{HandData, IsHand, no_path_yet}
 use Rattle.strip_hand.specs.Search.{GoesBy, SearchData, search_rules}

@@ -6,7 +6,7 @@ use Rattle.strip_model.specs.Film.{FilmData}
 use Rattle.strip_film.specs.Path.{PathData}
 use Rattle.strip_film.specs.Rules.{IsOpen}
 use Rattle.strip_lines.specs.Lines.{rules_of}
-use Rattle.strip_count.specs.Parts.{lies_in, no_task}
+use Rattle.strip_lines.specs.Parts.{lies_in, no_task}
 use Rattle.strip_hand.specs.Hand.{HandData, no_path_yet}
 use Rattle.strip_hand.specs.Search.{GoesBy, depth_of, search_rules}
 use Rattle.strip_front.specs.Front.{FrontData, task_at}

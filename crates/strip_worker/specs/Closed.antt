@@ -7,7 +7,7 @@ use Rattle.strip_film.specs.declared.shared.Line.{Line}
 use Rattle.strip_film.specs.Film.{all_scenes}
 use Rattle.strip_film.specs.Path.{IsComplete, PathData}
 use Rattle.strip_lines.specs.Lines.{AreJustified, GrowTo, ahead, known}
-use Rattle.strip_count.specs.Parts.{AreCounted}
+use Rattle.strip_lines.specs.Parts.{AreCounted}
 use Rattle.strip_hand.specs.Hand.{HandData, IsHand, IsSearchOf, RecordData, no_path_yet}
 use Rattle.strip_hand.specs.Search.{depth_of, search_rules}
 use Rattle.strip_worker.specs.Ended.{EndedData, IsEnded}

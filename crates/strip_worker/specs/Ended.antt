@@ -8,7 +8,7 @@ use Rattle.strip_film.specs.declared.shared.Line.{Line}
 use Rattle.strip_film.specs.Film.{all_scenes}
 use Rattle.strip_film.specs.Path.{PathData}
 use Rattle.strip_lines.specs.Lines.{AreJustified, ahead, known, rules_of}
-use Rattle.strip_count.specs.Paths.{candidate_count, leaving_count}
+use Rattle.strip_lines.specs.Paths.{candidate_count, leaving_count}
 
 -- an order and what it costs; a bound on what any order pays; the lines and their number; and whether there would have
 -- been more

@@ -17,7 +17,7 @@ use Rattle.strip_film.specs.Path.{PathData, IsComplete}
 use Rattle.strip_film.specs.Shown.{CursorData}
 use Rattle.strip_lines.specs.Lines.{GrowTo, line_at, no_line}
 use Rattle.strip_lines.proofs.Grown.{added-grows, grow_self, raised-grows}
-use Rattle.strip_count.specs.Paths.{ComesAfter}
+use Rattle.strip_lines.specs.Paths.{ComesAfter}
 use Rattle.strip_hand.specs.Hand.{HandData, IsHand, IsRecord, Knows, RecordData}
 use Rattle.strip_hand.specs.Calls.{Claims, Enlists, IsFound, MakesLine, MayEnlist as HandMayEnlist, MayRaise as HandMayRaise, Notes, Probes, Raises, Tells}
 use Rattle.strip_hand.specs.Search.{search_rules}

@@ -4,7 +4,7 @@ use Rattle.std.proofs.lemmas.Bool.{cases_eq, cond_both, ltb-true}
 use Rattle.std.proofs.lemmas.List.{length-set, get_or-set_same, get_or-set_other}
 use Rattle.strip_film.specs.Path.{PathData}
 use Rattle.strip_lines.proofs.Grown.{grow_self}
-use Rattle.strip_count.specs.Parts.{AreCounted}
+use Rattle.strip_lines.specs.Parts.{AreCounted}
 use Rattle.strip_hand.specs.Search.{depth_of, search_rules}
 use Rattle.strip_world.specs.World.{PartData, WorldData, no_part, part_at, stripe_at}
 use Rattle.strip_world.specs.Sound.{IsClaimed, IsSound}

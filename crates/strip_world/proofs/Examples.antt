@@ -15,7 +15,7 @@ use Rattle.strip_film.specs.declared.shared.Noted.TheVariants.{Fresh}
 use Rattle.strip_film.specs.declared.shared.Probe.TheVariants.{Hit, Miss}
 use Rattle.strip_film.specs.Film.{IsFilm}
 use Rattle.strip_film.specs.Path.{PathData, IsComplete, IsPath}
-use Rattle.strip_count.specs.Parts.{lies_in}
+use Rattle.strip_lines.specs.Parts.{lies_in}
 use Rattle.strip_table.specs.Home.{hash, bucket_of, stripe_of}
 use Rattle.strip_world.specs.declared.event.Event.TheVariants.{Claim, Look}
 use Rattle.strip_world.specs.declared.event.Reply.TheVariants.{Least, Task}

@@ -10,9 +10,9 @@ use Rattle.strip_film.specs.Path.{IsPath, PathData}
 use Rattle.strip_film.proofs.Paths.{rest_lies}
 use Rattle.strip_lines.specs.Lines.{line_at, no_line, raised, with_raised}
 use Rattle.strip_lines.proofs.Grown.{added-grows, justified-added, raised-grows, justified-raised}
-use Rattle.strip_count.specs.Paths.{is_candidate}
-use Rattle.strip_count.specs.Parts.{AreCounted, Enlists, lies_in}
-use Rattle.strip_count.proofs.Shares.{counted_then, is_candidate_from}
+use Rattle.strip_lines.specs.Paths.{is_candidate}
+use Rattle.strip_lines.specs.Parts.{AreCounted, Enlists, lies_in}
+use Rattle.strip_lines.proofs.Shares.{counted_then, is_candidate_from}
 use Rattle.strip_hand.specs.Search.{depth_of, search_rules}
 use Rattle.strip_world.specs.World.{PartData, WorldData, no_part, no_worker, part_at, stripe_at, worker_at}
 use Rattle.strip_world.specs.Allowed.{MayEnlist, MayRaise}

@@ -10,8 +10,8 @@ use Rattle.strip_film.specs.declared.shared.Line.{Line}
 use Rattle.strip_film.specs.Film.{IsFilm, LiesIn}
 use Rattle.strip_film.specs.Path.{PathData, IsComplete}
 use Rattle.strip_lines.specs.Lines.{IsJustified}
-use Rattle.strip_count.specs.Parts.{AreCounted}
-use Rattle.strip_count.proofs.Shares.{counted_none}
+use Rattle.strip_lines.specs.Parts.{AreCounted}
+use Rattle.strip_lines.proofs.Shares.{counted_none}
 use Rattle.strip_table.specs.Home.{bucket_of, stripe_of}
 use Rattle.strip_table.specs.Bucket.{IsBucket}
 use Rattle.strip_table.specs.Stripe.{IsStripe, bucket_at}

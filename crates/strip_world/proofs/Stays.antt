@@ -5,7 +5,7 @@ use Rattle.strip_film.specs.declared.shared.Known.{Known}
 use Rattle.strip_film.specs.declared.shared.Line.{Line}
 use Rattle.strip_film.specs.Path.{IsPath}
 use Rattle.strip_lines.specs.Lines.{GrowTo}
-use Rattle.strip_count.specs.Parts.{lies_in}
+use Rattle.strip_lines.specs.Parts.{lies_in}
 use Rattle.strip_table.specs.Stripe.{bucket_at}
 use Rattle.strip_hand.specs.Search.{SearchData, depth_of}
 use Rattle.strip_world.specs.World.{PartData, WorldData, part_at}

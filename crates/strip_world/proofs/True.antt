@@ -11,9 +11,9 @@ use Rattle.strip_film.specs.Rules.{BeginLeast, BoundsFinish}
 use Rattle.strip_film.proofs.Optimum.{finish_from_optimum}
 use Rattle.strip_lines.specs.Lines.{line_at, no_line}
 use Rattle.strip_lines.proofs.Justified.{lines_are_true}
-use Rattle.strip_count.specs.Paths.{candidate_count, leaving_count}
-use Rattle.strip_count.specs.Parts.{AreTasks}
-use Rattle.strip_count.proofs.Shares.{lines_few, lines_room, lines_ways}
+use Rattle.strip_lines.specs.Paths.{candidate_count, leaving_count}
+use Rattle.strip_lines.specs.Parts.{AreTasks}
+use Rattle.strip_lines.proofs.Shares.{lines_few, lines_room, lines_ways}
 use Rattle.strip_table.specs.Stripe.{bucket_at}
 use Rattle.strip_hand.specs.Search.{AreStarts, SearchData, depth_of, search_rules}
 use Rattle.strip_world.specs.World.{WorldData, no_worker, part_at, stripe_at, worker_at}

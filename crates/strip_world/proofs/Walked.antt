@@ -11,7 +11,7 @@ use Rattle.strip_film.specs.Finish.{AreFirsts, Remained, rest_after}
 use Rattle.strip_film.specs.Path.{PathData}
 use Rattle.strip_film.specs.Shown.{path_data}
 use Rattle.strip_film.proofs.Lists.{AreFirsts-append, LiesBelow-rest_after, ready_there, rest_after-append}
-use Rattle.strip_count.specs.Parts.{lies_in}
+use Rattle.strip_lines.specs.Parts.{lies_in}
 
 -- what remains after scenes lies in the film
 pub lies_after : (film : FilmData) (rest : ℕ) (scenes : List ℕ) → rest ≡ rest_after (all_scenes film) scenes → LiesIn film rest

@@ -6,8 +6,8 @@ use Rattle.strip_film.specs.Rules.{IsOpen}
 use Rattle.strip_film.specs.Shown.{path_data}
 use Rattle.strip_bound.specs.Bounds.{bound}
 use Rattle.strip_lines.specs.Lines.{IsJustified, line_at}
-use Rattle.strip_count.specs.Paths.{ComesAfter}
-use Rattle.strip_count.specs.Parts.{lies_in}
+use Rattle.strip_lines.specs.Paths.{ComesAfter}
+use Rattle.strip_lines.specs.Parts.{lies_in}
 use Rattle.strip_world.specs.declared.event.Event.{Event}
 use Rattle.strip_world.specs.declared.event.Event.TheVariants.{Look, Offer, Claim, Enlist, Raise, Probe as Ask, Note}
 use Rattle.strip_hand.specs.Hand.{Knows, LetsThrough}

@@ -4,7 +4,7 @@ use Rattle.strip_film.specs.declared.shared.Known.{Known}
 use Rattle.strip_film.specs.Film.{IsFilm}
 use Rattle.strip_film.specs.Path.{PathData, IsComplete, IsPath}
 use Rattle.strip_lines.specs.Lines.{AreJustified}
-use Rattle.strip_count.specs.Parts.{AreCounted, lies_in}
+use Rattle.strip_lines.specs.Parts.{AreCounted, lies_in}
 use Rattle.strip_table.specs.Home.{stripe_of}
 use Rattle.strip_table.specs.Stripe.{IsStripe, bucket_at}
 use Rattle.strip_hand.specs.Hand.{Knows}

@@ -8,7 +8,7 @@ ghost use Rattle.strip_film.specs.Film.{IsFilm};
 ghost use Rattle.strip_film.specs.Finish.{IsAtMostFinish};
 ghost use Rattle.strip_film.specs.Path.{IsComplete, PathData};
 ghost use Rattle.strip_lines.specs.Lines.{GrowTo};
-ghost use Rattle.strip_count.specs.Paths.{candidate_count, leaving_count};
+ghost use Rattle.strip_lines.specs.Paths.{candidate_count, leaving_count};
 ghost use Rattle.strip_table.specs.Stripe.{bucket_at};
 ghost use Rattle.strip_world.specs.declared.event.Event.{Event};
 ghost use Rattle.strip_world.specs.declared.event.Limits.{Limits};

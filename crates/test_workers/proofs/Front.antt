@@ -8,7 +8,7 @@ use Rattle.std.specs.List.{starts_with}
 use Rattle.std.specs.Prelude.{map, nat_eq, replicate, slice_index_or}
 use Rattle.strip_film.specs.declared.path.Path.{Path}
 use Rattle.strip_film.specs.Shown.{path_data}
-use Rattle.strip_count.specs.Parts.{lies_in, no_task}
+use Rattle.strip_lines.specs.Parts.{lies_in, no_task}
 use Rattle.strip_hand.specs.Search.{depth_of}
 use Rattle.test_workers.specs.Team.{IsOfWholes}
 use Rattle.strip_mask.proofs.Lists.{contains_cases, contains_none}

@@ -1,7 +1,7 @@
 use Rattle.std.proofs.Common.{◌≡◌, ◌≤◌, ◌+◌, ◌*◌, ◌⊎◌, ℕ, zero, suc, min, inl, inr, refl, sym, ap, ◌∙◌, subst, mul-le-mul_right, arith}
 use Rattle.std.proofs.lemmas.Bool.{cases_lt}
 use Rattle.std.proofs.Math.Nat.{mul_comm}
-use Rattle.strip_count.specs.Paths.{factorial}
+use Rattle.strip_lines.specs.Paths.{factorial}
 use Rattle.strip_crew.proofs.racing.room_for.Goals as goal
 
 next : (n : ℕ) → factorial (n + 1) ≡ (n + 1) * factorial n

@@ -5,7 +5,7 @@ use Rattle.strip_model.specs.Film.{FilmData}
 use Rattle.strip_film.specs.declared.path.Path.{Path}
 use Rattle.strip_film.specs.Path.{IsPath, PathData}
 use Rattle.strip_film.specs.Shown.{path_data}
-use Rattle.strip_count.specs.Parts.{no_task}
+use Rattle.strip_lines.specs.Parts.{no_task}
 use Rattle.strip_paths.specs.Paths.{paths_after, with_path}
 use Rattle.strip_paths.specs.Shown.{paths_of}
 use Rattle.strip_paths.proofs.Lists.{fold_flat_map}

@@ -10,7 +10,7 @@ use Rattle.strip_film.proofs.Paths.{rest_lies}
 use Rattle.strip_rule.specs.Rule.{open_firsts}
 use Rattle.strip_rule.proofs.Firsts.{first_there}
 use Rattle.strip_lines.specs.Lines.{rules_of}
-use Rattle.strip_count.specs.Paths.{path_along}
+use Rattle.strip_lines.specs.Paths.{path_along}
 use Rattle.strip_paths.specs.Shown.{paths_of}
 use Rattle.strip_paths.proofs.After.{path_is}
 use Rattle.strip_paths.proofs.Open.{first_ready, set_is}

@@ -8,7 +8,7 @@ use Rattle.strip_film.specs.Path.{IsPath, PathData}
 use Rattle.strip_film.specs.Rules.{IsOpen}
 use Rattle.strip_film.specs.Shown.{path_data}
 use Rattle.strip_lines.specs.Lines.{rules_of}
-use Rattle.strip_count.specs.Parts.{no_task}
+use Rattle.strip_lines.specs.Parts.{no_task}
 use Rattle.strip_paths.specs.Shown.{paths_of}
 use Rattle.strip_front.specs.Layers.{layer}
 use Rattle.strip_front.proofs.Facts.{LayerFacts}

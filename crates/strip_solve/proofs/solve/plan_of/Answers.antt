@@ -6,7 +6,7 @@ use Rattle.strip_film.specs.Film.{all_scenes}
 use Rattle.strip_film.specs.Path.{PathData}
 use Rattle.strip_film.specs.Shown.{path_data}
 use Rattle.strip_lines.specs.Lines.{rules_of}
-use Rattle.strip_count.specs.Paths.{factorial, candidate_count, is_candidate}
+use Rattle.strip_lines.specs.Paths.{factorial, candidate_count, is_candidate}
 use Rattle.strip_reduce.specs.Shown.{reduced_data}
 use Rattle.strip_worker.specs.Ended.{EndedData}
 use Rattle.strip_worker.specs.Shown.{ended_data}

@@ -1,9 +1,0 @@
-pub mod Sums
-pub mod Enumerated
-pub mod Length
-pub mod Ordered
-pub mod Later
-pub mod Shares
-pub mod Examples
-pub mod Lesser
-pub mod Apart

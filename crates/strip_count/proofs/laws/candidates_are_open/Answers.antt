@@ -1,5 +1,0 @@
-use Rattle.strip_count.proofs.Shares.{candidate_is, is_candidate_from}
-use Rattle.strip_count.proofs.laws.candidates_are_open.Goals as goal
-
-pub returns : goal.returns
-returns c = λ rules cost path within. (candidate_is rules cost path within, is_candidate_from rules cost path)

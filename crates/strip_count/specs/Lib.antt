@@ -1,3 +1,0 @@
-pub mod Paths
-pub mod Parts
-pub mod Apart
