@@ -1,2 +1,6 @@
 mod Ends
 pub mod Endings
+pub mod Long
+pub mod Ways
+pub mod Given
+pub mod Due

@@ -4,3 +4,7 @@ pub mod Ending
 pub mod Run
 pub mod Claims
 pub mod Headline
+pub mod Said
+pub mod Input
+pub mod Both
+pub mod Fit

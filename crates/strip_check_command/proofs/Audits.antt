@@ -24,10 +24,10 @@ use Rattle.strip_answer.specs.Run.{IsOutcome, RunData}
 use Rattle.strip_answer.specs.Claims.{AsksFor, IsDue}
 use Rattle.strip_answer.specs.Headline.{IsHeadline}
 use Rattle.strip_answer.proofs.Endings.{AreShown, IsOfJob}
-use Rattle.strip_inputs.specs.Both.{FilmSays, PlanSays, ways_due}
-use Rattle.strip_inputs.specs.Input.{HasInput}
-use Rattle.strip_inputs.specs.Said.{film_said, plan_said, too_many_told}
-use Rattle.strip_inputs.proofs.Ways.{due_by, due_told, due_unfit}
+use Rattle.strip_answer.specs.Both.{FilmSays, PlanSays, ways_due}
+use Rattle.strip_answer.specs.Input.{HasInput}
+use Rattle.strip_answer.specs.Said.{film_said, plan_said, too_many_told}
+use Rattle.strip_answer.proofs.Ways.{due_by, due_told, due_unfit}
 use Rattle.strip_check_command.specs.Audit.{IsAudited, status_of, verdict_text}
 use Rattle.strip_check_command.specs.Claims.{IsAuditDue, IsAuditFit, IsAuditStatus, IsAuditUnfit, IsProved, NameFiles, audit_claims}
 

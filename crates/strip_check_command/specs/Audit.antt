@@ -13,7 +13,7 @@ use Rattle.strip_check.specs.Told.{told_of}
 use Rattle.strip_answer.specs.declared.status.Status.{Status}
 use Rattle.strip_answer.specs.declared.status.Status.TheVariants.{Done, NotAccepted, BadInstance}
 use Rattle.strip_answer.specs.Rows.{error_row, told_row}
-use Rattle.strip_inputs.specs.Said.{too_many_told}
+use Rattle.strip_answer.specs.Said.{too_many_told}
 
 abbrev pub status_of : Verdict → Status
 status_of Accepted = Done

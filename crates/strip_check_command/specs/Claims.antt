@@ -11,9 +11,9 @@ use Rattle.strip_answer.specs.declared.status.Status.{Status}
 use Rattle.strip_answer.specs.declared.status.Status.TheVariants.{Done, NotAccepted, BadInstance}
 use Rattle.strip_answer.specs.Claims.{Claims}
 use Rattle.strip_io.specs.Files.{FilesData}
-use Rattle.strip_inputs.specs.Both.{IsBothDue, IsEither}
-use Rattle.strip_inputs.specs.Fit.{AreFit, AreUnfit}
-use Rattle.strip_inputs.specs.Said.{film_said, plan_said}
+use Rattle.strip_answer.specs.Both.{IsBothDue, IsEither}
+use Rattle.strip_answer.specs.Fit.{AreFit, AreUnfit}
+use Rattle.strip_answer.specs.Said.{film_said, plan_said}
 use Rattle.strip_check_command.specs.Audit.{IsAudited}
 
 -- the words are two operands, a film's file and a plan's: what follows the word of the command that checks

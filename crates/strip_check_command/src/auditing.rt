@@ -4,15 +4,14 @@ ghost use Rattle.strip_proof.specs.Plan.{plan_data};
 ghost use Rattle.strip_check.specs.declared.verdict.Verdict.TheVariants.{Accepted, Refused};
 ghost use Rattle.strip_answer.specs.Ending.{answer_text};
 ghost use Rattle.strip_answer.specs.Run.{FilesStay, HasReadFault};
-ghost use Rattle.strip_inputs.specs.Both.{IsEither};
+ghost use Rattle.strip_answer.specs.Both.{IsEither};
 ghost use Rattle.strip_words.specs.Shown.{plan_files_data};
 ghost use Rattle.strip_check_command.specs.Claims.{IsAuditDue};
 ghost use Rattle.strip_check_command.specs.Audit.{IsAudited, status_of, verdict_text};
 
 use std::alloc::Global;
-use strip_answer::{Answer, Status, Stop, told_row};
+use strip_answer::{Answer, PlanJob, Status, Stop, answer_plan, told_row, too_many_classes};
 use strip_check::{CheckFault, Reason, Verdict, check};
-use strip_inputs::{PlanJob, answer_plan, too_many_classes};
 use strip_io::{Files, Memory};
 use strip_model::Instance;
 use strip_proof::Plan;

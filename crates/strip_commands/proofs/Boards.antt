@@ -18,9 +18,9 @@ use Rattle.strip_answer.specs.declared.status.Status.{Status}
 use Rattle.strip_answer.specs.declared.status.Status.TheVariants.{Done, Bounded, NotAccepted}
 use Rattle.strip_io.specs.Files.{FilesData}
 use Rattle.strip_answer.proofs.Endings.{AreShown, IsOfJob}
-use Rattle.strip_inputs.specs.Both.{IsBothDue}
-use Rattle.strip_inputs.specs.Fit.{AreTold, AreUnfit}
-use Rattle.strip_inputs.proofs.Ways.{due_by, due_told, due_unfit}
+use Rattle.strip_answer.specs.Both.{IsBothDue}
+use Rattle.strip_answer.specs.Fit.{AreTold, AreUnfit}
+use Rattle.strip_answer.proofs.Ways.{due_by, due_told, due_unfit}
 use Rattle.strip_check_command.proofs.Audits.{audit_answers, audit_fit, audit_unfit}
 use Rattle.strip_commands.specs.Plan.{IsPlan, exit_of}
 use Rattle.strip_commands.specs.Film.{IsFilmDue, IsFilmFit, IsFilmUnfit}

@@ -8,10 +8,10 @@ use Rattle.strip_answer.specs.declared.status.Status.{Status}
 use Rattle.strip_answer.specs.declared.status.Status.TheVariants.{BadInstance}
 use Rattle.strip_answer.proofs.Endings.{IsOfJob}
 use Rattle.strip_io.specs.Files.{FilesData}
-use Rattle.strip_inputs.specs.declared.input.Input.{Input}
-use Rattle.strip_inputs.specs.declared.input.Input.TheVariants.{Said}
-use Rattle.strip_inputs.specs.Input.{HasInput}
-use Rattle.strip_inputs.specs.Said.{IsFilmGiven, IsSaidFilm, film_said}
+use Rattle.strip_answer.specs.declared.input.Input.{Input}
+use Rattle.strip_answer.specs.declared.input.Input.TheVariants.{Said}
+use Rattle.strip_answer.specs.Input.{HasInput}
+use Rattle.strip_answer.specs.Said.{IsFilmGiven, IsSaidFilm, film_said}
 use Rattle.strip_commands.specs.Film.{HasClasses, IsAnswerTo, IsFilmDue, IsFilmUnfit}
 
 -- a film that is given is one that a text says

@@ -17,7 +17,7 @@ use Rattle.strip_answer.specs.declared.answer.Answer.{Answer}
 use Rattle.strip_answer.specs.declared.status.Status.TheVariants.{Done, NotAccepted, BadInstance}
 use Rattle.strip_answer.specs.Ending.{answer_text}
 use Rattle.strip_answer.specs.Rows.{error_row, told_row}
-use Rattle.strip_inputs.specs.Said.{IsSaidFilm, too_many_told}
+use Rattle.strip_answer.specs.Said.{IsSaidFilm, too_many_told}
 use Rattle.strip_commands.specs.Price.{IsPriced}
 
 module _ {E : Type 0} (inst : InstanceData) where

@@ -21,7 +21,7 @@ use Rattle.strip_answer.specs.declared.answer.Answer.{Answer}
 use Rattle.strip_answer.specs.declared.status.Status.TheVariants.{BadInstance}
 use Rattle.strip_answer.specs.Ending.{answer_text}
 use Rattle.strip_answer.specs.Rows.{error_row}
-use Rattle.strip_inputs.specs.Said.{IsSaidFilm, too_many_told}
+use Rattle.strip_answer.specs.Said.{IsSaidFilm, too_many_told}
 use Rattle.strip_commands.specs.Plan.{exit_of, text_of}
 use Rattle.strip_commands.specs.Solve.{IsSolveAnswer}
 

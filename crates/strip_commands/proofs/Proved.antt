@@ -24,7 +24,7 @@ use Rattle.strip_io.specs.Files.{FilesData}
 use Rattle.strip_answer.specs.Run.{IsOutcome, Prints, RunData}
 use Rattle.strip_answer.specs.Claims.{AsksFor, IsDue}
 use Rattle.strip_answer.specs.Headline.{IsHeadline}
-use Rattle.strip_inputs.specs.Said.{film_said}
+use Rattle.strip_answer.specs.Said.{film_said}
 use Rattle.strip_commands.specs.Due.{IsDueFor, board_claims}
 use Rattle.strip_commands.specs.Plan.{IsPlan, exit_of}
 use Rattle.strip_commands.specs.Proved.{IsBoardProved, IsSolvedFilm}

@@ -12,7 +12,7 @@ use Rattle.strip_answer.specs.declared.answer.Answer.{Answer}
 use Rattle.strip_answer.specs.declared.status.Status.TheVariants.{Done, BadInstance}
 use Rattle.strip_answer.specs.Ending.{answer_text}
 use Rattle.strip_answer.specs.Rows.{error_row}
-use Rattle.strip_inputs.specs.Said.{too_many_told}
+use Rattle.strip_answer.specs.Said.{too_many_told}
 use Rattle.strip_commands.specs.Plan.{exit_of}
 use Rattle.strip_commands.specs.Made.{IsGenDue, IsTrialDue, made_of, trial_row}
 use Rattle.strip_commands.proofs.Printed.{solved_accepted}

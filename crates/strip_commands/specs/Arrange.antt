@@ -12,7 +12,7 @@ use Rattle.strip_words.specs.Plans.{PlanFilesData}
 use Rattle.strip_answer.specs.declared.status.Status.{Status}
 use Rattle.strip_answer.specs.declared.status.Status.TheVariants.{Done}
 use Rattle.strip_io.specs.Files.{FilesData}
-use Rattle.strip_inputs.specs.Both.{IsBothDue}
+use Rattle.strip_answer.specs.Both.{IsBothDue}
 use Rattle.strip_commands.specs.Ordered.{IsNoOrder}
 
 -- the text is printed that says the instance with its scenes in this order, whose rows pay what the order pays; the

@@ -7,7 +7,7 @@ use Rattle.strip_words.specs.Plans.{PlanFilesData}
 use Rattle.strip_answer.specs.declared.status.Status.{Status}
 use Rattle.strip_answer.specs.declared.status.Status.TheVariants.{Done}
 use Rattle.strip_io.specs.Files.{FilesData}
-use Rattle.strip_inputs.specs.Both.{IsBothDue}
+use Rattle.strip_answer.specs.Both.{IsBothDue}
 use Rattle.strip_commands.specs.Ordered.{HasOrder, IsNoOrder}
 
 -- the page of the plan's order is printed, which may break pairs

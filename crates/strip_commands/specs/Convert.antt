@@ -8,8 +8,8 @@ use Rattle.strip_words.specs.Plans.{PlanFilesData}
 use Rattle.strip_answer.specs.declared.status.Status.{Status}
 use Rattle.strip_answer.specs.declared.status.Status.TheVariants.{Done}
 use Rattle.strip_io.specs.Files.{FilesData}
-use Rattle.strip_inputs.specs.Both.{IsBothDue}
-use Rattle.strip_inputs.specs.Fit.{AreFit}
+use Rattle.strip_answer.specs.Both.{IsBothDue}
+use Rattle.strip_answer.specs.Fit.{AreFit}
 
 -- the text is that of the plan with all its lines, and says this plan
 pub record IsConverted (inst : InstanceData) (plan : PlanData) (status : Status) (printed : List ℕ) : Type 0 where

@@ -10,8 +10,8 @@ use Rattle.strip_answer.specs.declared.status.Status.{Status}
 use Rattle.strip_answer.specs.declared.status.Status.TheVariants.{Done, Bounded, BadInstance}
 use Rattle.strip_answer.specs.Claims.{Claims}
 use Rattle.strip_io.specs.Files.{FilesData}
-use Rattle.strip_inputs.specs.Both.{IsEither}
-use Rattle.strip_inputs.specs.Fit.{AreUnfit}
+use Rattle.strip_answer.specs.Both.{IsEither}
+use Rattle.strip_answer.specs.Fit.{AreUnfit}
 use Rattle.strip_check_command.specs.Claims.{IsAuditDue, IsAuditFit, IsAuditStatus, IsAuditUnfit}
 use Rattle.strip_commands.specs.Film.{IsFilmDue, IsFilmFit, IsFilmUnfit}
 use Rattle.strip_commands.specs.Solve.{IsSolveDue}

@@ -8,9 +8,9 @@ use Rattle.strip_answer.specs.declared.status.Status.{Status}
 use Rattle.strip_answer.specs.declared.status.Status.TheVariants.{BadInstance}
 use Rattle.strip_answer.specs.Rows.{error_row}
 use Rattle.strip_io.specs.Files.{FilesData}
-use Rattle.strip_inputs.specs.Fit.{IsNoFilm}
-use Rattle.strip_inputs.specs.Input.{HasInput}
-use Rattle.strip_inputs.specs.Said.{IsRefusal, film_said, too_many_told}
+use Rattle.strip_answer.specs.Fit.{IsNoFilm}
+use Rattle.strip_answer.specs.Input.{HasInput}
+use Rattle.strip_answer.specs.Said.{IsRefusal, film_said, too_many_told}
 
 -- the status and the text that are due for what a text says: those for an instance, or those that refuse the text
 abbrev pub IsAnswerTo : (InstanceData → Status → List ℕ → Type 0) → Status → List ℕ → Result InstanceData (Option ToldData)

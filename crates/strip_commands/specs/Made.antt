@@ -16,7 +16,7 @@ use Rattle.strip_words.specs.Gen.{GenData, TrialData}
 use Rattle.strip_answer.specs.declared.status.Status.{Status}
 use Rattle.strip_answer.specs.declared.status.Status.TheVariants.{Done, BadInstance}
 use Rattle.strip_answer.specs.Rows.{error_row}
-use Rattle.strip_inputs.specs.Said.{too_many_told}
+use Rattle.strip_answer.specs.Said.{too_many_told}
 use Rattle.strip_commands.specs.Plan.{exit_of}
 
 -- the instance that is made

@@ -10,7 +10,7 @@ use Rattle.strip_answer.specs.declared.status.Status.{Status}
 use Rattle.strip_answer.specs.declared.status.Status.TheVariants.{NotAccepted}
 use Rattle.strip_answer.specs.Rows.{told_row}
 use Rattle.strip_io.specs.Files.{FilesData}
-use Rattle.strip_inputs.specs.Fit.{AreFit, AreUnfit}
+use Rattle.strip_answer.specs.Fit.{AreFit, AreUnfit}
 
 -- the plan has an order of the scenes, which may break pairs
 abbrev pub HasOrder : InstanceData → PlanData → Type 0

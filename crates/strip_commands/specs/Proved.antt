@@ -8,7 +8,7 @@ use Rattle.strip_words.specs.Solve.{NameSolve, SolveData}
 use Rattle.strip_proof.specs.Plan.{PlanData}
 use Rattle.strip_solve.specs.Own.{own_order}
 use Rattle.strip_answer.specs.Run.{RunData}
-use Rattle.strip_inputs.specs.Said.{film_said}
+use Rattle.strip_answer.specs.Said.{film_said}
 use Rattle.strip_commands.specs.Plan.{text_of}
 
 -- the text of the job's file says an instance, and what was printed is the text of a plan of it: no order that

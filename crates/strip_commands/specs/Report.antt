@@ -10,7 +10,7 @@ use Rattle.strip_words.specs.Plans.{PlanFilesData}
 use Rattle.strip_answer.specs.declared.status.Status.{Status}
 use Rattle.strip_answer.specs.declared.status.Status.TheVariants.{Done}
 use Rattle.strip_io.specs.Files.{FilesData}
-use Rattle.strip_inputs.specs.Both.{IsBothDue}
+use Rattle.strip_answer.specs.Both.{IsBothDue}
 use Rattle.strip_commands.specs.Ordered.{IsNoOrder}
 
 -- a report of an instance in an order

@@ -6,9 +6,8 @@ ghost use Rattle.strip_commands.specs.Arrange.{IsArranged};
 
 use crate::reports::{printed, refused};
 use std::alloc::Global;
-use strip_answer::Answer;
+use strip_answer::{Answer, PlanJob};
 use strip_check::Reason;
-use strip_inputs::PlanJob;
 use strip_instance::laws::an_arranged_instance_pays_the_same;
 use strip_instance::write_arranged;
 use strip_io::Memory;

@@ -6,9 +6,8 @@ ghost use Rattle.strip_commands.specs.Board.{IsPageOrNone};
 
 use crate::reports::{printed, refused};
 use std::alloc::Global;
-use strip_answer::Answer;
+use strip_answer::{Answer, PlanJob};
 use strip_check::Reason;
-use strip_inputs::PlanJob;
 use strip_io::Memory;
 use strip_model::{Instance, is_order};
 use strip_proof::Plan;

@@ -3,12 +3,11 @@ ghost use Rattle.std.specs.Prelude.{IfOk};
 ghost use Rattle.strip_proof.specs.Plan.{plan_data};
 ghost use Rattle.strip_proof.specs.Text.{IsReadablePlan};
 ghost use Rattle.strip_answer.specs.Ending.{answer_text};
-ghost use Rattle.strip_inputs.specs.Said.{IsSaidFilm};
+ghost use Rattle.strip_answer.specs.Said.{IsSaidFilm};
 ghost use Rattle.strip_commands.specs.Convert.{IsConverted};
 
 use std::alloc::Global;
-use strip_answer::{Answer, Status};
-use strip_inputs::PlanJob;
+use strip_answer::{Answer, PlanJob, Status};
 use strip_io::Memory;
 use strip_model::Instance;
 use strip_proof::laws::written_plans_read_back;

@@ -9,15 +9,14 @@ ghost use Rattle.strip_solve.specs.Priced.{priced_plan};
 ghost use Rattle.strip_answer.specs.declared.status.Status.TheVariants.{Done};
 ghost use Rattle.strip_answer.specs.Ending.{answer_text};
 ghost use Rattle.strip_answer.specs.Run.{FilesStay};
-ghost use Rattle.strip_inputs.specs.Said.{IsSaidFilm};
+ghost use Rattle.strip_answer.specs.Said.{IsSaidFilm};
 ghost use Rattle.strip_commands.specs.Film.{IsFilmDue};
 ghost use Rattle.strip_commands.specs.Price.{IsPriced};
 
 use crate::reports::{printed, refused};
 use std::alloc::Global;
-use strip_answer::{Answer, Stop};
+use strip_answer::{Answer, Input, Stop, film_input, too_many_classes};
 use strip_check::{CheckFault, Verdict, check};
-use strip_inputs::{Input, film_input, too_many_classes};
 use strip_io::{Files, Memory};
 use strip_model::Instance;
 use strip_proof::laws::written_plans_read_back;

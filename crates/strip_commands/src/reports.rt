@@ -9,9 +9,8 @@ ghost use Rattle.strip_reports.specs.Sheet.{sheet_text};
 ghost use Rattle.strip_commands.specs.Report.{IsReported};
 
 use std::alloc::Global;
-use strip_answer::{Answer, Status, told_row};
+use strip_answer::{Answer, PlanJob, Status, told_row};
 use strip_check::Reason;
-use strip_inputs::PlanJob;
 use strip_io::Memory;
 use strip_model::{Instance, is_order};
 use strip_proof::Plan;

@@ -7,15 +7,14 @@ ghost use Rattle.strip_proof.specs.Plan.{plan_data};
 ghost use Rattle.strip_solve.specs.Answer.{MayBe};
 ghost use Rattle.strip_answer.specs.Ending.{answer_text};
 ghost use Rattle.strip_answer.specs.Run.{FilesStay};
-ghost use Rattle.strip_inputs.specs.Said.{IsSaidFilm};
+ghost use Rattle.strip_answer.specs.Said.{IsSaidFilm};
 ghost use Rattle.strip_commands.specs.Due.{IsWithin};
 ghost use Rattle.strip_commands.specs.Plan.{exit_of, text_of};
 ghost use Rattle.strip_commands.specs.Solve.{IsSolveAnswer, IsSolveDue};
 ghost use Rattle.strip_commands.specs.Solver.{Solves};
 
 use std::alloc::Global;
-use strip_answer::{Answer, Status, Stop};
-use strip_inputs::{Input, film_input, too_many_classes};
+use strip_answer::{Answer, Input, Status, Stop, film_input, too_many_classes};
 use strip_io::{Files, Memory};
 use strip_model::{Instance, Kind};
 use strip_proof::laws::written_plans_read_back;

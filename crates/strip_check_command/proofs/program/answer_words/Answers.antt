@@ -3,8 +3,8 @@ use Rattle.strip_words.specs.Plans.{PlanFilesData}
 use Rattle.strip_words.specs.Shown.{plan_files_data, texts}
 use Rattle.strip_answer.specs.Claims.{AsksFor}
 use Rattle.strip_answer.proofs.Endings.{stay_wider}
-use Rattle.strip_inputs.specs.Both.{IsEither}
-use Rattle.strip_inputs.proofs.Given.{of_ok}
+use Rattle.strip_answer.specs.Both.{IsEither}
+use Rattle.strip_answer.proofs.Given.{of_ok}
 use Rattle.strip_check_command.specs.Claims.{audit_claims}
 use Rattle.strip_check_command.proofs.program.answer_words.Goals as goal
 

@@ -2,7 +2,7 @@ use Rattle.std.proofs.Common.{inr}
 use Rattle.strip_words.specs.Shown.{job_data, texts}
 use Rattle.strip_answer.specs.Claims.{AsksFor}
 use Rattle.strip_answer.proofs.Endings.{stay_wider}
-use Rattle.strip_inputs.proofs.Given.{of_ok}
+use Rattle.strip_answer.proofs.Given.{of_ok}
 use Rattle.strip_commands.specs.Due.{IsFileOf, board_claims}
 use Rattle.strip_commands.proofs.answer.answer_words.Goals as goal
 

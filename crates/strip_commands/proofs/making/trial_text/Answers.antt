@@ -1,6 +1,6 @@
 use Rattle.std.proofs.Common.{◌∙◌, ℕ, List, [], ◌∷◌, ◌++◌, codes, ap}
 use Rattle.strip_text.specs.Rows.{csv_row}
-use Rattle.strip_inputs.proofs.Given.{of_ok}
+use Rattle.strip_answer.proofs.Given.{of_ok}
 use Rattle.strip_commands.proofs.making.trial_text.Goals as goal
 
 pub returns : goal.returns

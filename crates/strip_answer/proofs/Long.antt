@@ -8,8 +8,8 @@ use Rattle.strip_model.specs.Data.{InstanceData}
 use Rattle.strip_instance.specs.Text.{says as film_says}
 use Rattle.strip_proof.specs.Text.{says as plan_says}
 use Rattle.strip_io.specs.Files.{FilesData}
-use Rattle.strip_inputs.specs.Input.{HasInput}
-use Rattle.strip_inputs.specs.Said.{film_of_says, film_said, plan_of_says, plan_said, too_long_told}
+use Rattle.strip_answer.specs.Input.{HasInput}
+use Rattle.strip_answer.specs.Said.{film_of_says, film_said, plan_of_says, plan_said, too_long_told}
 
 -- where a text is told it is too long, and where it isn't told there is such a text
 long_text : (limit : ℕ) (told : Option (List ℕ)) → ((bytes : List ℕ) → told ≡ Some bytes → limit < length bytes)

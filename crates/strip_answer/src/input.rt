@@ -3,10 +3,10 @@ ghost use Rattle.std.specs.Prelude.{◌≡◌, IfOk};
 ghost use Rattle.strip_answer.specs.declared.status.Status.TheVariants.{BadInstance};
 ghost use Rattle.strip_answer.specs.Ending.{answer_text};
 ghost use Rattle.strip_answer.specs.Rows.{error_row};
-ghost use Rattle.strip_inputs.specs.Said.{too_long_told, too_many_told};
+ghost use Rattle.strip_answer.specs.Said.{too_long_told, too_many_told};
 
+use crate::{Answer, Status};
 use std::alloc::Global;
-use strip_answer::{Answer, Status};
 use strip_io::Memory;
 use strip_text::Told;
 

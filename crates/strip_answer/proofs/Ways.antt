@@ -9,12 +9,12 @@ use Rattle.strip_answer.specs.declared.status.Status.TheVariants.{BadInstance, B
 use Rattle.strip_io.specs.Files.{FilesData}
 use Rattle.strip_answer.specs.Run.{FilesStay}
 use Rattle.strip_io.specs.Counts.{ReadFailed}
-use Rattle.strip_inputs.specs.declared.input.Input.{Input}
-use Rattle.strip_inputs.specs.declared.input.Input.TheVariants.{Said}
-use Rattle.strip_inputs.specs.Input.{HasInput}
-use Rattle.strip_inputs.specs.Said.{IsFilmGiven, IsSaidFilm, film_said, plan_said}
-use Rattle.strip_inputs.specs.Both.{Ways, BothSay, FilmSays, PlanSays, IsBothDue, IsEither, MaySayFilm, ways_due}
-use Rattle.strip_inputs.specs.Fit.{AreTold, AreUnfit}
+use Rattle.strip_answer.specs.declared.input.Input.{Input}
+use Rattle.strip_answer.specs.declared.input.Input.TheVariants.{Said}
+use Rattle.strip_answer.specs.Input.{HasInput}
+use Rattle.strip_answer.specs.Said.{IsFilmGiven, IsSaidFilm, film_said, plan_said}
+use Rattle.strip_answer.specs.Both.{Ways, BothSay, FilmSays, PlanSays, IsBothDue, IsEither, MaySayFilm, ways_due}
+use Rattle.strip_answer.specs.Fit.{AreTold, AreUnfit}
 
 -- what holds of a file's text, by what else holds of it
 pub input_so : (name : List ℕ) (limit : ℕ) (before after : FilesData) (P Q : List ℕ → Type 0) → ((text : List ℕ) → P text → Q text)

@@ -9,13 +9,13 @@ use Rattle.strip_proof.specs.Plan.{PlanData}
 use Rattle.strip_text.specs.Told.{ToldData}
 use Rattle.strip_answer.specs.declared.answer.Answer.{Answer}
 use Rattle.strip_io.specs.Files.{FilesData}
-use Rattle.strip_inputs.specs.declared.input.Input.{Input}
-use Rattle.strip_inputs.specs.declared.input.Input.TheVariants.{Said, Refused}
-use Rattle.strip_inputs.specs.Input.{HasInput}
-use Rattle.strip_inputs.specs.Said.{IsFilmGiven, IsPlanGiven, IsSaidFilm, film_of_says, film_said, plan_said}
-use Rattle.strip_inputs.specs.Both.{BothSay, FilmSays, PlanSays, ways_of_input}
-use Rattle.strip_inputs.proofs.Long.{short_film}
-use Rattle.strip_inputs.proofs.Ways.{input_so}
+use Rattle.strip_answer.specs.declared.input.Input.{Input}
+use Rattle.strip_answer.specs.declared.input.Input.TheVariants.{Said, Refused}
+use Rattle.strip_answer.specs.Input.{HasInput}
+use Rattle.strip_answer.specs.Said.{IsFilmGiven, IsPlanGiven, IsSaidFilm, film_of_says, film_said, plan_said}
+use Rattle.strip_answer.specs.Both.{BothSay, FilmSays, PlanSays, ways_of_input}
+use Rattle.strip_answer.proofs.Long.{short_film}
+use Rattle.strip_answer.proofs.Ways.{input_so}
 
 -- what holds of an answer, by what else holds of it
 pub of_ok : {T E : Type 0} (P Q : T → Type 0) (r : Result T E) → ((x : T) → P x → Q x) → IfOk r P → IfOk r Q

@@ -9,11 +9,11 @@ use Rattle.strip_answer.specs.declared.answer.Answer.{Answer}
 use Rattle.strip_answer.specs.declared.status.Status.{Status}
 use Rattle.strip_answer.specs.Ending.{answer_text}
 use Rattle.strip_io.specs.Files.{FilesData}
-use Rattle.strip_inputs.specs.declared.input.Input.{Input}
-use Rattle.strip_inputs.specs.declared.input.Input.TheVariants.{Said, Refused}
-use Rattle.strip_inputs.specs.Said.{IsSaidFilm, film_said, plan_said}
-use Rattle.strip_inputs.specs.Both.{BothSay, FilmSays, IsBothDue, PlanSays, ways_due, ways_of_input}
-use Rattle.strip_inputs.proofs.Ways.{both_follow}
+use Rattle.strip_answer.specs.declared.input.Input.{Input}
+use Rattle.strip_answer.specs.declared.input.Input.TheVariants.{Said, Refused}
+use Rattle.strip_answer.specs.Said.{IsSaidFilm, film_said, plan_said}
+use Rattle.strip_answer.specs.Both.{BothSay, FilmSays, IsBothDue, PlanSays, ways_due, ways_of_input}
+use Rattle.strip_answer.proofs.Ways.{both_follow}
 
 module _ (Due : InstanceData → PlanData → Status → List ℕ → Type 0) (film plan : List ℕ) (before after : FilesData) (input : Input (InstanceData × Plan)) where
   -- a file was refused

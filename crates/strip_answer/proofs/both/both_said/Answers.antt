@@ -1,10 +1,10 @@
 use Rattle.std.proofs.Common.{◌≡◌, Ok, Err, Result, IsErrAnd, inr, refl, sym, ap, ◌∙◌}
 use Rattle.strip_answer.specs.declared.ending.Stop.{Stop}
 use Rattle.strip_answer.specs.declared.ending.Stop.TheVariants.{Read}
-use Rattle.strip_inputs.proofs.Due.{given_said}
-use Rattle.strip_inputs.proofs.Given.{both_given, film_refused, plan_refused}
-use Rattle.strip_inputs.proofs.Ways.{failed_later, may_say, stays_both}
-use Rattle.strip_inputs.proofs.both.both_said.Goals as goal
+use Rattle.strip_answer.proofs.Due.{given_said}
+use Rattle.strip_answer.proofs.Given.{both_given, film_refused, plan_refused}
+use Rattle.strip_answer.proofs.Ways.{failed_later, may_say, stays_both}
+use Rattle.strip_answer.proofs.both.both_said.Goals as goal
 
 -- what was answered is no failed read
 fine : {T : Type 0} (x : T) (r : Result T Stop) → r ≡ Ok x → r ≡ Err Read → ⊥

@@ -7,12 +7,12 @@ ghost use Rattle.strip_instance.specs.Told.{told_of};
 ghost use Rattle.strip_answer.specs.declared.status.Status.TheVariants.{BadInstance};
 ghost use Rattle.strip_answer.specs.Ending.{answer_text};
 ghost use Rattle.strip_answer.specs.Run.{FilesStay};
-ghost use Rattle.strip_inputs.specs.Said.{IsFilmGiven, IsRefusal, film_said};
-ghost use Rattle.strip_inputs.specs.Input.{HasInput};
+ghost use Rattle.strip_answer.specs.Said.{IsFilmGiven, IsRefusal, film_said};
+ghost use Rattle.strip_answer.specs.Input.{HasInput};
 
 use crate::input::{Input, too_long};
+use crate::{Answer, Status, Stop};
 use std::alloc::Global;
-use strip_answer::{Answer, Status, Stop};
 use strip_instance::laws::{what_is_said_has_readable_names, what_is_said_keeps_the_limits};
 use strip_instance::{InstanceFault, read_instance};
 use strip_io::{Files, LoadFault, Memory, load};

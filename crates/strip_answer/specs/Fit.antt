@@ -6,7 +6,7 @@ use Rattle.strip_text.specs.Told.{ToldData}
 use Rattle.strip_answer.specs.declared.status.Status.{Status}
 use Rattle.strip_answer.specs.declared.status.Status.TheVariants.{BadInstance, BadPlan}
 use Rattle.strip_io.specs.Files.{FilesData}
-use Rattle.strip_inputs.specs.Said.{film_said, plan_said}
+use Rattle.strip_answer.specs.Said.{film_said, plan_said}
 
 -- the files tell this instance, and this plan of it
 pub record AreTold (film plan : List ℕ) (files : FilesData) (inst : InstanceData) (its : PlanData) : Type 0 where

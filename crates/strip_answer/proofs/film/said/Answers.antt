@@ -1,5 +1,5 @@
-use Rattle.strip_inputs.proofs.Given.{film_given}
-use Rattle.strip_inputs.proofs.film.said.Goals as goal
+use Rattle.strip_answer.proofs.Given.{film_given}
+use Rattle.strip_answer.proofs.film.said.Goals as goal
 
 pub returns-in-Ok : goal.returns-in-Ok
 returns-in-Ok c =

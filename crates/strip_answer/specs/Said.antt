@@ -14,8 +14,8 @@ use Rattle.strip_answer.specs.declared.status.Status.{Status}
 use Rattle.strip_answer.specs.declared.status.Status.TheVariants.{BadInstance, BadPlan}
 use Rattle.strip_answer.specs.Ending.{answer_text}
 use Rattle.strip_answer.specs.Rows.{error_row}
-use Rattle.strip_inputs.specs.declared.input.Input.{Input}
-use Rattle.strip_inputs.specs.declared.input.Input.TheVariants.{Said, Refused}
+use Rattle.strip_answer.specs.declared.input.Input.{Input}
+use Rattle.strip_answer.specs.declared.input.Input.TheVariants.{Said, Refused}
 
 abbrev pub too_long_told : ToldData
 too_long_told = told_alone (codes "TooLong") None None

@@ -1,8 +1,8 @@
 use Rattle.std.proofs.Common.{ap, sym, subst, refl, Err}
-use Rattle.strip_inputs.specs.declared.input.Input.TheVariants.{Refused}
-use Rattle.strip_inputs.specs.Said.{IsFilmGiven, film_said, too_long_told}
-use Rattle.strip_inputs.proofs.Long.{long_film, long_input}
-use Rattle.strip_inputs.proofs.film.film_input.Goals as goal
+use Rattle.strip_answer.specs.declared.input.Input.TheVariants.{Refused}
+use Rattle.strip_answer.specs.Said.{IsFilmGiven, film_said, too_long_told}
+use Rattle.strip_answer.proofs.Long.{long_film, long_input}
+use Rattle.strip_answer.proofs.film.film_input.Goals as goal
 
 pub returns-in_ok-too_long-in-Err-TooLong-clause-given : goal.returns-in_ok-too_long-in-Err-TooLong-clause-given
 returns-in_ok-too_long-in-Err-TooLong-clause-given g c =

@@ -1,7 +1,7 @@
 use Rattle.std.proofs.Common.{subst}
-use Rattle.strip_inputs.specs.Both.{AreSaid}
-use Rattle.strip_inputs.proofs.Due.{given_due, refused_due}
-use Rattle.strip_inputs.proofs.both.answer_plan.Goals as goal
+use Rattle.strip_answer.specs.Both.{AreSaid}
+use Rattle.strip_answer.proofs.Due.{given_due, refused_due}
+use Rattle.strip_answer.proofs.both.answer_plan.Goals as goal
 
 pub answer-requires-clause-said : goal.answer-requires-clause-said
 answer-requires-clause-said g c = (subst AreSaid c.in-Said.is c.in_ok-inst.ensures.said).0

@@ -9,10 +9,10 @@ use Rattle.strip_answer.specs.declared.status.Status.{Status}
 use Rattle.strip_answer.specs.declared.status.Status.TheVariants.{BadInstance, BadPlan}
 use Rattle.strip_answer.specs.Ending.{answer_text}
 use Rattle.strip_io.specs.Files.{FilesData}
-use Rattle.strip_inputs.specs.declared.input.Input.{Input}
-use Rattle.strip_inputs.specs.declared.input.Input.TheVariants.{Said, Refused}
-use Rattle.strip_inputs.specs.Input.{HasInput}
-use Rattle.strip_inputs.specs.Said.{IsRefusal, IsSaidFilm, film_said, plan_said}
+use Rattle.strip_answer.specs.declared.input.Input.{Input}
+use Rattle.strip_answer.specs.declared.input.Input.TheVariants.{Said, Refused}
+use Rattle.strip_answer.specs.Input.{HasInput}
+use Rattle.strip_answer.specs.Said.{IsRefusal, IsSaidFilm, film_said, plan_said}
 
 -- what holds where the film's file is refused and this is told of it, where the plan's is, and where they say an
 -- instance and a plan

@@ -6,14 +6,14 @@ ghost use Rattle.strip_proof.specs.Text.{IsReadablePlan};
 ghost use Rattle.strip_answer.specs.declared.status.Status.{Status};
 ghost use Rattle.strip_answer.specs.Ending.{answer_text};
 ghost use Rattle.strip_answer.specs.Run.{FilesStay, HasReadFault};
-ghost use Rattle.strip_inputs.specs.Both.{AreSaid, BothSay, IsBothDue, IsEither, ways_of_input};
-ghost use Rattle.strip_inputs.specs.Said.{IsSaidFilm};
+ghost use Rattle.strip_answer.specs.Both.{AreSaid, BothSay, IsBothDue, IsEither, ways_of_input};
+ghost use Rattle.strip_answer.specs.Said.{IsSaidFilm};
 
 use crate::film::film_input;
 use crate::input::Input;
 use crate::plan::plan_input;
+use crate::{Answer, Stop};
 use std::alloc::Global;
-use strip_answer::{Answer, Stop};
 use strip_io::{Files, Memory};
 use strip_model::Instance;
 use strip_proof::Plan;

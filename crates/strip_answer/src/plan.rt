@@ -6,12 +6,12 @@ ghost use Rattle.strip_proof.specs.Told.{told_of};
 ghost use Rattle.strip_answer.specs.declared.status.Status.TheVariants.{BadPlan};
 ghost use Rattle.strip_answer.specs.Ending.{answer_text};
 ghost use Rattle.strip_answer.specs.Run.{FilesStay};
-ghost use Rattle.strip_inputs.specs.Said.{IsPlanGiven, IsRefusal, plan_said};
-ghost use Rattle.strip_inputs.specs.Input.{HasInput};
+ghost use Rattle.strip_answer.specs.Said.{IsPlanGiven, IsRefusal, plan_said};
+ghost use Rattle.strip_answer.specs.Input.{HasInput};
 
 use crate::input::{Input, too_long};
+use crate::{Answer, Status, Stop};
 use std::alloc::Global;
-use strip_answer::{Answer, Status, Stop};
 use strip_io::{Files, LoadFault, Memory, load};
 use strip_model::Instance;
 use strip_proof::{Plan, PlanFault, read_plan};

@@ -1,8 +1,8 @@
 use Rattle.std.proofs.Common.{ap, sym, subst, refl, Err}
-use Rattle.strip_inputs.specs.declared.input.Input.TheVariants.{Refused}
-use Rattle.strip_inputs.specs.Said.{IsPlanGiven, plan_said, too_long_told}
-use Rattle.strip_inputs.proofs.Long.{long_plan, long_input}
-use Rattle.strip_inputs.proofs.plan.plan_input.Goals as goal
+use Rattle.strip_answer.specs.declared.input.Input.TheVariants.{Refused}
+use Rattle.strip_answer.specs.Said.{IsPlanGiven, plan_said, too_long_told}
+use Rattle.strip_answer.proofs.Long.{long_plan, long_input}
+use Rattle.strip_answer.proofs.plan.plan_input.Goals as goal
 
 pub returns-in_ok-too_long-in-Err-TooLong-clause-given : goal.returns-in_ok-too_long-in-Err-TooLong-clause-given
 returns-in_ok-too_long-in-Err-TooLong-clause-given g c =

@@ -1,4 +1,0 @@
-pub mod Long
-pub mod Ways
-pub mod Given
-pub mod Due

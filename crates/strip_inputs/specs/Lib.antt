@@ -1,4 +1,0 @@
-pub mod Said
-pub mod Input
-pub mod Both
-pub mod Fit
