@@ -6,7 +6,8 @@ use Rattle.strip_mask.proofs.ByMembers.{below_width, empty_from, has-empty, has-
 use Rattle.strip_group.specs.Group.{GroupData}
 use Rattle.strip_group.specs.Places.{actor_at, pick}
 use Rattle.strip_arrivals.specs.Arrivals.{Event, IsOver, StateData, after, allowed, comes, events, goes, is_allowed, leaves}
-use Rattle.strip_arrivals.specs.Company.{IsBegun, IsCompany, OfNewcomers, staying}
+use Rattle.strip_arrivals.specs.Company.{IsCompany, staying}
+use Rattle.strip_arrivals.proofs.Lowered.{IsBegun, OfNewcomers}
 use Rattle.strip_arrivals.specs.Gross.{IsBest, IsGross, gross_charge}
 use Rattle.strip_mask.proofs.Lists.{contains_here, contains_later, contains_cases, contains_none}
 use Rattle.strip_arrivals.proofs.Lists.{contains_from_filter}

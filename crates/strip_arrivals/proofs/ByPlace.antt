@@ -122,7 +122,7 @@ cast_more before after place false lies more same = (
 
 -- ---- a crew
 
-module _ {S : Type 0} (value : S → ℕ → ℕ) (count : ℕ) (film : GroupData) (crew : Crew S) (known : IsCrew value count film crew) (small : IsSet crew.group.0) where
+module _ (count : ℕ) (film : GroupData) (crew : Crew) (known : IsCrew count film crew) (small : IsSet crew.group.0) where
   -- a cast is a set of places
   pub cast_small : (scene : ℕ) → slice_index crew.casts scene < 2 ^ count
   cast_small scene = lies_wide (slice_index crew.casts scene) (known.lies scene)

@@ -38,7 +38,10 @@ all_passes p (y ∷ ys) x all there =
 pub passes_all : {X : Type 0} (p : X → Bool) (xs : List X) → ((x : X) → Contains xs x → p x ≡ true) → list_all p xs ≡ true
 passes_all p xs each = list_all-from_AllPass p xs (All-weaker (Contains xs) (λ x. p x ≡ true) each xs (All-contains_itself xs))
 
--- sums of one, two and four
+-- sums of none, one, two and four
+pub sum_none : (f : ℕ → ℕ) → sum_below 0 f ≡ 0
+sum_none f = sum_below-zero f
+
 pub sum_one : (f : ℕ → ℕ) → sum_below 1 f ≡ f 0
 sum_one f = sum_below-suc 0 f ∙ ap (λ (n : ℕ). n + f 0) (sum_below-zero f) ∙ omega arith
 

@@ -8,14 +8,15 @@ use Rattle.strip_mask.proofs.ByMembers.{below_width, empty_from, has-empty, has-
 use Rattle.strip_mask.proofs.Members.{Contains-members}
 use Rattle.strip_mask.proofs.Sums.{sum_below-ext, sum_below-none}
 use Rattle.strip_mask.proofs.Totals.{sum_over_mono}
-use Rattle.strip_sets.specs.Pass.{cost}
+use Rattle.strip_sets.specs.Saving.{owes}
 use Rattle.strip_group.specs.Group.{GroupData}
 use Rattle.strip_group.specs.Places.{actor_at, pick}
 use Rattle.strip_arrivals.specs.Arrivals.{StateData, actors_of, allowed, goes, is_allowed, is_open, is_without, leaves}
-use Rattle.strip_arrivals.specs.Company.{AreCounted, AreLeaving, ArePrices, IsCompany, IsStage, just, open_with, staying}
+use Rattle.strip_arrivals.specs.Company.{AreCounted, ArePrices, IsCompany, IsStage, just, open_with, staying}
 use Rattle.strip_arrivals.specs.Gross.{gross_charge}
 use Rattle.strip_sets.proofs.Sets.{without_most}
 use Rattle.strip_group.proofs.Places.{has_pick}
+use Rattle.strip_arrivals.proofs.Lowered.{AreLeaving}
 use Rattle.strip_arrivals.proofs.Casts.{is_none}
 use Rattle.strip_arrivals.proofs.Along.{can_leave}
 use Rattle.strip_arrivals.proofs.Runs.{all_fine, may}
@@ -188,7 +189,7 @@ module _ (film : GroupData) (set group newcomers : ℕ) (known : IsCompany film 
         -- what it costs
         leaving_cost : ((scene : ℕ) → has set scene ≡ true → is_open film (staying group coming here gone places) scene ≡ true
             → has (slice_index film.casts scene) (actor_at group place) ≡ true → is_without film coming scene ≡ true)
-            → cost classes prices days places (without places place) ≡ gross_charge film set group (staying group coming here gone places) (leaves (actor_at group place))
+            → owes classes prices days places (without places place) ≡ gross_charge film set group (staying group coming here gone places) (leaves (actor_at group place))
         leaving_cost free =
             let actor : ℕ = actor_at group place in
             let gone_of : ℕ → ℕ = λ kind. meet (closed film set group newcomers coming here gone stage known.small_set places actor) (just film newcomers (kinds kind) set) in
@@ -224,12 +225,11 @@ module _ (film : GroupData) (set group newcomers : ℕ) (known : IsCompany film 
                 )
 
       -- where nobody is still to come, everyone may leave
-      pub leaving_free : coming ≡ 0 → AreLeaving film set group coming here gone (cost classes prices days) (λ _. 0)
+      pub leaving_free : coming ≡ 0 → AreLeaving film set group coming here gone (owes classes prices days)
       leaving_free nobody_comes places place lt there = record {
-        may = λ _. may_leave places place lt there
+        may = may_leave places place lt there
             (all_fine film set group known.small (staying group coming here gone places) (leaves (actor_at group place)) nobody_comes);
-        only = λ _. refl;
-        charged = λ _. leaving_cost places place lt there (λ scene _ _ _. is_none film coming scene (λ i works expected.
+        charged = leaving_cost places place lt there (λ scene _ _ _. is_none film coming scene (λ i works expected.
             empty_has i (subst (λ (s : ℕ). has s i ≡ true) nobody_comes expected)));
       }
 

@@ -12,8 +12,7 @@ use Rattle.strip_mask.proofs.Turns.{turn_fits, turns_sum}
 use Rattle.strip_group.specs.Group.{GroupData}
 use Rattle.strip_group.specs.Places.{pick}
 use Rattle.strip_sets.specs.Laws.{MoreInEachAbove}
-use Rattle.strip_sets.specs.Numbers.{sum_within}
-use Rattle.strip_sets.specs.Pass.{counted}
+use Rattle.strip_sets.specs.Numbers.{counted, sum_within}
 use Rattle.strip_arrivals.specs.Arrivals.{is_without}
 use Rattle.strip_arrivals.specs.Company.{IsCrew, open_with}
 use Rattle.strip_arrivals.specs.declared.crew.Crew.{Crew}
@@ -105,7 +104,7 @@ module _ (casts numbers : List ℕ) where
 
 -- ---- a crew
 
-module _ {S : Type 0} (value : S → ℕ → ℕ) (count : ℕ) (film : GroupData) (crew : Crew S) (known : IsCrew value count film crew) (small : IsSet crew.group.0) where
+module _ (count : ℕ) (film : GroupData) (crew : Crew) (known : IsCrew count film crew) (small : IsSet crew.group.0) where
   -- all scenes of a set are counted
   pub counts_are : (numbers : List ℕ) (scenes : ℕ) (done : List ℕ) → done ≡ members scenes → ((scene : ℕ) → has scenes scene ≡ true → has crew.set.0 scene ≡ true)
       → (places : ℕ) → sum_by (part_of crew.casts numbers places) done ≡ sum_over numbers (open_with film crew.group.0 places scenes)
@@ -116,7 +115,7 @@ module _ {S : Type 0} (value : S → ℕ → ℕ) (count : ℕ) (film : GroupDat
       ∙ sum_below-ext 64 (λ scene. cond {A = ℕ} (has scenes scene) (part_of crew.casts numbers places scene) 0)
       (λ scene. cond {A = ℕ} (has (open_with film crew.group.0 places scenes) scene) (slice_index numbers scene) 0) (λ scene lt.
       one (has scenes scene) (minus (slice_index crew.casts scene) places == 0) (is_without film out scene) (slice_index numbers scene)
-      (λ there. lies_in value count film crew known small scene places (within scene there))
+      (λ there. lies_in count film crew known small scene places (within scene there))
       ∙ ap (λ (b : Bool). cond {A = ℕ} b (slice_index numbers scene) 0) (sym (has_chosen (is_without film out) scenes scene (λ _. lt))))
       ∙ sym (sum_over_is numbers (open_with film crew.group.0 places scenes))
     where

@@ -16,6 +16,8 @@ mod Own
 mod Waits
 mod Sets
 mod Worked
+mod Lowered
+mod Saved
 mod Passing
 mod Begun
 mod Chosen

@@ -8,11 +8,10 @@ use Rattle.strip_mask.specs.Set.{IsSet, has, meet, minus, numbers_below, size, s
 use Rattle.strip_mask.proofs.ByMembers.{below_width, empty_from, has-minus, has-with, has-without, has_from_meet, has_from_minus, has_from_without, same_has, empty_has}
 use Rattle.strip_mask.proofs.Sums.{sum_below-add, sum_below-scale, sum_below_mono}
 use Rattle.strip_mask.proofs.Totals.{sum_over-empty, sum_over_is, sum_over_mono}
-use Rattle.strip_sets.specs.Pass.{Passes}
 use Rattle.strip_group.specs.Group.{GroupData}
 use Rattle.strip_group.specs.Places.{actor_at, pick}
 use Rattle.strip_arrivals.specs.Arrivals.{Event, IsRun, StateData, actors_of, after, allowed, comes, events, goes, is_allowed, is_open, leaves, mates, total}
-use Rattle.strip_arrivals.specs.Company.{AreLeaving, IsBegun, IsCompany, IsStage, most_paid, staying}
+use Rattle.strip_arrivals.specs.Company.{IsCompany, IsStage, most_paid, staying}
 use Rattle.strip_arrivals.specs.Gross.{IsBest, IsGross, gross_charge, gross_price, least_paid, own_pay, paid_by, weighted}
 use Rattle.strip_mask.proofs.Lists.{contains_none}
 use Rattle.strip_mask.proofs.Members.{contains_number}
@@ -24,6 +23,7 @@ use Rattle.strip_group.proofs.Places.{actor_there, has_from_pick, pick-without}
 use Rattle.strip_arrivals.proofs.Open.{open_after_going, open_after_leaving}
 use Rattle.strip_arrivals.proofs.Runs.{by_kind, over_or_not}
 use Rattle.strip_arrivals.proofs.Gross.{all_tried, charged, comes_free, none_added}
+use Rattle.strip_arrivals.proofs.Lowered.{AreLeaving, IsBegun, IsLowered}
 use Rattle.strip_arrivals.proofs.Newcomers.{actors_fewer, actors_more}
 use Rattle.std.proofs.Math.Bool.{or-true}
 
@@ -202,8 +202,8 @@ module _ (film : GroupData) (set group newcomers never : ℕ) (known : IsCompany
         omega (arith, found.2, later, event_low film set group newcomers known.small state some.0 are, still_most film set group newcomers known.small state, enough))
   ]
 
-  module _ (count : ℕ) (cost : ℕ → ℕ → ℕ) (blocked first least : ℕ → ℕ) (fits : size group ≤ count) (passes : Passes count cost blocked first least)
-      (begun : IsBegun film set group never coming here gone first) (leaving : AreLeaving film set group coming here gone cost blocked) where
+  module _ (count : ℕ) (cost : ℕ → ℕ → ℕ) (first least : ℕ → ℕ) (fits : size group ≤ count) (passes : IsLowered count cost first least)
+      (begun : IsBegun film set group never coming here gone first) (leaving : AreLeaving film set group coming here gone cost) where
     -- there is room for the places of the group
     within_count : (places : ℕ) → places < 2 ^ size group → places < 2 ^ count
     within_count places lt = omega (arith, lt, pow_mono {i = size group} {j = count} fits)
@@ -243,11 +243,11 @@ module _ (film : GroupData) (set group newcomers never : ℕ) (known : IsCompany
                 let one = leaving places by.0 lt by.1 in
                 inr (inr (
                   leaves (actor_at group by.0),
-                  one.may by.2,
+                  one.may,
                   (
                     least (without places by.0),
                     fewer places by.0 lt (lower by.0 by.1) by.1,
-                    omega (arith, by.3, one.charged by.2),
+                    omega (arith, by.2, one.charged),
                   ),
                 )))
           ];
@@ -270,11 +270,10 @@ module _ (film : GroupData) (set group newcomers never : ℕ) (known : IsCompany
             subst (λ (i : ℕ). Contains (allowed film set group (staying group coming here gone places)) (leaves i)
             → (later : ℕ) × IsGross film set group (after (staying group coming here gone places) (leaves i)) later
             × (least places ≤ gross_charge film set group (staying group coming here gone places) (leaves i) + later)) found.3
-            (λ may. let one = leaving places found.0 lt found.2 in
-            let fine = one.only may in (
+            (λ may. let one = leaving places found.0 lt found.2 in (
               least (without places found.0),
               fewer places found.0 lt (lower found.0 found.2) found.2,
-              omega (arith, passes.lower places found.0 (within_count places lt) found.2 fine, one.charged fine),
+              omega (arith, passes.lower places found.0 (within_count places lt) found.2, one.charged),
             )) allow
 
     -- the least totals of all sets of places below a number
@@ -288,8 +287,8 @@ module _ (film : GroupData) (set group newcomers never : ℕ) (known : IsCompany
         (best_low (λ _. Unit {0}) state (least places) (all_newcomers places) stage.small best (λ event. tt))
 
   -- what a pass gives are the least totals
-  pub row_least : (count : ℕ) (cost : ℕ → ℕ → ℕ) (blocked first least : ℕ → ℕ) → size group ≤ count → Passes count cost blocked first least
-      → IsBegun film set group never coming here gone first → AreLeaving film set group coming here gone cost blocked
+  pub row_least : (count : ℕ) (cost : ℕ → ℕ → ℕ) (first least : ℕ → ℕ) → size group ≤ count → IsLowered count cost first least
+      → IsBegun film set group never coming here gone first → AreLeaving film set group coming here gone cost
       → (places : ℕ) → places < 2 ^ size group → IsGross film set group (staying group coming here gone places) (least places)
-  row_least count cost blocked first least fits passes begun leaving places lt =
-      below count cost blocked first least fits passes begun leaving (places + 1) places (omega arith) lt
+  row_least count cost first least fits passes begun leaving places lt =
+      below count cost first least fits passes begun leaving (places + 1) places (omega arith) lt

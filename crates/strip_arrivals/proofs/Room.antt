@@ -1,19 +1,14 @@
 -- A party's numbers are small, and there is room for what its stages cost.
-use Rattle.std.proofs.Common.{◌≡◌, ◌≢◌, ℕ, ◌+◌, ◌*◌, ◌^◌, ◌<◌, ◌≤◌, true, not, eqb, List, slice_index, sym, ap, ◌∙◌, arith}
+use Rattle.std.proofs.Common.{◌≡◌, ◌≢◌, ℕ, ◌+◌, ◌*◌, ◌^◌, ◌<◌, ◌≤◌, true, List, slice_index, sym, ap, ◌∙◌, arith}
 use Rattle.std.proofs.Math.Nat.{mul-le-mul, mul_comm}
-use Rattle.std.proofs.lemmas.Bool.{and_parts}
-use Rattle.strip_mask.specs.Set.{has, meet, minus, sum_over, without}
+use Rattle.strip_mask.specs.Set.{has, sum_over, without}
 use Rattle.strip_mask.specs.Sums.{sum_below}
-use Rattle.strip_mask.proofs.ByMembers.{IsSet-without, has-meet, has-minus, has-without_other}
-use Rattle.strip_mask.proofs.Sums.{sum_below_mono, sum_below-scale}
+use Rattle.strip_mask.proofs.ByMembers.{IsSet-without, has-without_other}
 use Rattle.strip_mask.proofs.Totals.{sum_over_mono, sum_over-without, sum_over_le_sum}
 use Rattle.strip_group.specs.Group.{GroupData}
 use Rattle.strip_group.specs.Places.{pick}
-use Rattle.strip_sets.specs.Pass.{HasRoom}
-use Rattle.strip_arrivals.specs.Arrivals.{actors_of, mates}
-use Rattle.strip_arrivals.specs.Company.{AreMates, IsParty, just, most_paid}
+use Rattle.strip_arrivals.specs.Company.{AreCounted, IsParty, just, most_paid}
 use Rattle.strip_arrivals.specs.declared.party.Party.{Party}
-use Rattle.strip_arrivals.proofs.Chosen.{has_where}
 use Rattle.strip_arrivals.proofs.Classes.{AreDays, AreKinds, counted_most, counted_rise, days_within}
 use Rattle.strip_group.proofs.Places.{actor_there, has_from_pick}
 
@@ -40,20 +35,17 @@ module _ {S : Type 0} (value : S → ℕ → ℕ) (count most : ℕ) (film : Gro
   pub days_fit : (scenes : ℕ) → sum_over film.days scenes ≤ most
   days_fit scenes = omega (arith, few_days scenes, known.wide)
 
+  -- no set of places leaves more days open than there are
+  pub days_low : (scenes : ℕ) (sums : ℕ → ℕ) → AreCounted film group count film.days scenes sums → (places : ℕ) → places < 2 ^ count → sums places ≤ 19800
+  days_low scenes sums counted places lt = omega (arith, counted_most film group count film.days scenes sums counted places lt, few_days scenes)
+
   pub group_low : (actors : ℕ) → ((i : ℕ) → has actors i ≡ true → has group i ≡ true) → sum_over film.holds actors ≤ sum_over film.holds group
   group_low actors within = sum_over_mono film.holds actors group within
 
-  pub rates_low : (places : ℕ) → places < 2 ^ count → value party.crew.rates places ≤ sum_over film.holds group
+  pub rates_low : (places : ℕ) → places < 2 ^ count → sum_over party.crew.holds places ≤ sum_over film.holds group
   rates_low places lt =
       let part = group_low (pick group places) (λ i there. let found = has_from_pick group places i there in ap (has group) (sym found.3) ∙ actor_there group found.0 found.1) in
       omega (arith, known.crew.rates places lt, part)
-
-  pub mates_low : (actors : List ℕ) (rates : ℕ → ℕ) → AreMates film set group count actors rates → (places : ℕ) → places < 2 ^ count → rates places ≤ sum_over film.holds group
-  mates_low actors rates are_mates places lt =
-      let part = group_low (meet (minus group (pick group places)) (mates film set (actors_of actors))) (λ i there.
-      (and_parts (has group i) (not (has (pick group places) i)) (sym (has-minus group (pick group places) i)
-      ∙ (and_parts (has (minus group (pick group places)) i) (has (mates film set (actors_of actors)) i) (sym (has-meet (minus group (pick group places)) (mates film set (actors_of actors)) i) ∙ there)).0)).0) in
-      omega (arith, are_mates places lt, part)
 
   pub hold_low : (actor : ℕ) → has newcomers actor ≡ true → slice_index film.holds actor ≤ sum_over film.holds newcomers
   hold_low actor there = omega (arith, sum_over-without film.holds newcomers actor known.company.small_newcomers there)
@@ -67,42 +59,35 @@ module _ {S : Type 0} (value : S → ℕ → ℕ) (count most : ℕ) (film : Gro
         sum_over-without film.holds (without newcomers one) other (IsSet-without newcomers one known.company.small_newcomers) (has-without_other newcomers one other apart ∙ there_too),
       )
 
-  -- a stage's prices on all days of its classes are no more than all are paid
-  pub cost_low : (here : List ℕ) (classes : ℕ) (kinds : ℕ → ℕ) (weights days : ℕ → ℕ → ℕ) → AreKinds here classes kinds
-      → ((kind : ℕ) → kind < classes → AreDays film set group newcomers known.company count known.crew.fits (kinds kind) (days kind))
-      → ((kind places : ℕ) → kind < classes → places < 2 ^ count → weights kind places ≤ all_rates)
-      → (places : ℕ) → places < 2 ^ count → sum_below classes (λ kind. weights kind places * days kind places) < party.never
-  cost_low here classes kinds weights days are_kinds are_days low places lt =
-      let each : sum_below classes (λ kind. weights kind places * days kind places) ≤ sum_below classes (λ kind. all_rates * days kind places)
-      = sum_below_mono classes (λ kind. weights kind places * days kind places) (λ kind. all_rates * days kind places)
-      (λ kind below. let same : days kind places ≤ days kind places = omega arith in mul-le-mul (low kind places below lt) same) in
-      let few = days_within film set group newcomers known.company count known.crew.fits here classes kinds days are_kinds are_days places lt in
-      let same : all_rates ≤ all_rates = omega arith in
-      let whole : all_rates * sum_below classes (λ kind. days kind places) ≤ all_rates * sum_over film.days set = mul-le-mul same few in
-      let turned : all_rates * sum_over film.days set ≡ most_paid film set group newcomers = mul_comm all_rates (sum_over film.days set) in
-      omega (arith, each, sum_below-scale classes all_rates (λ kind. days kind places), whole, turned, known.enough)
-
-  pub has_room : (here : List ℕ) (classes : ℕ) (kinds : ℕ → ℕ) (weights days : ℕ → ℕ → ℕ) (first : ℕ → ℕ) → AreKinds here classes kinds
-      → ((kind : ℕ) → kind < classes → AreDays film set group newcomers known.company count known.crew.fits (kinds kind) (days kind))
-      → ((kind places : ℕ) → kind < classes → places < 2 ^ count → weights kind places ≤ all_rates)
-      → ((places : ℕ) → places < 2 ^ count → first places ≤ 3 * party.never) → HasRoom count classes most weights days first
-  has_room here classes kinds weights days first are_kinds are_days low begun = record {
-    rise = λ class places place below lt there. counted_rise film group count film.days (just film newcomers (kinds class) set) (days class) (are_days class below) places place lt there;
-    before = 3 * party.never;
-    begun = begun;
-    fits = λ places lt. (let less = cost_low here classes kinds weights days are_kinds are_days low places lt in omega (arith, less, known.room));
-  }
-
-  -- the same for one class on top of what was paid
-  pub one_low : (these : ℕ) (weights days : ℕ → ℕ) → AreDays film set group newcomers known.company count known.crew.fits these days
-      → ((places : ℕ) → places < 2 ^ count → weights places ≤ all_rates) → (places : ℕ) → places < 2 ^ count → weights places * days places < party.never
-  one_low these weights days are_days low places lt =
-      let few : days places ≤ sum_over film.days set = omega (
-        arith,
-        counted_most film group count film.days (just film newcomers these set) days are_days places lt,
-        sum_over_mono film.days (just film newcomers these set) set (λ scene there. (and_parts (has set scene) (eqb (meet (slice_index film.casts scene) newcomers) these)
-            (sym (has_where (λ s. eqb (meet (slice_index film.casts s) newcomers) these) set scene known.company.small_set) ∙ there)).0),
-      ) in
-      let whole : weights places * days places ≤ all_rates * sum_over film.days set = mul-le-mul (low places lt) few in
+  -- days of scenes of the set at a rate are paid for with less than never
+  pub paid_low : (rate days : ℕ) → rate ≤ all_rates → days ≤ sum_over film.days set → rate * days < party.never
+  paid_low rate days low few =
+      let whole : rate * days ≤ all_rates * sum_over film.days set = mul-le-mul low few in
       let turned : all_rates * sum_over film.days set ≡ most_paid film set group newcomers = mul_comm all_rates (sum_over film.days set) in
       omega (arith, whole, turned, known.enough)
+
+  -- the same for days of two kinds
+  pub both_paid_low : (rate days other_rate other_days : ℕ) → rate ≤ all_rates → other_rate ≤ all_rates → days + other_days ≤ sum_over film.days set
+      → rate * days + other_rate * other_days < party.never
+  both_paid_low rate days other_rate other_days low low_too few =
+      let same : days ≤ days = omega arith in
+      let same_too : other_days ≤ other_days = omega arith in
+      let one : rate * days ≤ all_rates * days = mul-le-mul low same in
+      let other : other_rate * other_days ≤ all_rates * other_days = mul-le-mul low_too same_too in
+      let parts : all_rates * (days + other_days) ≡ all_rates * days + all_rates * other_days = spread all_rates days other_days in
+      let most = paid_low all_rates (days + other_days) (omega arith) few in
+      omega (arith, one, other, parts, most)
+    where
+      spread : (rate days other : ℕ) → rate * (days + other) ≡ rate * days + rate * other
+      spread rate days other = omega arith
+
+  -- the days of the classes of a stage are days of the set
+  pub class_days : (here : List ℕ) (classes : ℕ) (kinds : ℕ → ℕ) (days : ℕ → ℕ → ℕ) → AreKinds here classes kinds
+      → ((kind : ℕ) → kind < classes → AreDays film set group newcomers known.company count known.crew.fits (kinds kind) (days kind))
+      → (places : ℕ) → places < 2 ^ count → sum_below classes (λ kind. days kind places) ≤ sum_over film.days set
+  class_days here classes kinds days are_kinds are_days = days_within film set group newcomers known.company count known.crew.fits here classes kinds days are_kinds are_days
+
+  -- and rise with the places
+  pub days_rise : (these : ℕ) (days : ℕ → ℕ) → AreDays film set group newcomers known.company count known.crew.fits these days
+      → (places place : ℕ) → places < 2 ^ count → has places place ≡ true → days (without places place) ≤ days places
+  days_rise these days are_days = counted_rise film group count film.days (just film newcomers these set) days are_days

@@ -1,15 +1,15 @@
 -- A group and its newcomers on a set of scenes, with numbers for each set of the places of those of the group who
 -- are still here.
-use Rattle.std.specs.Prelude.{◌≡◌, ◌≢◌, ℕ, ◌+◌, ◌-◌, ◌*◌, ◌^◌, ◌<◌, ◌≤◌, ◌==◌, ◌⊎◌, ◌||◌, Bool, true, false, List, [], ◌∷◌, All, Contains, filter, length, min, slice_index}
-use Rattle.strip_mask.specs.Set.{IsSet, LiesBelow, has, meet, members, minus, size, sum_over, with, without}
+use Rattle.std.specs.Prelude.{◌≡◌, ◌≢◌, ℕ, ◌+◌, ◌-◌, ◌*◌, ◌^◌, ◌<◌, ◌≤◌, ◌==◌, ◌⊎◌, ◌||◌, Bool, true, false, List, [], ◌∷◌, All, filter, length, min, slice_index}
+use Rattle.strip_mask.specs.Set.{IsSet, LiesBelow, full, has, meet, members, minus, size, sum_over, with}
 use Rattle.strip_group.specs.Group.{GroupData}
 use Rattle.strip_group.specs.Places.{IsLimited, actor_at, pick}
-use Rattle.strip_arrivals.specs.Arrivals.{Event, StateData, actors_of, allowed, comes, goes, is_without, leaves, mates}
+use Rattle.strip_arrivals.specs.Arrivals.{StateData, actors_of, is_without, mates}
 use Rattle.strip_arrivals.specs.declared.crew.Crew.{Crew}
 use Rattle.strip_arrivals.specs.declared.party.Both.{Both}
 use Rattle.strip_arrivals.specs.declared.party.Newcomer.{Newcomer}
 use Rattle.strip_arrivals.specs.declared.party.Party.{Party}
-use Rattle.strip_arrivals.specs.Gross.{IsBest, IsGross, gross_charge, gross_price}
+use Rattle.strip_arrivals.specs.Gross.{IsGross, gross_price}
 
 -- for each actor the scenes in which he works
 pub record ArePlays (casts plays : List ℕ) (actors : ℕ) : Type 0 where
@@ -103,41 +103,21 @@ ArePrices film set group count coming here gone these prices =
 
 -- ---- rows
 
--- the least totals of a stage, with what was added, none more than so much
-pub record IsRow (film : GroupData) (set group count coming : ℕ) (here : List ℕ) (gone most : ℕ) (row : ℕ → ℕ) : Type 0 where
+-- what a row saves of the most that can be paid: a number above all that is paid, what those who are here get on all open
+-- days, and what else counts as saved. The rest is the least total of a stage, with what was added
+pub record IsSaved (film : GroupData) (set group count coming : ℕ) (here : List ℕ) (gone never : ℕ) (holds : List ℕ)
+    (days more row : ℕ → ℕ) : Type 0 where
   pub least : (places : ℕ) → places < 2 ^ size group
-      → IsGross film set group (staying group coming here gone places) (row places)
-  pub low : (places : ℕ) → places < 2 ^ count → row places ≤ most
-
--- a newcomer comes or goes
-abbrev pub OfNewcomers : Event → Type 0
-OfNewcomers event = (actor : ℕ) × ((event ≡ comes actor) ⊎ (event ≡ goes actor))
-
--- the least by what happens next to newcomers
-abbrev pub IsBegun : GroupData → ℕ → ℕ → ℕ → ℕ → List ℕ → ℕ → (ℕ → ℕ) → Type 0
-IsBegun film set group never coming here gone first =
-    (places : ℕ) → places < 2 ^ size group → IsBest film set group never
-    (staying group coming here gone places) OfNewcomers (first places)
-
--- whether one of the group may leave, and what it costs
-pub record IsLeaving (film : GroupData) (set group : ℕ) (state : StateData) (actor : ℕ) (fine : Type 0) (cost : ℕ) : Type 0 where
-  pub may : fine → Contains (allowed film set group state) (leaves actor)
-  pub only : Contains (allowed film set group state) (leaves actor) → fine
-  pub charged : fine → cost ≡ gross_charge film set group state (leaves actor)
-
--- the leaving of each of the group who is still here
-abbrev pub AreLeaving : GroupData → ℕ → ℕ → ℕ → List ℕ → ℕ → (ℕ → ℕ → ℕ) → (ℕ → ℕ) → Type 0
-AreLeaving film set group coming here gone cost blocked = (places place : ℕ) → places < 2 ^ size group
-    → has places place ≡ true
-    → IsLeaving film set group (staying group coming here gone places) (actor_at group place)
-    (blocked (without places place) ≡ blocked places)
-    (cost places (without places place))
+      → IsGross film set group (staying group coming here gone places)
+      (never + sum_over holds places * days places + more places - row places)
+  pub low : (places : ℕ) → places < 2 ^ count → never ≤ row places
+  pub high : (places : ℕ) → places < 2 ^ count → row places ≤ never + sum_over holds places * days places + more places
 
 -- ---- a group by places
 
--- a group on a set of scenes: for each scene the places of those of it who work there, and by place what each gets
--- for a day of waiting; the same together for each set of so many places
-pub record IsCrew {S : Type 0} (value : S → ℕ → ℕ) (count : ℕ) (film : GroupData) (crew : Crew S) : Type 0 where
+-- a group on a set of scenes: for each scene the places of those of it who work there, by place what each gets for a
+-- day of waiting, and what all get together
+pub record IsCrew (count : ℕ) (film : GroupData) (crew : Crew) : Type 0 where
   pub casts_long : length crew.casts ≡ 64
   pub casts : (scene place : ℕ) → has crew.set.0 scene ≡ true → place < size crew.group.0
       → has (slice_index crew.casts scene) place ≡ has (slice_index film.casts scene) (actor_at crew.group.0 place)
@@ -146,14 +126,15 @@ pub record IsCrew {S : Type 0} (value : S → ℕ → ℕ) (count : ℕ) (film :
   pub holds : (place : ℕ) → place < size crew.group.0
       → slice_index crew.holds place ≡ slice_index film.holds (actor_at crew.group.0 place)
   pub no_holds : (place : ℕ) → size crew.group.0 ≤ place → slice_index crew.holds place ≡ 0
-  pub rates : AreRates film crew.group.0 count (value crew.rates)
+  pub rates : AreRates film crew.group.0 count (sum_over crew.holds)
+  pub rate : crew.rate ≡ sum_over crew.holds (full (size crew.group.0))
   pub fits : size crew.group.0 ≤ count
 
 -- a group and its newcomers, with room for what they are paid: the days of the scenes without newcomers, and a
 -- number that is more than anything that is paid
 pub record IsParty {S : Type 0} (value : S → ℕ → ℕ) (count most : ℕ) (film : GroupData) (party : Party S) : Type 0 where
   pub few : count ≤ 10
-  pub crew : IsCrew value count film party.crew
+  pub crew : IsCrew count film party.crew
   pub company : IsCompany film party.crew.set.0 party.crew.group.0 party.newcomers.0
   pub days : AreCounted film party.crew.group.0 count film.days (just film party.newcomers.0 0 party.crew.set.0)
       (value party.days)
@@ -162,26 +143,25 @@ pub record IsParty {S : Type 0} (value : S → ℕ → ℕ) (count most : ℕ) (
   pub room : 4 * party.never ≤ most
   pub wide : 2 ^ 32 - 1 ≤ most
 
--- one of the newcomers: the days of the scenes in which of them he alone works, and what a day of a scene costs in
--- which none works while he is here
+-- one of the newcomers: the days of the scenes in which of them he alone works, those days with the days of the scenes
+-- without newcomers, and how much more a day of the latter costs while he is here
 pub record IsNewcomer {S : Type 0} (value : S → ℕ → ℕ) (count : ℕ) (film : GroupData) (party : Party S) (one : Newcomer S) : Type 0 where
   pub comes : has party.newcomers.0 one.actor ≡ true
   pub hold : one.hold ≡ slice_index film.holds one.actor
   pub days : AreCounted film party.crew.group.0 count film.days
       (just film party.newcomers.0 (with 0 one.actor) party.crew.set.0) (value one.days)
+  pub all : (places : ℕ) → places < 2 ^ count → value one.all places ≡ value party.days places + value one.days places
   pub mates : ℕ → ℕ
   pub are_mates : AreMates film party.crew.set.0 party.crew.group.0 count (one.actor ∷ []) mates
-  pub waits : (places : ℕ) → places < 2 ^ count → value one.waits places ≡ value party.crew.rates places
-      + min (mates places) one.hold
-  pub waits_low : (places : ℕ) → places < 2 ^ count
-      → value one.waits places ≤ sum_over film.holds party.crew.group.0 + one.hold
+  pub extra : (places : ℕ) → places < 2 ^ count → value one.extra places ≡ min (mates places) one.hold
 
--- two newcomers: the same of the scenes in which both work, and what those of the group get who are here or share a
--- scene with one of them
-pub record AreBoth {S : Type 0} (value : S → ℕ → ℕ) (count : ℕ) (film : GroupData) (party : Party S) (one other : ℕ) (both : Both S) : Type 0 where
-  pub days : AreCounted film party.crew.group.0 count film.days
-      (just film party.newcomers.0 (with (with 0 one) other) party.crew.set.0) (value both.days)
-  pub mates : ℕ → ℕ
-  pub are_mates : AreMates film party.crew.set.0 party.crew.group.0 count (one ∷ other ∷ []) mates
-  pub together : (places : ℕ) → places < 2 ^ count
-      → value both.together places ≡ value party.crew.rates places + mates places
+-- two newcomers: the days of all scenes, those of the scenes in which both work among them, and what those of the group
+-- get who have left and share a scene with one of the two
+pub record AreBoth {S : Type 0} (value : S → ℕ → ℕ) (count : ℕ) (film : GroupData) (party : Party S) (one other : Newcomer S)
+    (both : Both S) : Type 0 where
+  pub days : ℕ → ℕ
+  pub are_days : AreCounted film party.crew.group.0 count film.days
+      (just film party.newcomers.0 (with (with 0 one.actor) other.actor) party.crew.set.0) days
+  pub all : (places : ℕ) → places < 2 ^ count
+      → value both.all places ≡ value party.days places + value one.days places + value other.days places + days places
+  pub are_mates : AreMates film party.crew.set.0 party.crew.group.0 count (one.actor ∷ other.actor ∷ []) (value both.mates)

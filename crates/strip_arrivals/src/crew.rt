@@ -1,4 +1,4 @@
-// A group on a set of scenes, with numbers for each set of the places of those of it who are still here.
+// A group of actors by places, and tables with a number for each set of places.
 ghost use Rattle.std.specs.Prelude.{◌≡◌, ℕ, ◌<◌, ◌≤◌, ◌&&◌, cond, not, true, false, List, length, slice_index};
 ghost use Rattle.strip_mask.specs.Set.{IsSet, LiesBelow, has, size, sum_over, with};
 ghost use Rattle.strip_group.specs.Places.{actor_at};
@@ -10,47 +10,42 @@ use strip_mask::Mask;
 use strip_sets::BySet;
 use strip_sets::laws::sums_below_have_what_is_added;
 
-/// How many places a group has at most.
+/// The greatest number of places in a group.
 pub(crate) const PLACES: usize = 10;
 
-/// A group on a set of scenes. A set of places is a number in which bit i is the place of the i-th of
-/// the group.
+/// A group of actors and a set of scenes. Its actors have places, by rising number. A set of places is a mask: bit i
+/// stands for place i.
 #[derive(Drop)]
-pub(crate) struct Crew<S> {
+pub(crate) struct Crew {
     pub(crate) set: Mask,
     pub(crate) group: Mask,
-    /// For each scene of the set the places of those of the group who work in it.
+    /// For each scene of the set, the places of the actors who work in it.
     pub(crate) casts: [u16; 64],
-    /// By place what he gets for a day of waiting.
+    /// By place, the actor's pay for a day of waiting.
     pub(crate) holds: [u64; PLACES],
-    /// For each set of places what they get together for a day of waiting.
-    pub(crate) rates: S,
+    /// The sum of these hold rates.
+    pub(crate) rate: u64,
 }
 
 impl ArrivalsTable {
-    /// The group on the set of scenes.
-    pub(crate) fn crew<S: BySet>(&self, set: Mask, group: Mask) -> Crew<S>
-        requires few { S.places ≤ 10 }
-        requires fits { size group.0 ≤ S.places }
+    /// Returns the group on the set of scenes.
+    pub(crate) fn crew(&self, set: Mask, group: Mask) -> Crew
+        requires few { size group.0 ≤ 10 }
         requires known { LiesBelow (length self.now.holds) group.0 }
-        requires room { sum_over self.now.holds group.0 ≤ S.most }
         ensures set { result.set ≡ set }
         ensures group { result.group ≡ group }
-        ensures crew { IsCrew S.value S.places self.now result }
+        ensures crew { (count : ℕ) → size group.0 ≤ count → IsCrew count self.now result }
     {
-        let holds = self.holds_of(group);
-        let mut rates = S::all(0);
-        rates.sums(0, &holds);
         Crew {
             set,
             group,
             casts: self.casts_of(set, group),
-            holds,
-            rates,
+            holds: self.holds_of(group),
+            rate: self.rate(group),
         }
     }
 
-    /// By place what each of the group gets for a day of waiting. One turn for each.
+    /// Returns the hold rates of the group by place, 0 at each place beyond. Time is linear in the size of the group.
     fn holds_of(&self, group: Mask) -> [u64; PLACES]
         requires few { size group.0 ≤ 10 }
         requires known { LiesBelow (length self.now.holds) group.0 }
@@ -68,8 +63,8 @@ impl ArrivalsTable {
         holds
     }
 
-    /// For each scene of the set the places of those of the group who work in it. One turn for each
-    /// actor, and one for each scene in which he works.
+    /// Returns, for each scene of the set, the places of the group's actors who work in it. Time is linear in the
+    /// number of their scenes.
     fn casts_of(&self, set: Mask, group: Mask) -> [u16; 64]
         requires few { size group.0 ≤ 10 }
         requires known { LiesBelow (length self.now.holds) group.0 }
@@ -87,11 +82,11 @@ impl ArrivalsTable {
         casts
     }
 
-    /// For each set of places the sum of the numbers of those of the scenes that are left open while
-    /// only those at these places are still here. One turn for each scene, and one for each set.
-    pub(crate) fn counted<S: BySet>(&self, crew: &Crew<S>, numbers: &[u64], scenes: Mask) -> S
+    /// Returns, for each set of places, the sum of the numbers of the scenes that are open while only the actors at
+    /// these places are still here. Time is linear in the number of scenes and of sets times places.
+    pub(crate) fn counted<S: BySet>(&self, crew: &Crew, numbers: &[u64], scenes: Mask) -> S
         requires few { S.places ≤ 10 }
-        requires crew { IsCrew S.value S.places self.now crew.now }
+        requires crew { IsCrew S.places self.now crew.now }
         requires within { (scene : ℕ) → has scenes.0 scene ≡ true → has crew.now.set.0 scene ≡ true }
         requires group { IsSet crew.now.group.0 }
         requires long { (scene : ℕ) → has scenes.0 scene ≡ true → scene < length numbers.now }
@@ -107,11 +102,11 @@ impl ArrivalsTable {
         sums
     }
 
-    /// For each set of places what those of the group get for a day of waiting who have left and work
-    /// in one of these scenes. One turn for each place and scene.
-    pub(crate) fn mates<S: BySet>(&self, crew: &Crew<S>, scenes: Mask) -> S
+    /// Returns, for each set of places, the pay for a day of waiting of the group's actors who are at none of them and
+    /// work in one of these scenes. Time is linear in the number of scenes and of sets.
+    pub(crate) fn mates<S: BySet>(&self, crew: &Crew, scenes: Mask) -> S
         requires few { S.places ≤ 10 }
-        requires crew { IsCrew S.value S.places self.now crew.now }
+        requires crew { IsCrew S.places self.now crew.now }
         requires small { IsSet crew.now.set.0 }
         requires group { IsSet crew.now.group.0 }
         requires room { sum_over self.now.holds crew.now.group.0 ≤ S.most }
@@ -127,7 +122,7 @@ impl ArrivalsTable {
     }
 }
 
-/// This place more in the casts of the scenes. One turn for each.
+/// Adds the place to the casts of the scenes.
 fn add_place(casts: &mut [u16; 64], scenes: Mask, place: u32)
     requires place { place < 10 }
     requires small { (scene : ℕ) → slice_index casts.old scene < 1024 }
@@ -143,7 +138,7 @@ fn add_place(casts: &mut [u16; 64], scenes: Mask, place: u32)
     }
 }
 
-/// The places of those who work in one of the scenes. One turn for each scene.
+/// Returns the places of the actors who work in one of the scenes.
 fn works_in(casts: &[u16; 64], scenes: Mask) -> Mask
     ensures some { (place : ℕ) → has result.0 place ≡ true
         → (scene : ℕ) × (has scenes.0 scene ≡ true) × (has (slice_index casts.now scene) place ≡ true) }
@@ -157,7 +152,7 @@ fn works_in(casts: &[u16; 64], scenes: Mask) -> Mask
     places
 }
 
-/// What those at these places get, and 0 at each other place. One turn for each.
+/// Returns the hold rates at these places, and 0 at each other place.
 fn holds_at(holds: &[u64; PLACES], places: Mask) -> [u64; PLACES]
     requires { LiesBelow 10 places.0 }
     ensures { (place : ℕ) → slice_index result place

@@ -1,4 +1,4 @@
-// A group and its newcomers, with what their stages go by.
+// A group and its newcomers, with the tables that their stages go by.
 ghost use Rattle.std.specs.Prelude.{◌≡◌, ◌<◌, ◌≤◌, ◌*◌, ◌+◌, ◌^◌, ◌-◌, true};
 ghost use Rattle.strip_mask.specs.Set.{full, has, size, sum_over};
 ghost use Rattle.strip_arrivals.specs.Company.{AreBoth, ArePair, IsCompany, IsNewcomer, IsParty, most_paid};
@@ -8,13 +8,14 @@ use crate::table::ArrivalsTable;
 use strip_mask::Mask;
 use strip_sets::BySet;
 
-/// A group and its newcomers on a set of scenes: for each set of the group's places the days of the
-/// scenes without newcomers, and a number that is more than anything that is paid.
+/// A group, its newcomers and a set of scenes.
 #[derive(Drop)]
 pub(crate) struct Party<S> {
-    pub(crate) crew: Crew<S>,
+    pub(crate) crew: Crew,
     pub(crate) newcomers: Mask,
+    /// A sum of money above all that the party can be paid.
     pub(crate) never: u64,
+    /// For each set of places, the days of the open scenes without newcomers.
     pub(crate) days: S,
 }
 
@@ -28,27 +29,33 @@ impl<S: BySet> Party<S> {
     }
 }
 
-/// One of the newcomers: what he gets for a day of waiting; for each set of places the days of the open
-/// scenes in which of the newcomers he alone works, and what a day of a scene without newcomers costs
-/// while he is here.
+/// One of the newcomers.
 #[derive(Drop)]
 pub(crate) struct Newcomer<S> {
     pub(crate) actor: u32,
+    /// His pay for a day of waiting.
     pub(crate) hold: u64,
+    /// For each set of places, the days of the open scenes with him and no other newcomer.
     pub(crate) days: S,
-    pub(crate) waits: S,
+    /// The same days with those of the open scenes without newcomers.
+    pub(crate) all: S,
+    /// For each set of places, what a day of a scene without newcomers costs more while he is here: his pay, or that
+    /// of the actors who have left and share a scene with him, whichever is less.
+    pub(crate) extra: S,
 }
 
-/// Two newcomers: for each set of places the days of the open scenes in which both work, and what those
-/// of the group get for a day who are here or share a scene with one of the two.
+/// Two newcomers.
 #[derive(Drop)]
 pub(crate) struct Both<S> {
-    pub(crate) days: S,
-    pub(crate) together: S,
+    /// For each set of places, the days of all open scenes.
+    pub(crate) all: S,
+    /// For each set of places, the pay for a day of waiting of the actors who have left and share a scene with one of
+    /// the two.
+    pub(crate) mates: S,
 }
 
 impl ArrivalsTable {
-    /// The party of a group and its newcomers on a set of scenes.
+    /// Returns the party of a group and its newcomers on a set of scenes.
     pub(crate) fn party<S: BySet>(
         &self,
         set: Mask,
@@ -79,7 +86,7 @@ impl ArrivalsTable {
         }
     }
 
-    /// One of the newcomers of a party.
+    /// Returns a newcomer of the party.
     pub(crate) fn newcomer<S: BySet>(&self, party: &Party<S>, actor: u32) -> Newcomer<S>
         requires party { IsParty S.value S.places S.most self.now party.now }
         requires comes { has party.now.newcomers.0 actor ≡ true }
@@ -90,32 +97,44 @@ impl ArrivalsTable {
         let hold = self.hold(actor);
         let scenes = self.plays(actor).meet(crew.set);
         let alone = scenes.minus(self.scenes_with(party.newcomers.without(actor)));
-        let mut waits = self.mates(crew, scenes);
-        waits.least(&S::all(hold));
-        waits.plus(&crew.rates);
+        let days: S = self.counted(crew, self.scene_days(), alone);
+        let mut all = S::all(0);
+        all.copy_from(&days);
+        all.plus(&party.days);
+        let mut extra: S = self.mates(crew, scenes);
+        extra.at_most(hold);
         Newcomer {
             actor,
             hold,
-            days: self.counted(crew, self.scene_days(), alone),
-            waits,
+            days,
+            all,
+            extra,
         }
     }
 
-    /// The two newcomers of a party.
-    pub(crate) fn both<S: BySet>(&self, party: &Party<S>, one: u32, other: u32) -> Both<S>
+    /// Returns the tables of the party's two newcomers.
+    pub(crate) fn both<S: BySet>(
+        &self,
+        party: &Party<S>,
+        one: &Newcomer<S>,
+        other: &Newcomer<S>,
+    ) -> Both<S>
         requires party { IsParty S.value S.places S.most self.now party.now }
-        requires pair { ArePair party.now.newcomers.0 one other }
-        ensures { AreBoth S.value S.places self.now party.now one other result }
+        requires pair { ArePair party.now.newcomers.0 one.now.actor other.now.actor }
+        requires one { IsNewcomer S.value S.places self.now party.now one.now }
+        requires other { IsNewcomer S.value S.places self.now party.now other.now }
+        ensures { AreBoth S.value S.places self.now party.now one.now other.now result }
     {
         let crew = &party.crew;
-        let (with_one, with_other) = (self.plays(one), self.plays(other));
+        let (with_one, with_other) = (self.plays(one.actor), self.plays(other.actor));
         let both = with_one.meet(with_other).meet(crew.set);
         let either = with_one.union(with_other).meet(crew.set);
-        let mut together = self.mates(crew, either);
-        together.plus(&crew.rates);
+        let mut all: S = self.counted(crew, self.scene_days(), both);
+        all.plus(&one.all);
+        all.plus(&other.days);
         Both {
-            days: self.counted(crew, self.scene_days(), both),
-            together,
+            all,
+            mates: self.mates(crew, either),
         }
     }
 }

@@ -1,4 +1,4 @@
-// What the values of a film's groups go by.
+// The film's numbers for values, and the value of a party.
 ghost use Rattle.std.specs.Prelude.{◌≡◌, ℕ, ◌+◌, ◌*◌, ◌-◌, ◌^◌, ◌<◌, ◌≤◌, true, false, not, All, IfOk, length, slice_index, sum};
 ghost use Rattle.strip_mask.specs.Set.{LiesBelow, has, size, sum_over, with};
 ghost use Rattle.strip_group.specs.Group.{GroupData};
@@ -14,12 +14,11 @@ use strip_io::Memory;
 use strip_mask::{Mask, sum_over};
 use strip_sets::BySet;
 
-/// A quarter of what fits in 32 bits.
+/// A quarter of the greatest number of 32 bits.
 const NARROW: u64 = 1_073_741_823;
 
-/// For a film of at most 64 scenes: who works in each scene, its days, and what each actor gets for a
-/// day of waiting, in whole units of money. It is made once, with a copy of these numbers, for each
-/// actor the scenes in which he works, and tables of the days of sets.
+/// A film of at most 64 scenes, for values: casts, days, and hold rates in whole units of money. It also has each
+/// actor's scenes, and tables for the days of sets of scenes. It is made once for each film.
 #[derive(Debug, Drop)]
 pub struct ArrivalsTable {
     casts: Vec<u64>,
@@ -41,8 +40,8 @@ impl Model for ArrivalsTable {
 }
 
 impl ArrivalsTable {
-    /// The table of a film's casts, days and hold rates, where memory for a copy is left. None of the
-    /// limits is checked again: the film has them.
+    /// Makes the table from a copy of a film's casts, days and hold rates. It fails only if memory runs out. The film's
+    /// limits are not checked again.
     pub fn of(
         alloc: Global,
         casts: &[u64],
@@ -66,8 +65,9 @@ impl ArrivalsTable {
         })
     }
 
-    /// The value of a group of at most ten actors and at most two newcomers, none of whom is of the
-    /// group, while the set of scenes remains, in whole units of money. It takes no memory.
+    /// Returns the value of a group of at most ten actors and at most two newcomers outside it, while the set of
+    /// scenes remains, in whole units of money. It allocates nothing. Time is linear in the number of sets of the
+    /// group's actors, times their number.
     pub fn value(&self, set: Mask, group: Mask, newcomers: Mask) -> u64
         requires few { size group.0 ≤ 10 }
         requires few_newcomers { size newcomers.0 ≤ 2 }
@@ -86,7 +86,7 @@ impl ArrivalsTable {
         }
     }
 
-    /// The same by numbers for the sets of some places.
+    /// Returns the value by tables of this type.
     #[inline(never)]
     pub(crate) fn value_by<S: BySet>(
         &self,
@@ -109,21 +109,19 @@ impl ArrivalsTable {
         self.gross(&party) - self.own_pay(set, group)
     }
 
-    /// More than the group and the newcomers are paid for waiting on all days of the set.
+    /// Returns a sum of money above all that the group and the newcomers can be paid on the days of the set.
     fn never(&self, set: Mask, group: Mask, newcomers: Mask) -> u64
         requires known { LiesBelow (length self.now.holds) group.0 }
         requires known_newcomers { LiesBelow (length self.now.holds) newcomers.0 }
-        requires apart { (actor : ℕ) → has newcomers.0 actor ≡ true → has group.0 actor ≡ false }
         ensures enough { most_paid self.now set.0 group.0 newcomers.0 < result }
         ensures low { sum_over self.now.holds group.0 + sum_over self.now.holds newcomers.0 < result }
         ensures small { 4 * result < 2 ^ 64 }
     {
-        let rates = sum_over(&self.holds, group) + sum_over(&self.holds, newcomers);
+        let rates = self.rate(group) + self.rate(newcomers);
         (self.days(set) + 1) * rates + 1
     }
 
-    /// Each table is of a film within the limits, each scene of which has days. It does nothing: a caller
-    /// that needs this makes this call first.
+    /// States that the film is within the limits and each scene has days. It does nothing when it runs.
     fn keeps_limits(&self)
         ensures limits { IsLimited self.now }
         ensures some_days { All (λ count. 0 < count) self.now.days }
@@ -131,7 +129,7 @@ impl ArrivalsTable {
         let _ = &self.casts;
     }
 
-    /// What the actor gets for a day of waiting.
+    /// Returns the actor's hold rate.
     pub(crate) fn hold(&self, actor: u32) -> u64
         requires { actor < length self.now.holds }
         ensures same { result ≡ slice_index self.now.holds actor }
@@ -140,7 +138,16 @@ impl ArrivalsTable {
         self.holds[actor as usize]
     }
 
-    /// The scenes in which some of the actors work. One turn for each.
+    /// Returns the sum of the actors' hold rates. Time is linear in their number.
+    pub(crate) fn rate(&self, actors: Mask) -> u64
+        requires { LiesBelow (length self.now.holds) actors.0 }
+        ensures same { result ≡ sum_over self.now.holds actors.0 }
+        ensures low { result ≤ 64_000_000_000 }
+    {
+        sum_over(&self.holds, actors)
+    }
+
+    /// Returns the scenes in which some of the actors work. Time is linear in the number of actors.
     pub(crate) fn scenes_with(&self, actors: Mask) -> Mask
         requires { LiesBelow (length self.now.holds) actors.0 }
         ensures { (scene : ℕ) → has result.0 scene ≡ not (is_without self.now actors.0 scene) }
@@ -152,7 +159,7 @@ impl ArrivalsTable {
         scenes
     }
 
-    /// The scenes in which the actor works.
+    /// Returns the scenes in which the actor works.
     pub(crate) fn plays(&self, actor: u32) -> Mask
         requires { actor < length self.now.holds }
         ensures { (scene : ℕ) → has result.0 scene ≡ has (slice_index self.now.casts scene) actor }
@@ -160,7 +167,7 @@ impl ArrivalsTable {
         Mask(self.plays[actor as usize])
     }
 
-    /// The days of each scene, and 0 past the last one.
+    /// Returns the days of each scene, and 0 beyond the last one.
     pub(crate) fn scene_days(&self) -> &[u64; 64]
         ensures long { length result.now ≡ 64 }
         ensures days { (scene : ℕ) → slice_index result.now scene ≡ slice_index self.now.days scene }
@@ -168,7 +175,7 @@ impl ArrivalsTable {
         &self.days
     }
 
-    /// The days of the scenes of the set. One turn for each twelve scenes of the film.
+    /// Returns the sum of the days of the scenes, by one table for each twelve scenes of the film.
     fn days(&self, scenes: Mask) -> u64
         ensures same { result ≡ sum_over self.now.days scenes.0 }
         ensures few { result ≤ 19800 }
@@ -176,7 +183,7 @@ impl ArrivalsTable {
         self.sums.sum(scenes)
     }
 
-    /// What those of the group get for the days of the scenes in which they work.
+    /// Returns what the group's actors get, at their hold rates, for the days of the set's scenes in which they work.
     fn own_pay(&self, set: Mask, group: Mask) -> u64
         requires few { size group.0 ≤ 10 }
         requires known { LiesBelow (length self.now.holds) group.0 }
@@ -190,7 +197,7 @@ impl ArrivalsTable {
     }
 }
 
-/// The days of each scene, and 0 past the last one.
+/// Returns the days of each scene, and 0 beyond the last one.
 fn by_scene(days: &[u64]) -> [u64; 64]
     requires { length days.now ≤ 64 }
     ensures long { length result ≡ 64 }
@@ -203,7 +210,7 @@ fn by_scene(days: &[u64]) -> [u64; 64]
     numbers
 }
 
-/// For each actor the scenes in which he works.
+/// Returns, for each actor, the scenes in which he works.
 fn plays_of(alloc: Global, casts: &[u64], actors: usize) -> Result<Vec<u64>, AllocError>
     requires few { length casts.now ≤ 64 }
     requires known { actors ≤ 64 }
@@ -216,7 +223,7 @@ fn plays_of(alloc: Global, casts: &[u64], actors: usize) -> Result<Vec<u64>, All
     Ok(plays)
 }
 
-/// The scenes in whose cast the actor is.
+/// Returns the scenes with the actor.
 fn scenes_of(casts: &[u64], actor: u32) -> Mask
     requires few { length casts.now ≤ 64 }
     requires known { actor < 64 }

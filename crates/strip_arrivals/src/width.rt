@@ -1,6 +1,5 @@
-// The value by numbers for the sets of as many places as the group has. A type of numbers is made out of
-// one of fewer places a few levels at a time: what a call takes to prove rises with the square of how
-// many levels it names.
+// The value by tables for the sets of as many places as the group has. Each call makes its type of tables by a few
+// levels from a smaller one, as the time to prove a call rises with the square of the levels that it names.
 ghost use Rattle.std.specs.Prelude.{◌≡◌, ◌+◌, ◌*◌, ◌-◌, ◌^◌, ◌<◌, ◌≤◌, sum};
 ghost use Rattle.strip_mask.specs.Set.{size, sum_over};
 ghost use Rattle.strip_arrivals.specs.Arrivals.{arrivals_value};
@@ -11,7 +10,7 @@ use strip_mask::Mask;
 use strip_sets::{Block, BySet, FourPlaces, Halves};
 
 impl ArrivalsTable {
-    /// The value by numbers of 32 bits, for the sets of no more places than the group has, or of four.
+    /// Returns the value by tables of 32-bit numbers, for the places of the group, but at least four.
     pub(crate) fn narrow_value(&self, set: Mask, group: Mask, newcomers: Mask, never: u64) -> u64
         requires company { IsCompany self.now set.0 group.0 newcomers.0 }
         requires enough { most_paid self.now set.0 group.0 newcomers.0 < never }
@@ -23,7 +22,7 @@ impl ArrivalsTable {
         self.value_from_four::<FourPlaces>(set, group, newcomers, never)
     }
 
-    /// The value by numbers of 64 bits, for the sets of seven places, or of ten where the group has more.
+    /// Returns the value by tables of 64-bit numbers, for seven places, or for ten if the group has more than seven.
     pub(crate) fn wide_value(&self, set: Mask, group: Mask, newcomers: Mask, never: u64) -> u64
         requires company { IsCompany self.now set.0 group.0 newcomers.0 }
         requires enough { most_paid self.now set.0 group.0 newcomers.0 < never }
@@ -35,7 +34,7 @@ impl ArrivalsTable {
         self.value_over_two::<Halves<Halves<u64>>>(set, group, newcomers, never)
     }
 
-    /// The same by numbers of four to ten places, out of those of four.
+    /// Returns the value by tables of four to ten places, from tables of four.
     fn value_from_four<S: BySet>(&self, set: Mask, group: Mask, newcomers: Mask, never: u64) -> u64
         requires places { S.places ≡ 4 }
         requires company { IsCompany self.now set.0 group.0 newcomers.0 }
@@ -53,7 +52,7 @@ impl ArrivalsTable {
         }
     }
 
-    /// The same by numbers of six to ten places, out of those of five.
+    /// Returns the value by tables of six to ten places, from tables of five.
     fn value_over_five<S: BySet>(&self, set: Mask, group: Mask, newcomers: Mask, never: u64) -> u64
         requires places { S.places ≡ 5 }
         requires company { IsCompany self.now set.0 group.0 newcomers.0 }
@@ -67,7 +66,7 @@ impl ArrivalsTable {
         self.value_from_six::<Halves<Block<S>>>(set, group, newcomers, never)
     }
 
-    /// The same by numbers of six to ten places, out of those of six.
+    /// Returns the value by tables of six to ten places, from tables of six.
     fn value_from_six<S: BySet>(&self, set: Mask, group: Mask, newcomers: Mask, never: u64) -> u64
         requires places { S.places ≡ 6 }
         requires company { IsCompany self.now set.0 group.0 newcomers.0 }
@@ -85,7 +84,7 @@ impl ArrivalsTable {
         }
     }
 
-    /// The same by numbers of eight to ten places, out of those of seven.
+    /// Returns the value by tables of eight to ten places, from tables of seven.
     fn value_over_seven<S: BySet>(&self, set: Mask, group: Mask, newcomers: Mask, never: u64) -> u64
         requires places { S.places ≡ 7 }
         requires company { IsCompany self.now set.0 group.0 newcomers.0 }
@@ -103,7 +102,7 @@ impl ArrivalsTable {
         }
     }
 
-    /// The same by numbers of seven places, or of ten, out of those of two.
+    /// Returns the value by tables of seven or ten places, from tables of two.
     fn value_over_two<S: BySet>(&self, set: Mask, group: Mask, newcomers: Mask, never: u64) -> u64
         requires places { S.places ≡ 2 }
         requires company { IsCompany self.now set.0 group.0 newcomers.0 }
@@ -117,7 +116,7 @@ impl ArrivalsTable {
         self.value_over_four::<Halves<Halves<S>>>(set, group, newcomers, never)
     }
 
-    /// The same by numbers of seven places, or of ten, out of those of four.
+    /// Returns the value by tables of seven or ten places, from tables of four.
     fn value_over_four<S: BySet>(&self, set: Mask, group: Mask, newcomers: Mask, never: u64) -> u64
         requires places { S.places ≡ 4 }
         requires company { IsCompany self.now set.0 group.0 newcomers.0 }
@@ -134,7 +133,7 @@ impl ArrivalsTable {
         }
     }
 
-    /// The same by numbers of ten places, out of those of five.
+    /// Returns the value by tables of ten places, from tables of five.
     fn value_over_five_wide<S: BySet>(
         &self,
         set: Mask,
@@ -154,7 +153,7 @@ impl ArrivalsTable {
         self.value_three_over::<Halves<Halves<S>>>(set, group, newcomers, never)
     }
 
-    /// The same by numbers of three places more.
+    /// Returns the value by tables of three places more.
     fn value_three_over<S: BySet>(&self, set: Mask, group: Mask, newcomers: Mask, never: u64) -> u64
         requires few { S.places ≤ 7 }
         requires fits { size group.0 ≤ S.places + 3 }
@@ -169,7 +168,7 @@ impl ArrivalsTable {
         self.value_two_over::<Halves<Block<S>>>(set, group, newcomers, never)
     }
 
-    /// The same by numbers of two places more.
+    /// Returns the value by tables of two places more.
     fn value_two_over<S: BySet>(&self, set: Mask, group: Mask, newcomers: Mask, never: u64) -> u64
         requires few { S.places ≤ 8 }
         requires fits { size group.0 ≤ S.places + 2 }

@@ -1,11 +1,8 @@
--- A number for each class, by the four.
+-- A number for each class, by the two.
 use Rattle.std.proofs.Common.{◌≡◌, ℕ, suc, zero, refl, [], ◌∷◌, slice_index}
 
 -- numbers that agree
-pub same_four : {a b c d p q r s : ℕ} → a ≡ p → b ≡ q → c ≡ r → d ≡ s → (class : ℕ)
-    → slice_index (a ∷ b ∷ c ∷ d ∷ []) class ≡ slice_index (p ∷ q ∷ r ∷ s ∷ []) class
-same_four first second third fourth zero = first
-same_four first second third fourth (suc zero) = second
-same_four first second third fourth (suc (suc zero)) = third
-same_four first second third fourth (suc (suc (suc zero))) = fourth
-same_four first second third fourth (suc (suc (suc (suc n)))) = refl
+pub same_two : {a b p q : ℕ} → a ≡ p → b ≡ q → (class : ℕ) → slice_index (a ∷ b ∷ []) class ≡ slice_index (p ∷ q ∷ []) class
+same_two first second zero = first
+same_two first second (suc zero) = second
+same_two first second (suc (suc n)) = refl

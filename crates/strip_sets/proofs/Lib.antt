@@ -1,8 +1,8 @@
 pub mod Sets
 pub mod Vectors
 pub mod FourSets
-pub mod Costs
-mod Passing
+pub mod Owed
+pub mod Saving
 mod TwoPlaces
 mod ByClass
 pub mod Parts

@@ -4,28 +4,28 @@ use Rattle.std.proofs.lemmas.Bool.{cases_eq, false≢true, cases_Bool, false_fro
 use Rattle.std.proofs.lemmas.Bool.Decides.{nat_tests}
 use Rattle.strip_mask.specs.Set.{has, minus, with, without}
 use Rattle.strip_mask.proofs.ByMembers.{empty_from, has-empty, has-minus, has-without, has-with_same, has_from_minus, has_from_without, with-without, without-with}
-use Rattle.strip_sets.specs.Numbers.{sum_within}
-use Rattle.strip_sets.specs.Pass.{Passes, counted}
-use Rattle.strip_sets.specs.Laws.{MoreInEachAbove, OneLeast}
+use Rattle.strip_sets.specs.Numbers.{counted, sum_within}
+use Rattle.strip_sets.specs.Saving.{Saves}
+use Rattle.strip_sets.specs.Laws.{MoreInEachAbove, OneMost}
 use Rattle.strip_sets.proofs.Parts.{counted_other, counted_same, within_agree}
 use Rattle.strip_sets.proofs.Sets.{below_top, lacks_top, without_less, without_top}
 
-no_more : (places : ℕ) (cost : ℕ → ℕ → ℕ) (blocked first least other : ℕ → ℕ) → Passes places cost blocked first least → Passes places cost blocked first other
-    → (m set : ℕ) → set < m → set < 2 ^ places → least set ≤ other set
-no_more places cost blocked first least other a b zero set bound lt = absurd (omega (arith, bound))
-no_more places cost blocked first least other a b (suc m) set bound lt = elim (b.attained set lt) [
+no_less : (places : ℕ) (hold days : ℕ → ℕ) (owed : ℕ → ℕ → ℕ) (first most other : ℕ → ℕ) → Saves places hold days owed first most → Saves places hold days owed first other
+    → (m set : ℕ) → set < m → set < 2 ^ places → other set ≤ most set
+no_less places hold days owed first most other a b zero set bound lt = absurd (omega (arith, bound))
+no_less places hold days owed first most other a b (suc m) set bound lt = elim (b.attained set lt) [
   | inl begun ↦ omega (arith, begun, a.kept set lt)
   | inr step ↦ (
       let less : without set step.0 < set = without_less set step.0 step.1 in
-      let rest : least (without set step.0) ≤ other (without set step.0)
-      = no_more places cost blocked first least other a b m (without set step.0) (omega (arith, less, bound)) (omega (arith, less, lt)) in
-      omega (arith, rest, step.3, a.lower set step.0 lt step.1 step.2))
+      let rest : other (without set step.0) ≤ most (without set step.0)
+      = no_less places hold days owed first most other a b m (without set step.0) (omega (arith, less, bound)) (omega (arith, less, lt)) in
+      omega (arith, rest, step.2, a.higher set step.0 lt step.1))
 ]
 
-pub one_least : OneLeast
-one_least places cost blocked first least other a b set lt =
-    let low : least set ≤ other set = no_more places cost blocked first least other a b (suc set) set (omega arith) lt in
-    let high : other set ≤ least set = no_more places cost blocked first other least b a (suc set) set (omega arith) lt in
+pub one_most : OneMost
+one_most places hold days owed first most other a b set lt =
+    let high : other set ≤ most set = no_less places hold days owed first most other a b (suc set) set (omega arith) lt in
+    let low : most set ≤ other set = no_less places hold days owed first other most b a (suc set) set (omega arith) lt in
     omega (arith, low, high)
 
 -- ---- what is added at one set

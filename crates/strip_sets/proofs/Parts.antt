@@ -1,13 +1,12 @@
 -- What is computed for the sets without a place and for those with it, and so for all.
-use Rattle.std.proofs.Common.{◌≡◌, ◌≢◌, ℕ, zero, suc, ◌+◌, ◌-◌, ◌^◌, ◌<◌, ◌≤◌, ◌==◌, Bool, true, false, cond, List, [], ◌∷◌, length, slice_index, refl, sym, ap, ◌∙◌, inl, inr, arith}
+use Rattle.std.proofs.Common.{◌≡◌, ◌≢◌, ℕ, zero, suc, ◌+◌, ◌-◌, ◌^◌, ◌<◌, ◌≤◌, ◌==◌, Bool, true, false, cond, List, [], ◌∷◌, length, slice_index, refl, sym, ap, ◌∙◌, subst, inl, inr, arith}
 use Rattle.std.proofs.lemmas.Bool.{cases_eq, false≢true, cases_Bool}
 use Rattle.std.proofs.lemmas.Bool.Decides.{nat_tests}
 use Rattle.strip_mask.specs.Set.{full, has, sum_over, union, with, without}
 use Rattle.strip_mask.proofs.ByMembers.{has-empty, has-without_other, has-without_same, with-without}
 use Rattle.strip_mask.proofs.Below.{has_full}
 use Rattle.strip_mask.proofs.Totals.{sum_over-with}
-use Rattle.strip_sets.specs.Numbers.{halves, sum_within}
-use Rattle.strip_sets.specs.Pass.{counted}
+use Rattle.strip_sets.specs.Numbers.{counted, halves, sum_within}
 use Rattle.strip_sets.proofs.Sets.{below_top, halves_at, halves_out, halves_with, lacks_top, sum_full_more, wider_top, with_is_more, with_top, without_top}
 use Rattle.strip_sets.proofs.FourSets.{by_four}
 use Rattle.strip_sets.proofs.Vectors.{sum_at, sum_lanes}
@@ -26,20 +25,34 @@ module _ (n : ℕ) (a b f g h k : ℕ → ℕ) where
         ∙ sym (λ i. op (halves_out n a b set missing i) (halves_out n f g set missing i) (halves_out n h k set missing i))
   ]
 
-  -- a bound on what is made of them
-  module _ (op : ℕ → ℕ → ℕ → ℕ) (most : ℕ) (fits : (set : ℕ) → set < 2 ^ suc n → op (halves n a b set) (halves n f g set) (halves n h k set) ≤ most) where
-    pub fits_without : (set : ℕ) → set < 2 ^ n → op (a set) (f set) (h set) ≤ most
-    fits_without set lt =
+  -- what is known of them
+  module _ (P : ℕ → ℕ → ℕ → Type 0) (each : (set : ℕ) → set < 2 ^ suc n → P (halves n a b set) (halves n f g set) (halves n h k set)) where
+    pub of_without : (set : ℕ) → set < 2 ^ n → P (a set) (f set) (h set)
+    of_without set lt =
         let missing = lacks_top n set lt in
-        let same : op (halves n a b set) (halves n f g set) (halves n h k set) ≡ op (a set) (f set) (h set)
-        = λ i. op (halves_out n a b set missing i) (halves_out n f g set missing i) (halves_out n h k set missing i) in
-        omega (arith, same, fits set (wider_top n set lt))
+        subst (λ (x : ℕ). P x (f set) (h set)) (halves_out n a b set missing)
+        (subst (λ (y : ℕ). P (halves n a b set) y (h set)) (halves_out n f g set missing)
+        (subst (P (halves n a b set) (halves n f g set)) (halves_out n h k set missing) (each set (wider_top n set lt))))
 
-    pub fits_with : (set : ℕ) → set < 2 ^ n → op (b set) (g set) (k set) ≤ most
-    fits_with set lt =
-        let same : op (halves n a b (with set n)) (halves n f g (with set n)) (halves n h k (with set n)) ≡ op (b set) (g set) (k set)
-        = λ i. op (halves_at n a b set lt i) (halves_at n f g set lt i) (halves_at n h k set lt i) in
-        omega (arith, same, fits (with set n) (with_top n set lt))
+    pub of_with : (set : ℕ) → set < 2 ^ n → P (b set) (g set) (k set)
+    of_with set lt =
+        subst (λ (x : ℕ). P x (g set) (k set)) (halves_at n a b set lt)
+        (subst (λ (y : ℕ). P (halves n a b (with set n)) y (k set)) (halves_at n f g set lt)
+        (subst (P (halves n a b (with set n)) (halves n f g (with set n))) (halves_at n h k set lt) (each (with set n) (with_top n set lt))))
+
+-- five numbers of each set, and what is made of them
+pub each_half_of_five : (n : ℕ) (a b f g h k p q x y : ℕ → ℕ) (op : ℕ → ℕ → ℕ → ℕ → ℕ → ℕ) (r s : ℕ → ℕ)
+    → ((set : ℕ) → set < 2 ^ n → r set ≡ op (a set) (f set) (h set) (p set) (x set))
+    → ((set : ℕ) → set < 2 ^ n → s set ≡ op (b set) (g set) (k set) (q set) (y set)) → (set : ℕ) → set < 2 ^ suc n
+    → halves n r s set ≡ op (halves n a b set) (halves n f g set) (halves n h k set) (halves n p q set) (halves n x y set)
+each_half_of_five n a b f g h k p q x y op r s low high set small = elim (cases_Bool (has set n)) [
+  | inl there ↦ halves_with n r s set there ∙ high (without set n) (without_top n set small)
+      ∙ sym (λ i. op (halves_with n a b set there i) (halves_with n f g set there i) (halves_with n h k set there i) (halves_with n p q set there i)
+      (halves_with n x y set there i))
+  | inr missing ↦ halves_out n r s set missing ∙ low set (below_top n set small missing)
+      ∙ sym (λ i. op (halves_out n a b set missing i) (halves_out n f g set missing i) (halves_out n h k set missing i) (halves_out n p q set missing i)
+      (halves_out n x y set missing i))
+]
 
 -- ---- one set
 

@@ -151,14 +151,6 @@ module _ (numbers : List ℕ) (n : ℕ) (few : n < 64) where
   sum_full_more = (let next : suc n ≡ n + 1 = omega arith in ap (λ (k : ℕ). sum_over numbers (full k)) next) ∙ ap (sum_over numbers) (full-more n)
       ∙ sum_over-with numbers (full n) n few (lacks_top n (full n) (lies_small n (full n) (LiesBelow-full n)))
 
-  pub sums_halves : (first next : ℕ) (f g : ℕ → ℕ) → next ≡ first + slice_index numbers n → ((set : ℕ) → set < 2 ^ n → f set ≡ first + sum_over numbers set)
-      → ((set : ℕ) → set < 2 ^ n → g set ≡ next + sum_over numbers set) → (set : ℕ) → set < 2 ^ suc n → halves n f g set ≡ first + sum_over numbers set
-  sums_halves first next f g is low high = by_parts n f g (λ set x. x ≡ first + sum_over numbers set) (λ set lt _. low set lt) (λ set small there. (
-      let lt : without set n < 2 ^ n = without_top n set small in
-      let more : sum_over numbers (with (without set n) n) ≡ sum_over numbers (without set n) + slice_index numbers n = sum_over-with numbers (without set n) n few
-      (has-without_same set n) in
-      omega (arith, high (without set n) lt, is, more, ap (sum_over numbers) (with-without set n there))))
-
 -- no more than that of all places
 pub sum_most : (numbers : List ℕ) (n set : ℕ) → set < 2 ^ n → sum_over numbers set ≤ sum_over numbers (full n)
 sum_most numbers n set small = sum_over_mono numbers set (full n) (λ i there. has_full n i (below_width set n i small there))

@@ -1,14 +1,14 @@
 -- What the laws of the crate state.
 use Rattle.std.specs.Prelude.{◌≡◌, ℕ, ◌+◌, ◌^◌, ◌<◌, ◌==◌}
 use Rattle.strip_mask.specs.Set.{minus}
-use Rattle.strip_sets.specs.Numbers.{sum_within}
-use Rattle.strip_sets.specs.Pass.{Passes, counted}
+use Rattle.strip_sets.specs.Numbers.{counted, sum_within}
+use Rattle.strip_sets.specs.Saving.{Saves}
 
--- the least numbers are determined by the first ones, what is blocked and the costs
-abbrev pub OneLeast : Type 0
-OneLeast = (places : ℕ) (cost : ℕ → ℕ → ℕ) (blocked first least other : ℕ → ℕ) → Passes places cost blocked first least
-    → Passes places cost blocked first other
-    → (set : ℕ) → set < 2 ^ places → least set ≡ other set
+-- the most saved is determined by the hold rates, the days, what steps owe and the first numbers
+abbrev pub OneMost : Type 0
+OneMost = (places : ℕ) (hold days : ℕ → ℕ) (owed : ℕ → ℕ → ℕ) (first most other : ℕ → ℕ)
+    → Saves places hold days owed first most → Saves places hold days owed first other
+    → (set : ℕ) → set < 2 ^ places → most set ≡ other set
 
 -- that much more at one set is that much more in the sum of each set that it is a part of
 abbrev pub MoreInEachAbove : Type 0

@@ -1,3 +1,3 @@
 pub mod Numbers
-pub mod Pass
+pub mod Saving
 pub mod Laws

@@ -1,18 +1,18 @@
-// Numbers whose operations stay calls.
+// Tables whose operations are not inlined.
 ghost use Rattle.std.specs.Prelude.{◌≡◌, ℕ};
 ghost use Rattle.strip_sets.specs.Numbers.{by_class};
 
 use super::by_set::BySet;
-use super::terms::{Classes, Count, Guard};
+use super::terms::{Classes, Count};
 
-/// The same numbers, with operations that stay calls, so that the code of larger types stays small.
+/// A table whose operations are not inlined, so that the code of larger tables stays small.
 #[derive(Debug, Drop)]
 pub struct Block<T> {
     numbers: T,
 }
 
 impl<'a, T: BySet> Classes<&'a Block<T>> {
-    /// The numbers in the blocks.
+    /// The tables in the blocks.
     #[inline(always)]
     fn numbers(self) -> Classes<&'a T>
         ensures { (class set : ℕ) → by_class (λ s. T.value s.now) result class set
@@ -21,8 +21,6 @@ impl<'a, T: BySet> Classes<&'a Block<T>> {
         Classes {
             first: &self.first.numbers,
             second: &self.second.numbers,
-            third: &self.third.numbers,
-            fourth: &self.fourth.numbers,
         }
     }
 }
@@ -57,11 +55,6 @@ impl<T: BySet> BySet for Block<T> {
     }
 
     #[inline(never)]
-    fn sums(&mut self, first: u64, numbers: &[u64; 10]) {
-        self.numbers.sums(first, numbers);
-    }
-
-    #[inline(never)]
     fn other_sums(&mut self, first: u64, numbers: &[u64; 10]) {
         self.numbers.other_sums(first, numbers);
     }
@@ -86,60 +79,62 @@ impl<T: BySet> BySet for Block<T> {
     }
 
     #[inline(never)]
-    fn sum_times(&mut self, others: &Self, weights: &Self, days: &Self) {
-        self.numbers
-            .sum_times(&others.numbers, &weights.numbers, &days.numbers);
-    }
-
-    #[inline(never)]
     fn plus(&mut self, others: &Self) {
         self.numbers.plus(&others.numbers);
     }
 
     #[inline(never)]
-    fn least(&mut self, others: &Self) {
-        self.numbers.least(&others.numbers);
+    fn at_most(&mut self, number: u64) {
+        self.numbers.at_most(number);
     }
 
     #[inline(never)]
-    fn or_open(&mut self, others: &Self, weights: &Self, days: &Self, blocked: &Self) {
-        self.numbers.or_open(
+    fn more_at_most(&mut self, others: &Self, number: u64, limits: &Self) {
+        self.numbers
+            .more_at_most(&others.numbers, number, &limits.numbers);
+    }
+
+    #[inline(never)]
+    fn greater_with(&mut self, others: &Self, rate: u64, paid: &Self, extras: &Self, owed: &Self) {
+        self.numbers.greater_with(
             &others.numbers,
-            &weights.numbers,
-            &days.numbers,
-            &blocked.numbers,
+            rate,
+            &paid.numbers,
+            &extras.numbers,
+            &owed.numbers,
         );
     }
 
     #[inline(never)]
-    fn or_before<C: Count, G: Guard>(
+    fn or_saved<C: Count>(
         &mut self,
         others: &Self,
-        weights: Classes<&Self>,
-        days: Classes<&Self>,
-        before: Classes<&Self>,
-        blocked: &Self,
-        blocked_before: &Self,
+        hold: u64,
+        days_before: &Self,
+        extras: Classes<&Self>,
+        owed: Classes<&Self>,
+        owed_before: Classes<&Self>,
     ) {
-        let (weights, days, before) = (weights.numbers(), days.numbers(), before.numbers());
-        self.numbers.or_before::<C, G>(
+        let (extras, owed, before) = (extras.numbers(), owed.numbers(), owed_before.numbers());
+        self.numbers.or_saved::<C>(
             &others.numbers,
-            weights,
-            days,
+            hold,
+            &days_before.numbers,
+            extras,
+            owed,
             before,
-            &blocked.numbers,
-            &blocked_before.numbers,
         );
     }
 
     #[inline(never)]
-    fn pass<C: Count, G: Guard>(
+    fn pass<C: Count>(
         &mut self,
-        weights: Classes<&Self>,
-        days: Classes<&Self>,
-        blocked: &Self,
+        holds: &[u64; 10],
+        days: &Self,
+        extras: Classes<&Self>,
+        owed: Classes<&Self>,
     ) {
-        let (weights, days) = (weights.numbers(), days.numbers());
-        self.numbers.pass::<C, G>(weights, days, &blocked.numbers);
+        let (extras, owed) = (extras.numbers(), owed.numbers());
+        self.numbers.pass::<C>(holds, &days.numbers, extras, owed);
     }
 }

@@ -1,61 +1,55 @@
-// A number for each set of a few places, by halves, and lowered place by place.
-ghost use Rattle.std.specs.Prelude.{◌≡◌, ◌↔◌, ℕ, ◌+◌, ◌*◌, ◌-◌, ◌^◌, ◌<◌, ◌≤◌, ◌==◌, cond, min, suc, IsTrue, slice_index};
+// Tables with a number for each set of places, by halves.
+ghost use Rattle.std.specs.Prelude.{◌≡◌, ℕ, ◌+◌, ◌*◌, ◌-◌, ◌^◌, ◌<◌, ◌≤◌, ◌==◌, cond, max, min, suc, IsTrue, slice_index};
 ghost use Rattle.std.proofs.Common.{rules};
 ghost use Rattle.strip_mask.specs.Set.{full, sum_over, with};
-ghost use Rattle.strip_sets.specs.Numbers.{by_class, halves, sum_within};
-ghost use Rattle.strip_sets.specs.Pass.{HasRoom, Passes, cost, cost_from, counted, lowered};
+ghost use Rattle.strip_sets.specs.Numbers.{by_class, counted, halves, sum_within};
+ghost use Rattle.strip_sets.specs.Saving.{Saves, SavingRoom, owes, owes_from};
 
-use super::lanes::{below_two, cost_of, lower, pass_two, vector};
-use super::terms::{Classes, Count, Guard};
+use super::lanes::{below_two, low_bits, owed_from, pass_two, raise, vector};
+use super::terms::{Classes, Count};
 use std::simd::prelude::*;
 
-/// A number for each set of the first few places, where bit i of a set is place i.
+/// A table with a number for each set of the first few places. Bit i of a set is place i.
 pub trait BySet: Sized + Drop {
-    /// How many places there are.
+    /// Number of places.
     ghost places: { ℕ };
 
-    /// The greatest number that fits.
+    /// The greatest number that fits in an entry.
     ghost most: { ℕ };
 
     /// The number of a set.
     ghost value: { Self → ℕ → ℕ };
 
-    /// How many places there are.
+    /// Returns the number of places.
     fn places() -> usize
         requires { places ≤ 10 }
         ensures { result ≡ places };
 
-    /// The same number for each set.
+    /// Makes a table with the same number for each set.
     fn all(number: u64) -> Self
         requires { number ≤ most }
         ensures { (set : ℕ) → set < 2 ^ places → value result set ≡ number };
 
-    /// One number for the empty set, and another one for each other set.
+    /// Makes a table with one number for the empty set, and another for each other set.
     fn none_and_others(none: u64, others: u64) -> Self
         requires none { none ≤ most }
         requires others { others ≤ most }
         ensures { (set : ℕ) → set < 2 ^ places → value result set ≡ cond {A = ℕ} (set == 0) none others };
 
-    /// The number of a set.
+    /// Returns the number of a set.
     fn at(&self, set: usize) -> u64
         requires few { places ≤ 10 }
         requires known { set < 2 ^ places }
         ensures { result ≡ value self.now set };
 
-    /// For each set a first number and the numbers of its places.
-    fn sums(&mut self, first: u64, numbers: &[u64; 10])
-        requires few { places ≤ 10 }
-        requires fits { first + sum_over numbers.now (full places) ≤ most }
-        ensures { (set : ℕ) → set < 2 ^ places → value self.new set ≡ first + sum_over numbers.now set };
-
-    /// For each set a first number and the numbers of the places that it has not.
+    /// Sets each number to `first` and the sum of the numbers of the places that are not in the set.
     fn other_sums(&mut self, first: u64, numbers: &[u64; 10])
         requires few { places ≤ 10 }
         requires fits { first + sum_over numbers.now (full places) ≤ most }
         ensures { (set : ℕ) → set < 2 ^ places → value self.new set + sum_over numbers.now set ≡ first
             + sum_over numbers.now (full places) };
 
-    /// That much more at one set.
+    /// Adds to the number of one set.
     fn add(&mut self, set: usize, number: u64)
         requires few { places ≤ 10 }
         requires known { set < 2 ^ places }
@@ -63,90 +57,92 @@ pub trait BySet: Sized + Drop {
         ensures { (other : ℕ) → other < 2 ^ places
             → value self.new other ≡ value self.old other + counted (other == set) number };
 
-    /// For each set the sum of the numbers of its subsets.
+    /// Sets each number to the sum of the numbers of the set's subsets.
     fn below(&mut self)
         requires { sum_within places (value self.old) (full places) ≤ most }
         ensures { (set : ℕ) → set < 2 ^ places → value self.new set ≡ sum_within places (value self.old) set };
 
-    /// The numbers of the others.
+    /// Copies the numbers of another table.
     fn copy_from(&mut self, others: &Self)
         ensures { (set : ℕ) → set < 2 ^ places → value self.new set ≡ value others.now set };
 
-    /// For each set the number of the others and that much more.
+    /// Sets each number to that of the other table and `number`.
     fn more_than(&mut self, others: &Self, number: u64)
         requires { (set : ℕ) → set < 2 ^ places → value others.now set + number ≤ most }
         ensures { (set : ℕ) → set < 2 ^ places → value self.new set ≡ value others.now set + number };
 
-    /// For each set the number of the others, and its weight for each of its days.
-    fn sum_times(&mut self, others: &Self, weights: &Self, days: &Self)
-        requires { (set : ℕ) → set < 2 ^ places → value others.now set + value weights.now set * value days.now set
-            ≤ most }
-        ensures { (set : ℕ) → set < 2 ^ places → value self.new set ≡ value others.now set
-            + value weights.now set * value days.now set };
-
-    /// For each set the number of the others more.
+    /// Adds the numbers of another table.
     fn plus(&mut self, others: &Self)
         requires { (set : ℕ) → set < 2 ^ places → value self.old set + value others.now set ≤ most }
         ensures { (set : ℕ) → set < 2 ^ places → value self.new set ≡ value self.old set + value others.now set };
 
-    /// For each set the lesser of its number and that of the others.
-    fn least(&mut self, others: &Self)
-        ensures { (set : ℕ) → set < 2 ^ places → value self.new set ≡ min (value self.old set) (value others.now set) };
+    /// Limits each number to this one.
+    fn at_most(&mut self, number: u64)
+        requires { number ≤ most }
+        ensures { (set : ℕ) → set < 2 ^ places → value self.new set ≡ min (value self.old set) number };
 
-    /// Lowers the number of each set to that of the others and what its days cost, where nothing is blocked.
-    fn or_open(&mut self, others: &Self, weights: &Self, days: &Self, blocked: &Self)
-        requires { (set : ℕ) → set < 2 ^ places → value others.now set + value weights.now set * value days.now set
-            ≤ most }
+    /// Sets each number to that of the other table and `number`, at most the limit of the set.
+    fn more_at_most(&mut self, others: &Self, number: u64, limits: &Self)
+        requires { (set : ℕ) → set < 2 ^ places → value others.now set + number ≤ most }
         ensures { (set : ℕ) → set < 2 ^ places → value self.new set
-            ≡ lowered (value self.old set) (value others.now set
-            + value weights.now set * value days.now set) (value blocked.now set) 0 };
+            ≡ min (value others.now set + number) (value limits.now set) };
 
-    /// Lowers the number of each set to that of the others and what the days that it has more than
-    /// they cost, where the same is blocked for both.
-    fn or_before<C: Count, G: Guard>(
+    /// Raises each number to that of the other table, with the rate for each of the paid days, less the set's extra
+    /// for each of the owed days.
+    fn greater_with(&mut self, others: &Self, rate: u64, paid: &Self, extras: &Self, owed: &Self)
+        requires fits { (set : ℕ) → set < 2 ^ places → value others.now set + rate * value paid.now set ≤ most }
+        requires covered { (set : ℕ) → set < 2 ^ places → value extras.now set * value owed.now set
+            ≤ value others.now set }
+        ensures { (set : ℕ) → set < 2 ^ places → value self.new set ≡ max (value self.old set)
+            (value others.now set + rate * value paid.now set - value extras.now set * value owed.now set) };
+
+    /// Raises each number by a step from that of the other table, the sets without a place of this hold rate. The step
+    /// saves the hold rate on all days before it, and owes each class its extra for each day that comes with it.
+    fn or_saved<C: Count>(
         &mut self,
         others: &Self,
-        weights: Classes<&Self>,
-        days: Classes<&Self>,
-        before: Classes<&Self>,
-        blocked: &Self,
-        blocked_before: &Self,
+        hold: u64,
+        days_before: &Self,
+        extras: Classes<&Self>,
+        owed: Classes<&Self>,
+        owed_before: Classes<&Self>,
     )
-        requires classes { C.COUNT ≤ 4 }
+        requires classes { C.COUNT ≤ 2 }
         requires rise { (class set : ℕ) → class < C.COUNT → set < 2 ^ places
-            → by_class (λ s. value s.now) before class set ≤ by_class (λ s. value s.now) days class set }
+            → by_class (λ s. value s.now) owed_before class set ≤ by_class (λ s. value s.now) owed class set }
         requires fits { (set : ℕ) → set < 2 ^ places
-            → value others.now set + cost_from C.COUNT (by_class (λ s. value s.now) weights) (by_class
-            (λ s. value s.now) days) (by_class (λ s. value s.now) before) set ≤ most }
-        ensures { (set : ℕ) → set < 2 ^ places → value self.new set
-            ≡ lowered (value self.old set) (value others.now set
-            + cost_from C.COUNT (by_class (λ s. value s.now) weights.entry) (by_class
-            (λ s. value s.now) days.entry) (by_class
-            (λ s. value s.now) before.entry) set) (counted G.GUARDS (value blocked.now set))
-            (counted G.GUARDS (value blocked_before.now set)) };
+            → value others.now set + hold * value days_before.now set ≤ most }
+        requires covered { (set : ℕ) → set < 2 ^ places
+            → owes_from C.COUNT (by_class (λ s. value s.now) extras) (by_class (λ s. value s.now) owed)
+            (by_class (λ s. value s.now) owed_before) set ≤ value others.now set }
+        ensures { (set : ℕ) → set < 2 ^ places → value self.new set ≡ max (value self.old set)
+            (value others.now set + hold * value days_before.now set
+            - owes_from C.COUNT (by_class (λ s. value s.now) extras.entry) (by_class
+            (λ s. value s.now) owed.entry) (by_class (λ s. value s.now) owed_before.entry) set) };
 
-    /// Lowers the number of each set to the least that it takes to come to it, place after place in
-    /// any order: each step costs the weights at the set it leads to for the days that come with it,
-    /// and leads to a set for which the same is blocked. It tries each place of each set once, in place.
-    fn pass<C: Count, G: Guard>(
+    /// Raises each number to the most that is saved on a way to the set, place after place in any order. A step saves
+    /// the hold rate of its place on all days before it, and owes each class its extra, at the set that the step leads
+    /// to, for each day that comes with it. Time is linear in the number of sets times places; it works in place.
+    fn pass<C: Count>(
         &mut self,
-        weights: Classes<&Self>,
-        days: Classes<&Self>,
-        blocked: &Self,
+        holds: &[u64; 10],
+        days: &Self,
+        extras: Classes<&Self>,
+        owed: Classes<&Self>,
     )
         requires few { places ≤ 10 }
-        requires classes { C.COUNT ≤ 4 }
-        requires room { HasRoom places C.COUNT most (by_class (λ s. value s.now) weights) (by_class
-            (λ s. value s.now) days) (value self.old) }
-        ensures { Passes places (cost C.COUNT (by_class (λ s. value s.now) weights.entry) (by_class
-            (λ s. value s.now) days.entry)) (λ set. counted G.GUARDS (value blocked.now set)) (value self.old)
+        requires classes { C.COUNT ≤ 2 }
+        requires room { SavingRoom places C.COUNT most holds.now (value days.now) (by_class
+            (λ s. value s.now) extras) (by_class (λ s. value s.now) owed) (value self.old) }
+        ensures { Saves places (slice_index holds.now) (value days.now) (owes C.COUNT (by_class
+            (λ s. value s.now) extras.entry) (by_class (λ s. value s.now) owed.entry)) (value self.old)
             (value self.new) };
 
     /// Each number fits in 64 bits.
     ghost narrow: { most < 2 ^ 64 };
 }
 
-/// A number alone, of no place.
+/// A table of no place: one number.
 impl BySet for u64 {
     ghost places = { 0 };
 
@@ -173,11 +169,6 @@ impl BySet for u64 {
     }
 
     #[inline(always)]
-    fn sums(&mut self, first: u64, _numbers: &[u64; 10]) {
-        *self = first;
-    }
-
-    #[inline(always)]
     fn other_sums(&mut self, first: u64, _numbers: &[u64; 10]) {
         *self = first;
     }
@@ -200,103 +191,77 @@ impl BySet for u64 {
     }
 
     #[inline(always)]
-    fn sum_times(&mut self, others: &u64, weights: &u64, days: &u64) {
-        *self = *others + *weights * *days;
-    }
-
-    #[inline(always)]
     fn plus(&mut self, others: &u64) {
         *self += *others;
     }
 
     #[inline(always)]
-    fn least(&mut self, others: &u64) {
-        *self = (*self).min(*others);
+    fn at_most(&mut self, number: u64) {
+        *self = (*self).min(number);
     }
 
     #[inline(always)]
-    fn or_open(&mut self, others: &u64, weights: &u64, days: &u64, blocked: &u64) {
-        if *blocked == 0 {
-            *self = (*self).min(*others + *weights * *days);
-        }
+    fn more_at_most(&mut self, others: &u64, number: u64, limits: &u64) {
+        *self = (*others + number).min(*limits);
     }
 
     #[inline(always)]
-    fn or_before<C: Count, G: Guard>(
+    fn greater_with(&mut self, others: &u64, rate: u64, paid: &u64, extras: &u64, owed: &u64) {
+        *self = (*self).max(*others + rate * *paid - *extras * *owed);
+    }
+
+    #[inline(always)]
+    fn or_saved<C: Count>(
         &mut self,
         others: &u64,
-        weights: Classes<&u64>,
-        days: Classes<&u64>,
-        before: Classes<&u64>,
-        blocked: &u64,
-        blocked_before: &u64,
+        hold: u64,
+        days_before: &u64,
+        extras: Classes<&u64>,
+        owed: Classes<&u64>,
+        owed_before: Classes<&u64>,
     ) {
-        let sum = *others;
         let sum = or_owed(
-            sum,
+            0,
             C::COUNT > 0,
-            *weights.first,
-            *days.first,
-            *before.first,
+            *extras.first,
+            *owed.first,
+            *owed_before.first,
         );
         let sum = or_owed(
             sum,
             C::COUNT > 1,
-            *weights.second,
-            *days.second,
-            *before.second,
+            *extras.second,
+            *owed.second,
+            *owed_before.second,
         );
-        let sum = or_owed(
-            sum,
-            C::COUNT > 2,
-            *weights.third,
-            *days.third,
-            *before.third,
-        );
-        let sum = or_owed(
-            sum,
-            C::COUNT > 3,
-            *weights.fourth,
-            *days.fourth,
-            *before.fourth,
-        );
-        if is_open(G::GUARDS, *blocked, *blocked_before) {
-            *self = sum.min(*self);
-        }
+        *self = (*self).max(*others + hold * *days_before - sum);
     }
 
     #[inline(always)]
-    fn pass<C: Count, G: Guard>(
+    fn pass<C: Count>(
         &mut self,
-        _weights: Classes<&u64>,
-        _days: Classes<&u64>,
-        _blocked: &u64,
+        _holds: &[u64; 10],
+        _days: &u64,
+        _extras: Classes<&u64>,
+        _owed: Classes<&u64>,
     ) {}
 }
 
-/// Whether a step is free, or the same is blocked before and behind it.
+/// Adds an extra for each new day, if the class counts.
 #[inline(always)]
-fn is_open(guards: bool, blocked: u64, blocked_before: u64) -> bool
-    ensures { IsTrue result ↔ (counted guards blocked ≡ counted guards blocked_before) }
-{
-    !guards || blocked == blocked_before
-}
-
-/// A sum, and where it counts a weight for each day more.
-#[inline(always)]
-fn or_owed(sum: u64, counts: bool, weight: u64, days: u64, before: u64) -> u64
+fn or_owed(sum: u64, counts: bool, extra: u64, days: u64, before: u64) -> u64
     requires rise { IsTrue counts → before ≤ days }
-    requires fits { sum + counted counts (weight * (days - before)) < 2 ^ 64 }
-    ensures { result ≡ sum + counted counts (weight * (days - before)) }
+    requires fits { sum + counted counts (extra * (days - before)) < 2 ^ 64 }
+    ensures { result ≡ sum + counted counts (extra * (days - before)) }
 {
     if counts {
-        sum + weight * (days - before)
+        sum + extra * (days - before)
     } else {
         sum
     }
 }
 
-/// The four sets of two places, at once.
+/// A table of two places: the four sets in a vector.
 impl BySet for [u32; 4] {
     ghost places = { 2 };
 
@@ -321,17 +286,6 @@ impl BySet for [u32; 4] {
 
     fn at(&self, set: usize) -> u64 {
         self[set] as u64
-    }
-
-    #[inline(always)]
-    fn sums(&mut self, first: u64, numbers: &[u64; 10]) {
-        let (with_first, with_second) = (first + numbers[0], first + numbers[1]);
-        *self = [
-            first as u32,
-            with_first as u32,
-            with_second as u32,
-            (with_first + numbers[1]) as u32,
-        ];
     }
 
     #[inline(always)]
@@ -366,74 +320,70 @@ impl BySet for [u32; 4] {
     }
 
     #[inline(always)]
-    fn sum_times(&mut self, others: &[u32; 4], weights: &[u32; 4], days: &[u32; 4]) {
-        let (weights, days) = (u32x4::from_array(*weights), u32x4::from_array(*days));
-        let others = u32x4::from_array(*others);
-        *self = others.strict_add(weights.strict_mul(days)).to_array();
-    }
-
-    #[inline(always)]
     fn plus(&mut self, others: &[u32; 4]) {
         let (numbers, others) = (u32x4::from_array(*self), u32x4::from_array(*others));
         *self = numbers.strict_add(others).to_array();
     }
 
     #[inline(always)]
-    fn least(&mut self, others: &[u32; 4]) {
-        let (numbers, others) = (u32x4::from_array(*self), u32x4::from_array(*others));
-        *self = numbers.simd_min(others).to_array();
+    fn at_most(&mut self, number: u64) {
+        let number = u32x4::splat(number as u32);
+        *self = u32x4::from_array(*self).simd_min(number).to_array();
     }
 
     #[inline(always)]
-    fn or_open(
+    fn more_at_most(&mut self, others: &[u32; 4], number: u64, limits: &[u32; 4]) {
+        let more = u32x4::splat(number as u32);
+        let (others, limits) = (u32x4::from_array(*others), u32x4::from_array(*limits));
+        *self = others.strict_add(more).simd_min(limits).to_array();
+    }
+
+    #[inline(always)]
+    fn greater_with(
         &mut self,
         others: &[u32; 4],
-        weights: &[u32; 4],
+        rate: u64,
+        paid: &[u32; 4],
+        extras: &[u32; 4],
+        owed: &[u32; 4],
+    ) {
+        let saved = u32x4::splat(low_bits(rate)).strict_mul(u32x4::from_array(*paid));
+        let debts = u32x4::from_array(*extras).strict_mul(u32x4::from_array(*owed));
+        let (numbers, others) = (u32x4::from_array(*self), u32x4::from_array(*others));
+        *self = raise(numbers, others, saved, debts).to_array();
+    }
+
+    #[inline(always)]
+    fn or_saved<C: Count>(
+        &mut self,
+        others: &[u32; 4],
+        hold: u64,
+        days_before: &[u32; 4],
+        extras: Classes<&[u32; 4]>,
+        owed: Classes<&[u32; 4]>,
+        owed_before: Classes<&[u32; 4]>,
+    ) {
+        let saved = u32x4::splat(low_bits(hold)).strict_mul(u32x4::from_array(*days_before));
+        let debts = owed_from::<C>(extras.lanes(), owed.lanes(), owed_before.lanes());
+        let (numbers, others) = (u32x4::from_array(*self), u32x4::from_array(*others));
+        *self = raise(numbers, others, saved, debts).to_array();
+    }
+
+    #[inline(always)]
+    fn pass<C: Count>(
+        &mut self,
+        holds: &[u64; 10],
         days: &[u32; 4],
-        blocked: &[u32; 4],
+        extras: Classes<&[u32; 4]>,
+        owed: Classes<&[u32; 4]>,
     ) {
-        let (weights, days) = (u32x4::from_array(*weights), u32x4::from_array(*days));
-        let (numbers, others) = (u32x4::from_array(*self), u32x4::from_array(*others));
-        let least = numbers.simd_min(others.strict_add(weights.strict_mul(days)));
-        let open = u32x4::from_array(*blocked).simd_eq(u32x4::splat(0));
-        *self = open.select(least, numbers).to_array();
-    }
-
-    #[inline(always)]
-    fn or_before<C: Count, G: Guard>(
-        &mut self,
-        others: &[u32; 4],
-        weights: Classes<&[u32; 4]>,
-        days: Classes<&[u32; 4]>,
-        before: Classes<&[u32; 4]>,
-        blocked: &[u32; 4],
-        blocked_before: &[u32; 4],
-    ) {
-        let costs = cost_of::<C>(weights.lanes(), days.lanes(), before.lanes());
-        *self = lower::<G>(
-            u32x4::from_array(*self),
-            u32x4::from_array(*others),
-            costs,
-            u32x4::from_array(*blocked),
-            u32x4::from_array(*blocked_before),
-        )
-        .to_array();
-    }
-
-    #[inline(always)]
-    fn pass<C: Count, G: Guard>(
-        &mut self,
-        weights: Classes<&[u32; 4]>,
-        days: Classes<&[u32; 4]>,
-        blocked: &[u32; 4],
-    ) {
-        let (weights, days) = (weights.lanes(), days.lanes());
-        let numbers = pass_two::<C, G>(vector(self), weights, days, vector(blocked));
+        let (extras, owed) = (extras.lanes(), owed.lanes());
+        let numbers = pass_two::<C>(vector(self), holds, vector(days), extras, owed);
         *self = numbers.to_array();
     }
 }
 
-/// One place more: the numbers of the sets without it, and those of the sets with it.
+/// A table of one more place: the numbers of the sets without it, and of the sets with it.
 #[derive(Debug, Drop)]
 pub struct Halves<T> {
     without: T,
@@ -441,7 +391,7 @@ pub struct Halves<T> {
 }
 
 impl<'a, T: BySet> Classes<&'a Halves<T>> {
-    /// Those of the sets without the last place.
+    /// Returns the tables of the sets without the last place.
     #[inline(always)]
     fn without(self) -> Classes<&'a T>
         ensures { (class set : ℕ) → set < 2 ^ T.places
@@ -451,12 +401,10 @@ impl<'a, T: BySet> Classes<&'a Halves<T>> {
         Classes {
             first: &self.first.without,
             second: &self.second.without,
-            third: &self.third.without,
-            fourth: &self.fourth.without,
         }
     }
 
-    /// Those of the sets with the last place.
+    /// Returns the tables of the sets with the last place.
     #[inline(always)]
     fn with(self) -> Classes<&'a T>
         ensures { (class set : ℕ) → set < 2 ^ T.places
@@ -467,8 +415,6 @@ impl<'a, T: BySet> Classes<&'a Halves<T>> {
         Classes {
             first: &self.first.with,
             second: &self.second.with,
-            third: &self.third.with,
-            fourth: &self.fourth.with,
         }
     }
 }
@@ -510,12 +456,6 @@ impl<T: BySet> BySet for Halves<T> {
     }
 
     #[inline(always)]
-    fn sums(&mut self, first: u64, numbers: &[u64; 10]) {
-        self.without.sums(first, numbers);
-        self.with.more_than(&self.without, numbers[T::places()]);
-    }
-
-    #[inline(always)]
     fn other_sums(&mut self, first: u64, numbers: &[u64; 10]) {
         self.with.other_sums(first, numbers);
         self.without.more_than(&self.with, numbers[T::places()]);
@@ -550,84 +490,86 @@ impl<T: BySet> BySet for Halves<T> {
     }
 
     #[inline(always)]
-    fn sum_times(&mut self, others: &Self, weights: &Self, days: &Self) {
-        self.without
-            .sum_times(&others.without, &weights.without, &days.without);
-        self.with.sum_times(&others.with, &weights.with, &days.with);
-    }
-
-    #[inline(always)]
     fn plus(&mut self, others: &Self) {
         self.without.plus(&others.without);
         self.with.plus(&others.with);
     }
 
     #[inline(always)]
-    fn least(&mut self, others: &Self) {
-        self.without.least(&others.without);
-        self.with.least(&others.with);
+    fn at_most(&mut self, number: u64) {
+        self.without.at_most(number);
+        self.with.at_most(number);
     }
 
     #[inline(always)]
-    fn or_open(&mut self, others: &Self, weights: &Self, days: &Self, blocked: &Self) {
-        self.without.or_open(
+    fn more_at_most(&mut self, others: &Self, number: u64, limits: &Self) {
+        self.without
+            .more_at_most(&others.without, number, &limits.without);
+        self.with.more_at_most(&others.with, number, &limits.with);
+    }
+
+    #[inline(always)]
+    fn greater_with(&mut self, others: &Self, rate: u64, paid: &Self, extras: &Self, owed: &Self) {
+        self.without.greater_with(
             &others.without,
-            &weights.without,
-            &days.without,
-            &blocked.without,
+            rate,
+            &paid.without,
+            &extras.without,
+            &owed.without,
         );
         self.with
-            .or_open(&others.with, &weights.with, &days.with, &blocked.with);
+            .greater_with(&others.with, rate, &paid.with, &extras.with, &owed.with);
     }
 
     #[inline(always)]
-    fn or_before<C: Count, G: Guard>(
+    fn or_saved<C: Count>(
         &mut self,
         others: &Self,
-        weights: Classes<&Self>,
-        days: Classes<&Self>,
-        before: Classes<&Self>,
-        blocked: &Self,
-        blocked_before: &Self,
+        hold: u64,
+        days_before: &Self,
+        extras: Classes<&Self>,
+        owed: Classes<&Self>,
+        owed_before: Classes<&Self>,
     ) {
-        let (low, low_days, low_before) = (weights.without(), days.without(), before.without());
-        let (high, high_days, high_before) = (weights.with(), days.with(), before.with());
-        self.without.or_before::<C, G>(
+        let (low, low_owed, low_before) = (extras.without(), owed.without(), owed_before.without());
+        let (high, high_owed, high_before) = (extras.with(), owed.with(), owed_before.with());
+        self.without.or_saved::<C>(
             &others.without,
+            hold,
+            &days_before.without,
             low,
-            low_days,
+            low_owed,
             low_before,
-            &blocked.without,
-            &blocked_before.without,
         );
-        self.with.or_before::<C, G>(
+        self.with.or_saved::<C>(
             &others.with,
+            hold,
+            &days_before.with,
             high,
-            high_days,
+            high_owed,
             high_before,
-            &blocked.with,
-            &blocked_before.with,
         );
     }
 
     #[inline(always)]
-    fn pass<C: Count, G: Guard>(
+    fn pass<C: Count>(
         &mut self,
-        weights: Classes<&Self>,
-        days: Classes<&Self>,
-        blocked: &Self,
+        holds: &[u64; 10],
+        days: &Self,
+        extras: Classes<&Self>,
+        owed: Classes<&Self>,
     ) {
-        let (low, low_days) = (weights.without(), days.without());
-        let (high, high_days) = (weights.with(), days.with());
-        self.without.pass::<C, G>(low, low_days, &blocked.without);
-        self.with.or_before::<C, G>(
+        let (low, low_owed) = (extras.without(), owed.without());
+        let (high, high_owed) = (extras.with(), owed.with());
+        self.without.pass::<C>(holds, &days.without, low, low_owed);
+        self.with.or_saved::<C>(
             &self.without,
+            holds[T::places()],
+            &days.without,
             high,
-            high_days,
-            low_days,
-            &blocked.with,
-            &blocked.without,
+            high_owed,
+            low_owed,
         );
-        self.with.pass::<C, G>(high, high_days, &blocked.with);
+        self.with.pass::<C>(holds, &days.with, high, high_owed);
     }
 }

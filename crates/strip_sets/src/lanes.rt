@@ -1,10 +1,10 @@
-// The four sets of two places in the lanes of a vector, lowered from one another.
-ghost use Rattle.std.specs.Prelude.{◌≡◌, ℕ, ◌+◌, ◌*◌, ◌-◌, ◌^◌, ◌<◌, ◌≤◌, IsTrue, List, [], ◌∷◌, slice_index};
+// The four sets of two places in the lanes of a vector, raised from one another.
+ghost use Rattle.std.specs.Prelude.{◌≡◌, ℕ, ◌+◌, ◌*◌, ◌-◌, ◌^◌, ◌<◌, ◌≤◌, ◌%◌, IsTrue, List, [], ◌∷◌, max, slice_index};
 ghost use Rattle.strip_mask.specs.Set.{full};
-ghost use Rattle.strip_sets.specs.Numbers.{AreLanes, CanStep, HasLanes, Steps, by_class, step_from, step_to, sum_within};
-ghost use Rattle.strip_sets.specs.Pass.{HasRoom, Passes, cost, cost_from, counted, lowered};
+ghost use Rattle.strip_sets.specs.Numbers.{AreLanes, CanStep, HasLanes, RaisedByFirst, RaisedBySecond, by_class, counted, step_by, step_from, step_to, sum_within};
+ghost use Rattle.strip_sets.specs.Saving.{Saves, SavingRoom, owes, owes_from};
 
-use super::terms::{Classes, Count, Guard};
+use super::terms::{Classes, Count};
 use std::simd::prelude::*;
 
 impl Classes<&[u32; 4]> {
@@ -17,13 +17,11 @@ impl Classes<&[u32; 4]> {
         Classes {
             first: vector(self.first),
             second: vector(self.second),
-            third: vector(self.third),
-            fourth: vector(self.fourth),
         }
     }
 }
 
-/// Four numbers as the lanes of a vector, loaded at once also where the lanes are then moved.
+/// Loads four numbers as a vector, in one access even if the lanes are moved afterwards.
 #[inline(always)]
 pub(crate) fn vector(numbers: &[u32; 4]) -> u32x4
     ensures lanes { AreLanes result }
@@ -32,7 +30,7 @@ pub(crate) fn vector(numbers: &[u32; 4]) -> u32x4
     u32x4::from_slice(numbers)
 }
 
-/// For each of the four sets of two places the sum of the numbers of its subsets.
+/// Returns, for each of the four sets of two places, the sum of the numbers of its subsets.
 #[inline(always)]
 pub(crate) fn below_two(numbers: u32x4) -> u32x4
     requires lanes { AreLanes numbers }
@@ -44,7 +42,7 @@ pub(crate) fn below_two(numbers: u32x4) -> u32x4
     with_first.strict_add(without_second(with_first))
 }
 
-/// For each set of two places that has the first the number of the set without it, and else 0.
+/// Returns, for each set with the first place, the number of the set without it, and 0 for the others.
 #[inline(always)]
 fn without_first(numbers: u32x4) -> u32x4
     requires { AreLanes numbers }
@@ -53,7 +51,7 @@ fn without_first(numbers: u32x4) -> u32x4
     numbers.shuffle(u32x4::splat(0), [4, 0, 4, 2])
 }
 
-/// For each set of two places that has the second the number of the set without it, and else 0.
+/// Returns, for each set with the second place, the number of the set without it, and 0 for the others.
 #[inline(always)]
 fn without_second(numbers: u32x4) -> u32x4
     requires { AreLanes numbers }
@@ -62,238 +60,236 @@ fn without_second(numbers: u32x4) -> u32x4
     numbers.shuffle(u32x4::splat(0), [4, 4, 0, 1])
 }
 
-/// In each lane the number, or that of the other and what it costs to come from there.
+/// Returns the lowest 32 bits of a rate: the whole rate, unless it is paid on no day.
 #[inline(always)]
-pub(crate) fn lower<G: Guard>(
-    numbers: u32x4,
-    others: u32x4,
-    costs: u32x4,
-    blocked: u32x4,
-    blocked_before: u32x4,
-) -> u32x4
-    requires lanes { AreLanes numbers × AreLanes others × AreLanes costs × AreLanes blocked × AreLanes blocked_before }
-    requires fits { (lane : ℕ) → lane < 4 → slice_index others lane + slice_index costs lane < 2 ^ 32 }
-    ensures lanes { AreLanes result }
-    ensures each { (lane : ℕ) → lane < 4 → slice_index result lane
-        ≡ lowered (slice_index numbers lane) (slice_index others lane
-        + slice_index costs lane) (counted G.GUARDS (slice_index blocked lane))
-        (counted G.GUARDS (slice_index blocked_before lane)) }
+pub(crate) fn low_bits(rate: u64) -> u32
+    ensures { result ≡ rate % 2 ^ 32 }
 {
-    let reached = others.strict_add(costs);
-    let least = numbers.simd_min(reached);
-    if G::GUARDS {
-        let same = blocked.simd_eq(blocked_before);
-        same.select(least, numbers)
-    } else {
-        least
-    }
+    (rate % (1 << 32)) as u32
 }
 
-/// In each lane what the days cost that come with it.
+/// Raises each lane to the other's, with what is saved, less what is owed.
 #[inline(always)]
-pub(crate) fn cost_of<C: Count>(
-    weights: Classes<u32x4>,
+pub(crate) fn raise(numbers: u32x4, others: u32x4, saved: u32x4, owed: u32x4) -> u32x4
+    requires lanes { AreLanes numbers × AreLanes others × AreLanes saved × AreLanes owed }
+    requires fits { (lane : ℕ) → lane < 4 → slice_index others lane + slice_index saved lane < 2 ^ 32 }
+    requires covered { (lane : ℕ) → lane < 4 → slice_index owed lane ≤ slice_index others lane }
+    ensures lanes { AreLanes result }
+    ensures each { (lane : ℕ) → lane < 4 → slice_index result lane ≡ max (slice_index numbers lane)
+        (slice_index others lane + slice_index saved lane - slice_index owed lane) }
+{
+    numbers.simd_max(others.strict_add(saved).strict_sub(owed))
+}
+
+/// Returns, in each lane, what the classes owe for the days that come with the step.
+#[inline(always)]
+pub(crate) fn owed_from<C: Count>(
+    extras: Classes<u32x4>,
     days: Classes<u32x4>,
     before: Classes<u32x4>,
 ) -> u32x4
-    requires classes { C.COUNT ≤ 4 }
-    requires vectors { HasLanes weights × HasLanes days × HasLanes before }
+    requires classes { C.COUNT ≤ 2 }
+    requires vectors { HasLanes extras × HasLanes days × HasLanes before }
     requires rise { (class lane : ℕ) → class < C.COUNT → lane < 4
         → by_class slice_index before class lane ≤ by_class slice_index days class lane }
-    requires fits { (lane : ℕ) → lane < 4 → cost_from C.COUNT (by_class slice_index weights)
+    requires fits { (lane : ℕ) → lane < 4 → owes_from C.COUNT (by_class slice_index extras)
         (by_class slice_index days) (by_class slice_index before) lane < 2 ^ 32 }
     ensures lanes { AreLanes result }
     ensures each { (lane : ℕ) → lane < 4 → slice_index result lane
-        ≡ cost_from C.COUNT (by_class slice_index weights) (by_class slice_index days)
+        ≡ owes_from C.COUNT (by_class slice_index extras) (by_class slice_index days)
         (by_class slice_index before) lane }
 {
     let sum = u32x4::splat(0);
-    let sum = plus_days(sum, C::COUNT > 0, weights.first, days.first, before.first);
-    let sum = plus_days(
-        sum,
-        C::COUNT > 1,
-        weights.second,
-        days.second,
-        before.second,
-    );
-    let sum = plus_days(sum, C::COUNT > 2, weights.third, days.third, before.third);
-    plus_days(
-        sum,
-        C::COUNT > 3,
-        weights.fourth,
-        days.fourth,
-        before.fourth,
-    )
+    let sum = plus_owed(sum, C::COUNT > 0, extras.first, days.first, before.first);
+    plus_owed(sum, C::COUNT > 1, extras.second, days.second, before.second)
 }
 
-/// In each lane the sum and, where they count, what the days of one class cost that come with it.
+/// Adds to each lane what one class owes for the days that come with the step, if the class counts.
 #[inline(always)]
-fn plus_days(sum: u32x4, counts: bool, weights: u32x4, days: u32x4, before: u32x4) -> u32x4
-    requires lanes { AreLanes sum × AreLanes weights × AreLanes days × AreLanes before }
+fn plus_owed(sum: u32x4, counts: bool, extras: u32x4, days: u32x4, before: u32x4) -> u32x4
+    requires lanes { AreLanes sum × AreLanes extras × AreLanes days × AreLanes before }
     requires rise { (lane : ℕ) → lane < 4 → IsTrue counts → slice_index before lane ≤ slice_index days lane }
     requires fits { (lane : ℕ) → lane < 4 → slice_index sum lane
-        + counted counts (slice_index weights lane * (slice_index days lane - slice_index before lane)) < 2 ^ 32 }
+        + counted counts (slice_index extras lane * (slice_index days lane - slice_index before lane)) < 2 ^ 32 }
     ensures lanes { AreLanes result }
     ensures each { (lane : ℕ) → lane < 4 → slice_index result lane ≡ slice_index sum lane
-        + counted counts (slice_index weights lane * (slice_index days lane - slice_index before lane)) }
+        + counted counts (slice_index extras lane * (slice_index days lane - slice_index before lane)) }
 {
     if counts {
-        sum.strict_add(weights.strict_mul(days.strict_sub(before)))
+        sum.strict_add(extras.strict_mul(days.strict_sub(before)))
     } else {
         sum
     }
 }
 
-/// Which lane each lane of four is taken from.
-trait Pick {
-    /// The position for each lane.
-    ghost positions: { List ℕ };
-
-    /// In each lane the number at its position.
-    fn pick(lanes: u32x4) -> u32x4
-        requires { AreLanes lanes }
-        ensures lanes { AreLanes result }
-        ensures each { (lane : ℕ) → lane < 4 → slice_index result lane
-            ≡ slice_index lanes (slice_index positions lane) };
-}
-
-/// Where each of the four steps leads to by which the sets of two places are come to: to both from the
-/// second, to the first and to the second from none, and to both from the first.
-struct StepTo;
-
-impl Pick for StepTo {
-    ghost positions = { step_to };
-
-    #[inline(always)]
-    fn pick(lanes: u32x4) -> u32x4 {
-        lanes.swizzle([3, 1, 2, 3])
-    }
-}
-
-/// Where each of these steps comes from.
-struct StepFrom;
-
-impl Pick for StepFrom {
-    ghost positions = { step_from };
-
-    #[inline(always)]
-    fn pick(lanes: u32x4) -> u32x4 {
-        lanes.swizzle([2, 0, 0, 1])
-    }
-}
-
-/// The step to both from the second at the set of both.
-struct LastStep;
-
-impl Pick for LastStep {
-    ghost positions = { 0 ∷ 1 ∷ 2 ∷ 0 ∷ [] };
-
-    #[inline(always)]
-    fn pick(lanes: u32x4) -> u32x4 {
-        lanes.swizzle([0, 1, 2, 0])
-    }
-}
-
-/// The sets of one place from the empty one.
-struct FromNone;
-
-impl Pick for FromNone {
-    ghost positions = { 0 ∷ 0 ∷ 0 ∷ 3 ∷ [] };
-
-    #[inline(always)]
-    fn pick(lanes: u32x4) -> u32x4 {
-        lanes.swizzle([0, 0, 0, 3])
-    }
-}
-
-/// The set of both places from that of the first.
-struct FromFirst;
-
-impl Pick for FromFirst {
-    ghost positions = { 0 ∷ 1 ∷ 2 ∷ 1 ∷ [] };
-
-    #[inline(always)]
-    fn pick(lanes: u32x4) -> u32x4 {
-        lanes.swizzle([0, 1, 2, 1])
-    }
-}
-
-/// The set of both places from that of the second.
-struct FromSecond;
-
-impl Pick for FromSecond {
-    ghost positions = { 0 ∷ 1 ∷ 2 ∷ 2 ∷ [] };
-
-    #[inline(always)]
-    fn pick(lanes: u32x4) -> u32x4 {
-        lanes.swizzle([0, 1, 2, 2])
-    }
-}
-
-/// In each class the numbers at the positions of the lanes.
+/// Returns the numbers of the sets that the four steps lead to: from the second place to both, from none to the first
+/// and to the second, and from the first to both.
 #[inline(always)]
-fn picked<P: Pick>(classes: Classes<u32x4>) -> Classes<u32x4>
+fn at_ends(lanes: u32x4) -> u32x4
+    requires { AreLanes lanes }
+    ensures lanes { AreLanes result }
+    ensures each { (step : ℕ) → step < 4 → slice_index result step ≡ slice_index lanes (slice_index step_to step) }
+{
+    lanes.swizzle([3, 1, 2, 3])
+}
+
+/// Returns the numbers of the sets that the four steps come from.
+#[inline(always)]
+fn at_starts(lanes: u32x4) -> u32x4
+    requires { AreLanes lanes }
+    ensures lanes { AreLanes result }
+    ensures each { (step : ℕ) → step < 4 → slice_index result step ≡ slice_index lanes (slice_index step_from step) }
+{
+    lanes.swizzle([2, 0, 0, 1])
+}
+
+/// Returns, for each class, the numbers of the sets that the steps lead to.
+#[inline(always)]
+fn all_at_ends(classes: Classes<u32x4>) -> Classes<u32x4>
     requires { HasLanes classes }
     ensures lanes { HasLanes result }
-    ensures each { (class lane : ℕ) → lane < 4 → by_class slice_index result class lane
-        ≡ by_class slice_index classes class (slice_index P.positions lane) }
+    ensures each { (class step : ℕ) → step < 4 → by_class slice_index result class step
+        ≡ by_class slice_index classes class (slice_index step_to step) }
 {
     Classes {
-        first: P::pick(classes.first),
-        second: P::pick(classes.second),
-        third: P::pick(classes.third),
-        fourth: P::pick(classes.fourth),
+        first: at_ends(classes.first),
+        second: at_ends(classes.second),
     }
 }
 
-/// What each of the four steps costs by which the sets of two places are come to.
+/// Returns, for each class, the numbers of the sets that the steps come from.
 #[inline(always)]
-fn step_costs<C: Count>(weights: Classes<u32x4>, days: Classes<u32x4>) -> u32x4
-    requires classes { C.COUNT ≤ 4 }
-    requires vectors { HasLanes weights × HasLanes days }
-    requires rise { (class lane : ℕ) → class < C.COUNT → lane < 4
-        → by_class slice_index days class (slice_index step_from lane)
-        ≤ by_class slice_index days class (slice_index step_to lane) }
-    requires fits { (lane : ℕ) → lane < 4 → cost C.COUNT (by_class slice_index weights) (by_class slice_index days)
-        (slice_index step_to lane) (slice_index step_from lane) < 2 ^ 32 }
+fn all_at_starts(classes: Classes<u32x4>) -> Classes<u32x4>
+    requires { HasLanes classes }
+    ensures lanes { HasLanes result }
+    ensures each { (class step : ℕ) → step < 4 → by_class slice_index result class step
+        ≡ by_class slice_index classes class (slice_index step_from step) }
+{
+    Classes {
+        first: at_starts(classes.first),
+        second: at_starts(classes.second),
+    }
+}
+
+/// Returns what each of the four steps saves: the hold rate of its place on the days before it.
+#[inline(always)]
+fn step_savings(first: u64, second: u64, days: u32x4) -> u32x4
+    requires lanes { AreLanes days }
+    requires fits { (step : ℕ) → step < 4 → slice_index (first ∷ second ∷ []) (slice_index step_by step)
+        * slice_index days (slice_index step_from step) < 2 ^ 32 }
     ensures lanes { AreLanes result }
-    ensures each { (lane : ℕ) → lane < 4 → slice_index result lane
-        ≡ cost C.COUNT (by_class slice_index weights) (by_class slice_index days) (slice_index step_to lane)
-        (slice_index step_from lane) }
+    ensures each { (step : ℕ) → step < 4 → slice_index result step
+        ≡ slice_index (first ∷ second ∷ []) (slice_index step_by step) * slice_index days (slice_index step_from step) }
 {
-    let (there, from) = (picked::<StepTo>(days), picked::<StepFrom>(days));
-    cost_of::<C>(picked::<StepTo>(weights), there, from)
+    let (first, second) = (low_bits(first), low_bits(second));
+    let holds = u32x4::from_array([first, first, second, second]);
+    holds.strict_mul(at_starts(days))
 }
 
-/// Lowers each lane from the one at its position.
+/// Returns what each of the four steps owes.
 #[inline(always)]
-fn lower_from<P: Pick, G: Guard>(numbers: u32x4, costs: u32x4, blocked: u32x4) -> u32x4
-    requires { CanStep numbers costs blocked P.positions }
-    ensures { Steps G.GUARDS numbers costs blocked P.positions result }
+fn step_debts<C: Count>(extras: Classes<u32x4>, days: Classes<u32x4>) -> u32x4
+    requires classes { C.COUNT ≤ 2 }
+    requires vectors { HasLanes extras × HasLanes days }
+    requires rise { (class step : ℕ) → class < C.COUNT → step < 4
+        → by_class slice_index days class (slice_index step_from step)
+        ≤ by_class slice_index days class (slice_index step_to step) }
+    requires fits { (step : ℕ) → step < 4 → owes C.COUNT (by_class slice_index extras) (by_class slice_index days)
+        (slice_index step_to step) (slice_index step_from step) < 2 ^ 32 }
+    ensures lanes { AreLanes result }
+    ensures each { (step : ℕ) → step < 4 → slice_index result step
+        ≡ owes C.COUNT (by_class slice_index extras) (by_class slice_index days) (slice_index step_to step)
+        (slice_index step_from step) }
 {
-    let (others, also) = (P::pick(numbers), P::pick(blocked));
-    lower::<G>(numbers, others, costs, blocked, also)
+    let (there, from) = (all_at_ends(days), all_at_starts(days));
+    owed_from::<C>(all_at_ends(extras), there, from)
 }
 
-/// Lowers the numbers of the four sets of two places to the least that it takes to come to each.
+/// Returns the numbers of the steps by the first place at the sets with it, and 0 at the others.
 #[inline(always)]
-pub(crate) fn pass_two<C: Count, G: Guard>(
+fn of_first(steps: u32x4) -> u32x4
+    requires { AreLanes steps }
+    ensures { result ≡ 0 ∷ slice_index steps 1 ∷ 0 ∷ slice_index steps 0 ∷ [] }
+{
+    steps.shuffle(u32x4::splat(0), [4, 1, 4, 0])
+}
+
+/// Returns the numbers of the steps by the second place at the sets with it, and 0 at the others.
+#[inline(always)]
+fn of_second(steps: u32x4) -> u32x4
+    requires { AreLanes steps }
+    ensures { result ≡ 0 ∷ 0 ∷ slice_index steps 2 ∷ slice_index steps 3 ∷ [] }
+{
+    steps.shuffle(u32x4::splat(0), [4, 4, 2, 3])
+}
+
+/// Returns, at each set, the number of the set without the first place.
+#[inline(always)]
+fn lacking_first(numbers: u32x4) -> u32x4
+    requires { AreLanes numbers }
+    ensures { result ≡ slice_index numbers 0 ∷ slice_index numbers 0 ∷ slice_index numbers 2 ∷ slice_index numbers 2 ∷ [] }
+{
+    numbers.swizzle([0, 0, 2, 2])
+}
+
+/// Returns, at each set, the number of the set without the second place.
+#[inline(always)]
+fn lacking_second(numbers: u32x4) -> u32x4
+    requires { AreLanes numbers }
+    ensures { result ≡ slice_index numbers 0 ∷ slice_index numbers 1 ∷ slice_index numbers 0 ∷ slice_index numbers 1 ∷ [] }
+{
+    numbers.swizzle([0, 1, 0, 1])
+}
+
+/// Raises the sets with the first place from those without it.
+#[inline(always)]
+fn raise_by_first(numbers: u32x4, saved: u32x4, owed: u32x4) -> u32x4
+    requires { CanStep numbers saved owed }
+    ensures { RaisedByFirst numbers saved owed result }
+{
+    raise(
+        numbers,
+        lacking_first(numbers),
+        of_first(saved),
+        of_first(owed),
+    )
+}
+
+/// Raises the sets with the second place from those without it.
+#[inline(always)]
+fn raise_by_second(numbers: u32x4, saved: u32x4, owed: u32x4) -> u32x4
+    requires { CanStep numbers saved owed }
+    ensures { RaisedBySecond numbers saved owed result }
+{
+    raise(
+        numbers,
+        lacking_second(numbers),
+        of_second(saved),
+        of_second(owed),
+    )
+}
+
+/// Raises the numbers of the four sets of two places to the most that is saved on a way to each.
+#[inline(always)]
+pub(crate) fn pass_two<C: Count>(
     numbers: u32x4,
-    weights: Classes<u32x4>,
-    days: Classes<u32x4>,
-    blocked: u32x4,
+    holds: &[u64; 10],
+    days: u32x4,
+    extras: Classes<u32x4>,
+    owed: Classes<u32x4>,
 ) -> u32x4
-    requires classes { C.COUNT ≤ 4 }
-    requires lanes { AreLanes numbers × AreLanes blocked }
-    requires vectors { HasLanes weights × HasLanes days }
-    requires room { HasRoom 2 C.COUNT (2 ^ 32 - 1) (by_class slice_index weights) (by_class slice_index days)
-        (slice_index numbers) }
+    requires classes { C.COUNT ≤ 2 }
+    requires lanes { AreLanes numbers × AreLanes days }
+    requires vectors { HasLanes extras × HasLanes owed }
+    requires room { SavingRoom 2 C.COUNT (2 ^ 32 - 1) holds.now (slice_index days) (by_class slice_index extras)
+        (by_class slice_index owed) (slice_index numbers) }
     ensures lanes { AreLanes result }
-    ensures passes { Passes 2 (cost C.COUNT (by_class slice_index weights) (by_class slice_index days))
-        (λ set. counted G.GUARDS (slice_index blocked set)) (slice_index numbers) (slice_index result) }
+    ensures saves { Saves 2 (slice_index holds.now) (slice_index days) (owes C.COUNT (by_class slice_index extras)
+        (by_class slice_index owed)) (slice_index numbers) (slice_index result) }
 {
-    let costs = step_costs::<C>(weights, days);
-    let one = lower_from::<FromNone, G>(numbers, costs, blocked);
-    let after = lower_from::<FromFirst, G>(one, costs, blocked);
-    lower_from::<FromSecond, G>(after, LastStep::pick(costs), blocked)
+    let saved = step_savings(holds[0], holds[1], days);
+    let debts = step_debts::<C>(extras, owed);
+    let one = raise_by_first(numbers, saved, debts);
+    let after = raise_by_second(one, saved, debts);
+    raise_by_first(after, saved, debts)
 }

@@ -1,12 +1,12 @@
-//! Laws of least numbers and of sums over subsets. Each function does nothing: its contract is the law.
-ghost use Rattle.strip_sets.specs.Laws.{MoreInEachAbove, OneLeast};
+//! Laws of passes and subset sums: functions that do nothing when they run, with theorems as contracts.
+ghost use Rattle.strip_sets.specs.Laws.{MoreInEachAbove, OneMost};
 
 /// The contract of a pass determines its result.
 pub fn a_pass_has_one_result()
-    ensures { OneLeast }
+    ensures { OneMost }
 {}
 
-/// What is added at one set is in the sum of each set above it.
+/// A number that is added at a set is added to the sum of each of its supersets.
 pub fn sums_below_have_what_is_added()
     ensures { MoreInEachAbove }
 {}

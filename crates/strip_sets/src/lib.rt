@@ -1,4 +1,6 @@
-//! A number for each set of a few places, and what is computed for all sets at once.
+//! Tables with a number for each subset of up to ten places, and vector operations on whole tables: subset sums, and
+//! the pass of a dynamic program over all subsets, four subsets at a time. A law (`laws`) is a function that does
+//! nothing when it runs: its contract is a theorem that a caller obtains by calling it.
 #![tactic(auto)]
 
 mod block;
@@ -9,7 +11,7 @@ mod terms;
 
 pub use block::Block;
 pub use by_set::{BySet, Halves};
-pub use terms::{Classes, Count, Four, Free, Guard, Guarded, One, Two};
+pub use terms::{Classes, Count, NoClass, One, Two};
 
-/// Numbers for the sets of four places that fit in 32 bits.
+/// A table of 32-bit numbers for the sets of four places.
 pub type FourPlaces = Halves<Halves<[u32; 4]>>;

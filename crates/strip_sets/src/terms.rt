@@ -1,49 +1,41 @@
-// What is told for each of a few classes.
-ghost use Rattle.std.specs.Prelude.{◌≡◌, ℕ, Bool, true, false};
+// Values for each of a few classes of scenes.
+ghost use Rattle.std.specs.Prelude.{◌≡◌, ℕ};
 
-/// One thing for each of at most four classes; those past their count aren't read.
+/// One value for each of at most two classes. Values beyond the number of classes are not read.
 #[derive(Debug, Clone, Copy)]
 pub struct Classes<R> {
     pub first: R,
     pub second: R,
-    pub third: R,
-    pub fourth: R,
 }
 
 impl<R: Copy> Classes<R> {
-    /// The same for each class.
+    /// Makes the same value for each class.
     #[inline(always)]
     pub fn same(each: R) -> Self
-        ensures { result ≡ record { first = each; second = each; third = each; fourth = each } }
+        ensures { result ≡ record { first = each; second = each } }
     {
         Classes {
             first: each,
             second: each,
-            third: each,
-            fourth: each,
-        }
-    }
-
-    /// Those of two classes.
-    #[inline(always)]
-    pub fn two(first: R, second: R) -> Self
-        ensures { result ≡ record { first = first; second = second; third = second; fourth = second } }
-    {
-        Classes {
-            first,
-            second,
-            third: second,
-            fourth: second,
         }
     }
 }
 
-/// How many classes there are.
+/// A number of classes.
 pub trait Count {
     ghost COUNT: { ℕ };
 
     /// The number of classes.
     const COUNT: usize;
+}
+
+/// No class.
+pub struct NoClass;
+
+impl Count for NoClass {
+    ghost COUNT = { 0 };
+
+    const COUNT: usize = 0;
 }
 
 /// One class.
@@ -62,39 +54,4 @@ impl Count for Two {
     ghost COUNT = { 2 };
 
     const COUNT: usize = 2;
-}
-
-/// Four classes.
-pub struct Four;
-
-impl Count for Four {
-    ghost COUNT = { 4 };
-
-    const COUNT: usize = 4;
-}
-
-/// Whether anything is blocked.
-pub trait Guard {
-    ghost GUARDS: { Bool };
-
-    /// Whether it counts what is blocked.
-    const GUARDS: bool;
-}
-
-/// A step leads only to a set for which the same is blocked.
-pub struct Guarded;
-
-impl Guard for Guarded {
-    ghost GUARDS = { true };
-
-    const GUARDS: bool = true;
-}
-
-/// Nothing is blocked, and what is told of it isn't read.
-pub struct Free;
-
-impl Guard for Free {
-    ghost GUARDS = { false };
-
-    const GUARDS: bool = false;
 }

@@ -1,168 +1,230 @@
-use Rattle.std.proofs.Common.{◌≡◌, ℕ, ◌+◌, ◌*◌, ◌^◌, ◌<◌, ◌≤◌, [], ◌∷◌, min, refl, slice_index, subst, sym, ap, ◌∙◌, arith}
-use Rattle.std.proofs.Math.Nat.{min-le_left, pow-le-pow_right}
-use Rattle.strip_mask.specs.Set.{size, with}
+use Rattle.std.proofs.Common.{◌≡◌, ℕ, ◌+◌, ◌*◌, ◌-◌, ◌^◌, ◌<◌, ◌≤◌, true, max, min, List, [], ◌∷◌, refl, slice_index, ap, ◌∙◌, arith}
+use Rattle.std.proofs.Math.Nat.{mul-le-mul_left, pow-le-pow_right}
+use Rattle.strip_mask.specs.Set.{has, size, sum_over, with, without}
 use Rattle.strip_mask.proofs.ByMembers.{has-with_same}
 use Rattle.strip_group.specs.Group.{GroupData}
 use Rattle.strip_sets.specs.Numbers.{by_class}
-use Rattle.strip_sets.specs.Pass.{HasRoom, Passes, cost}
+use Rattle.strip_sets.specs.Saving.{Saves, SavingRoom, owes}
+use Rattle.strip_arrivals.proofs.Among.{for_two}
 use Rattle.strip_arrivals.proofs.Begun.{begun_both_here}
+use Rattle.strip_arrivals.proofs.Chosen.{sum_two}
 use Rattle.strip_arrivals.proofs.Classes.{either_goes, kinds_two}
-use Rattle.strip_arrivals.proofs.Masks.{has_one, two}
-use Rattle.strip_arrivals.proofs.Room.{hold_low, holds_low, rates_low}
-use Rattle.strip_arrivals.proofs.Staged.{four_of, free_row, two_days, two_paid, two_prices, two_room}
+use Rattle.strip_arrivals.proofs.Masks.{has_one}
+use Rattle.strip_arrivals.proofs.Room.{both_paid_low, paid_low}
+use Rattle.strip_arrivals.proofs.Saved.{lowered, within}
+use Rattle.strip_arrivals.proofs.Staged.{all_open_few, all_days_rise, all_few, extra_low, free_rise, free_row, hold_all_low, neither_low, own_few, own_rise, rates_all_low, two_costs, two_days, two_days_of, two_kinds, two_of, two_prices, two_weights}
 use Rattle.strip_arrivals.proofs.Stages.{stage_both}
 use Rattle.strip_arrivals.proofs.table.ArrivalsTable.both_here.Goals as goal
 
-turned : (sum first second : ℕ) → sum ≡ first + second → sum ≡ second + first
-turned sum first second is = omega (arith, is)
+-- the row begins with no more than can be paid
+begins_low : (never rate hold free own other both own_all other_all all one_saved other_saved owed : ℕ) → own_all ≡ free + own → other_all ≡ free + other
+    → all ≡ free + own + other + both → one_saved ≤ never + rate * own_all + 0 → other_saved ≤ never + rate * other_all + 0
+    → max one_saved (other_saved + hold * other - owed) ≤ never + rate * all + hold * other
+begins_low never rate hold free own other both own_all other_all all one_saved other_saved owed is_own is_other is_all low low_too =
+    let one : rate * own_all ≡ rate * free + rate * own = ap (λ (days : ℕ). rate * days) is_own ∙ spread rate free own in
+    let others : rate * other_all ≡ rate * free + rate * other = ap (λ (days : ℕ). rate * days) is_other ∙ spread rate free other in
+    let whole : rate * all ≡ rate * free + rate * own + rate * other + rate * both = ap (λ (days : ℕ). rate * days) is_all ∙ spread_all rate free own other both in
+    omega (arith, one, others, whole, low, low_too)
+  where
+    spread : (rate free own : ℕ) → rate * (free + own) ≡ rate * free + rate * own
+    spread rate free own = omega arith
 
--- what both goings have is taken out of the least
-spread : (first second one other both : ℕ) → min (first + one) (second + other) + both ≡ min (first + (one + both)) (second + (other + both))
-spread first second one other both = omega arith
+    spread_all : (rate free own other both : ℕ) → rate * (free + own + other + both) ≡ rate * free + rate * own + rate * other + rate * both
+    spread_all rate free own other both = omega arith
 
-pub more_than-requires : goal.more_than-requires
-more_than-requires g c = λ places lt.
-    let low = hold_low g.S.BySet.value g.S.BySet.places g.S.BySet.most c.args.self.now c.args.party.now c.requires.party c.args.one.now.actor c.requires.one.comes in
-    let rates = rates_low g.S.BySet.value g.S.BySet.places g.S.BySet.most c.args.self.now c.args.party.now c.requires.party places lt in
-    omega (arith, low, c.requires.one.hold, rates, c.requires.party.low, c.requires.party.room)
+-- and told as what is paid, with the lesser of what is paid when one of the two goes
+begins_as : (never rate hold extra free own other both own_all other_all all one_saved other_saved : ℕ) → own_all ≡ free + own → other_all ≡ free + other
+    → all ≡ free + own + other + both → one_saved ≤ never + rate * own_all + 0 → other_saved ≤ never + rate * other_all + 0 → extra * own ≤ other_saved
+    → never + rate * all + hold * other - max one_saved (other_saved + hold * other - extra * own)
+    ≡ min ((never + rate * other_all + 0 - other_saved) + ((rate + extra) * own + rate * both)) ((never + rate * own_all + 0 - one_saved) + ((rate + hold) * other + rate * both))
+begins_as never rate hold extra free own other both own_all other_all all one_saved other_saved is_own is_other is_all low low_too owed =
+    let one : rate * own_all ≡ rate * free + rate * own = ap (λ (days : ℕ). rate * days) is_own ∙ spread rate free own in
+    let others : rate * other_all ≡ rate * free + rate * other = ap (λ (days : ℕ). rate * days) is_other ∙ spread rate free other in
+    let whole : rate * all ≡ rate * free + rate * own + rate * other + rate * both = ap (λ (days : ℕ). rate * days) is_all ∙ spread_all rate free own other both in
+    let first : (rate + extra) * own ≡ rate * own + extra * own = spread_rates rate extra own in
+    let second : (rate + hold) * other ≡ rate * other + hold * other = spread_rates rate hold other in
+    omega (arith, one, others, whole, first, second, low, low_too, owed)
+  where
+    spread : (rate free own : ℕ) → rate * (free + own) ≡ rate * free + rate * own
+    spread rate free own = omega arith
 
-pub more_than-requires-2 : goal.more_than-requires-2
-more_than-requires-2 g c = λ places lt.
-    let low = holds_low g.S.BySet.value g.S.BySet.places g.S.BySet.most c.args.self.now c.args.party.now c.requires.party c.args.one.now.actor c.args.other.now.actor
-    c.requires.one.comes c.requires.other.comes c.requires.pair.apart in
-    omega (arith, low, c.requires.one.hold, c.requires.other.hold, c.requires.other.waits_low places lt, c.requires.party.low, c.requires.party.room)
+    spread_rates : (rate extra days : ℕ) → (rate + extra) * days ≡ rate * days + extra * days
+    spread_rates rate extra days = omega arith
 
-pub sum_times-requires : goal.sum_times-requires
-sum_times-requires g c = λ places lt.
+    spread_all : (rate free own other both : ℕ) → rate * (free + own + other + both) ≡ rate * free + rate * own + rate * other + rate * both
+    spread_all rate free own other both = omega arith
+
+pub more_at_most-requires : goal.more_at_most-requires
+more_at_most-requires g c = λ places lt.
     let value = g.S.BySet.value in
     let count : ℕ = g.S.BySet.places in
     let most : ℕ = g.S.BySet.most in
-    let is_neither : (places : ℕ) → places < 2 ^ count → value c.least.new.self places ≡ min (c.args.one.now.hold + value c.args.other.now.waits places) (value c.args.both.now.together places)
-    = λ places lt. c.least.ensures places lt ∙ ap (λ (n : ℕ). min n (value c.args.both.now.together places))
-    (turned (value c.more_than-2.new.self places) (value c.args.other.now.waits places) c.args.one.now.hold (c.more_than-2.ensures places lt)) in
-    let is_with_other : (places : ℕ) → places < 2 ^ count → value c.more_than.new.self places ≡ c.args.one.now.hold + value c.args.party.now.crew.rates places
-    = λ places lt. turned (value c.more_than.new.self places) (value c.args.party.now.crew.rates places) c.args.one.now.hold (c.more_than.ensures places lt) in
-    let paid = two_paid value count most c.args.self.now c.args.party.now c.requires.party c.args.one.now c.args.other.now c.args.both.now c.requires.one c.requires.other c.requires.pair c.requires.both c.least.new.self c.more_than.new.self is_neither is_with_other places lt in
-    omega (arith, c.requires.other_stays.low places lt, paid.0, c.requires.party.room)
+    let film : GroupData = c.args.self.now in
+    let extra = extra_low value count most film c.args.party.now c.requires.party c.args.other.now c.requires.other places lt in
+    let hold = hold_all_low value count most film c.args.party.now c.requires.party c.args.one.now c.requires.one in
+    let hold_too = hold_all_low value count most film c.args.party.now c.requires.party c.args.other.now c.requires.other in
+    omega (arith, extra, hold, hold_too, c.requires.party.low, c.requires.party.room)
 
-pub sum_times-requires-2 : goal.sum_times-requires-2
-sum_times-requires-2 g c = λ places lt.
+pub greater_with-requires-clause-fits : goal.greater_with-requires-clause-fits
+greater_with-requires-clause-fits g c = λ places lt.
     let value = g.S.BySet.value in
     let count : ℕ = g.S.BySet.places in
     let most : ℕ = g.S.BySet.most in
-    let is_neither : (places : ℕ) → places < 2 ^ count → value c.least.new.self places ≡ min (c.args.one.now.hold + value c.args.other.now.waits places) (value c.args.both.now.together places)
-    = λ places lt. c.least.ensures places lt ∙ ap (λ (n : ℕ). min n (value c.args.both.now.together places))
-    (turned (value c.more_than-2.new.self places) (value c.args.other.now.waits places) c.args.one.now.hold (c.more_than-2.ensures places lt)) in
-    let is_with_other : (places : ℕ) → places < 2 ^ count → value c.more_than.new.self places ≡ c.args.one.now.hold + value c.args.party.now.crew.rates places
-    = λ places lt. turned (value c.more_than.new.self places) (value c.args.party.now.crew.rates places) c.args.one.now.hold (c.more_than.ensures places lt) in
-    let paid = two_paid value count most c.args.self.now c.args.party.now c.requires.party c.args.one.now c.args.other.now c.args.both.now c.requires.one c.requires.other c.requires.pair c.requires.both c.least.new.self c.more_than.new.self is_neither is_with_other places lt in
-    omega (arith, c.requires.one_stays.low places lt, paid.1, c.requires.party.room)
+    let film : GroupData = c.args.self.now in
+    let party = c.args.party.now in
+    let known = c.requires.party in
+    let hold = hold_all_low value count most film party known c.args.one.now c.requires.one in
+    let held = paid_low value count most film party known c.args.one.now.hold (value c.args.other.now.days places) hold
+    (own_few value count most film party known c.args.other.now c.requires.other places lt) in
+    let all = paid_low value count most film party known (sum_over party.crew.holds places) (value c.args.other.now.all places)
+    (rates_all_low value count most film party known places lt) (all_few value count most film party known c.args.other.now c.requires.other places lt) in
+    omega (arith, held, all, c.requires.other_stays.high places lt, known.room)
 
-pub sum_times-requires-3 : goal.sum_times-requires-3
-sum_times-requires-3 g c = λ places lt.
+pub greater_with-requires-clause-covered : goal.greater_with-requires-clause-covered
+greater_with-requires-clause-covered g c = λ places lt.
     let value = g.S.BySet.value in
     let count : ℕ = g.S.BySet.places in
     let most : ℕ = g.S.BySet.most in
-    let is_neither : (places : ℕ) → places < 2 ^ count → value c.least.new.self places ≡ min (c.args.one.now.hold + value c.args.other.now.waits places) (value c.args.both.now.together places)
-    = λ places lt. c.least.ensures places lt ∙ ap (λ (n : ℕ). min n (value c.args.both.now.together places))
-    (turned (value c.more_than-2.new.self places) (value c.args.other.now.waits places) c.args.one.now.hold (c.more_than-2.ensures places lt)) in
-    let is_with_other : (places : ℕ) → places < 2 ^ count → value c.more_than.new.self places ≡ c.args.one.now.hold + value c.args.party.now.crew.rates places
-    = λ places lt. turned (value c.more_than.new.self places) (value c.args.party.now.crew.rates places) c.args.one.now.hold (c.more_than.ensures places lt) in
-    let paid = two_paid value count most c.args.self.now c.args.party.now c.requires.party c.args.one.now c.args.other.now c.args.both.now c.requires.one c.requires.other c.requires.pair c.requires.both c.least.new.self c.more_than.new.self is_neither is_with_other places lt in
-    omega (
-      arith,
-      c.least-2.ensures places lt,
-      min-le_left (value c.sum_times.new.self places) (value c.sum_times-2.new.self places),
-      c.sum_times.ensures places lt,
-      c.requires.other_stays.low places lt,
-      paid.0,
-      c.requires.party.room,
-    )
+    let film : GroupData = c.args.self.now in
+    let party = c.args.party.now in
+    let known = c.requires.party in
+    let extra = extra_low value count most film party known c.args.other.now c.requires.other places lt in
+    let hold = hold_all_low value count most film party known c.args.other.now c.requires.other in
+    let owed = paid_low value count most film party known (value c.args.other.now.extra places) (value c.args.one.now.days places) (omega (arith, extra, hold))
+    (own_few value count most film party known c.args.one.now c.requires.one places lt) in
+    omega (arith, owed, c.requires.other_stays.low places lt)
 
 pub pass-requires-clause-room : goal.pass-requires-clause-room
 pass-requires-clause-room g c =
     let value = g.S.BySet.value in
     let count : ℕ = g.S.BySet.places in
     let most : ℕ = g.S.BySet.most in
-    let is_neither : (places : ℕ) → places < 2 ^ count → value c.least.new.self places ≡ min (c.args.one.now.hold + value c.args.other.now.waits places) (value c.args.both.now.together places)
-    = λ places lt. c.least.ensures places lt ∙ ap (λ (n : ℕ). min n (value c.args.both.now.together places))
-    (turned (value c.more_than-2.new.self places) (value c.args.other.now.waits places) c.args.one.now.hold (c.more_than-2.ensures places lt)) in
-    let is_with_other : (places : ℕ) → places < 2 ^ count → value c.more_than.new.self places ≡ c.args.one.now.hold + value c.args.party.now.crew.rates places
-    = λ places lt. turned (value c.more_than.new.self places) (value c.args.party.now.crew.rates places) c.args.one.now.hold (c.more_than.ensures places lt) in
-    let first : ℕ → ℕ = value c.sum_times-3.new.self in
-    let low : (places : ℕ) → places < 2 ^ count → first places ≤ 3 * c.args.party.now.never
-    = λ places lt. (let paid = two_paid value count most c.args.self.now c.args.party.now c.requires.party c.args.one.now c.args.other.now c.args.both.now c.requires.one c.requires.other c.requires.pair c.requires.both c.least.new.self c.more_than.new.self is_neither is_with_other places lt in
-    omega (
-      arith,
-      c.sum_times-3.ensures places lt,
-      c.least-2.ensures places lt,
-      min-le_left (value c.sum_times.new.self places) (value c.sum_times-2.new.self places),
-      c.sum_times.ensures places lt,
-      c.requires.other_stays.low places lt,
-      paid.0,
-    )) in
-    subst (λ w. HasRoom count 4 most (by_class (λ s. value s.now) w) (by_class (λ s. value s.now) c.four-days.result) first) (sym c.four-weights.ensures)
-    (subst (λ w. HasRoom count 4 most (by_class value (four_of c.least.new.self c.args.other.now.waits c.more_than.new.self c.args.party.now.crew.rates)) (by_class (λ s. value s.now) w) first) (sym c.four-days.ensures)
-    (two_room value count most c.args.self.now c.args.party.now c.requires.party c.args.one.now c.args.other.now c.args.both.now c.requires.one c.requires.other c.requires.pair c.requires.both c.least.new.self c.more_than.new.self is_neither is_with_other first low))
+    let film : GroupData = c.args.self.now in
+    let party = c.args.party.now in
+    let known = c.requires.party in
+    let one = c.args.one.now in
+    let other = c.args.other.now in
+    let both = c.args.both.now in
+    let never : ℕ = party.never in
+    let first : ℕ → ℕ = value c.greater_with.new.self in
+    let neither = c.more_at_most.new.self in
+    let is_neither = c.more_at_most.ensures in
+    let made : SavingRoom count 2 most party.crew.holds (value both.all) (by_class value (two_of neither other.extra)) (by_class value (two_of party.days one.days)) first
+    = record {
+      rise = all_days_rise value count most film party known one other both c.requires.one c.requires.other c.requires.pair c.requires.both neither is_neither;
+      rise_owed = λ class places place some lt there. for_two (λ k. by_class value (two_of party.days one.days) k (without places place) ≤ by_class value (two_of party.days one.days) k places)
+          (free_rise value count most film party known places place lt there) (own_rise value count most film party known one c.requires.one places place lt there) class some;
+      base = 2 * never;
+      begun = λ places lt. (
+          let low = begins_low never (sum_over party.crew.holds places) one.hold (value party.days places) (value one.days places) (value other.days places) (c.requires.both.days places)
+          (value one.all places) (value other.all places) (value both.all places) (value c.args.one_stays.now places) (value c.args.other_stays.now places)
+          (value other.extra places * value one.days places) (c.requires.one.all places lt) (c.requires.other.all places lt) (c.requires.both.all places lt)
+          (c.requires.one_stays.high places lt) (c.requires.other_stays.high places lt) in
+          let hold = hold_all_low value count most film party known one c.requires.one in
+          let held = paid_low value count most film party known one.hold (value other.days places) hold (own_few value count most film party known other c.requires.other places lt) in
+          omega (arith, low, held, c.greater_with.ensures places lt, c.copy_from.ensures places lt));
+      fits = λ places lt. (let low = paid_low value count most film party known (sum_over party.crew.holds places) (value both.all places)
+          (rates_all_low value count most film party known places lt)
+          (all_open_few value count most film party known one other both c.requires.one c.requires.other c.requires.pair c.requires.both places lt) in
+          omega (arith, low, known.room));
+      floor = never;
+      covered = λ places lt. (
+          let extra = extra_low value count most film party known other c.requires.other places lt in
+          let hold = hold_all_low value count most film party known other c.requires.other in
+          let all = all_few value count most film party known one c.requires.one places lt in
+          let low = both_paid_low value count most film party known (value neither places) (value party.days places) (value other.extra places) (value one.days places)
+          (neither_low value count most film party known one other both c.requires.one c.requires.other c.requires.pair c.requires.both neither is_neither places lt)
+          (omega (arith, extra, hold)) (omega (arith, all, c.requires.one.all places lt)) in
+          let sum = sum_two (λ class. by_class value (two_of neither other.extra) class places * by_class value (two_of party.days one.days) class places) in
+          omega (arith, low, sum));
+      low = λ places lt. omega (arith, c.greater_with.ensures places lt, c.copy_from.ensures places lt, c.requires.one_stays.low places lt);
+    } in
+    made
 
 pub returns : goal.returns
 returns g c =
     let value = g.S.BySet.value in
     let count : ℕ = g.S.BySet.places in
     let most : ℕ = g.S.BySet.most in
-    let is_neither : (places : ℕ) → places < 2 ^ count → value c.least.new.self places ≡ min (c.args.one.now.hold + value c.args.other.now.waits places) (value c.args.both.now.together places)
-    = λ places lt. c.least.ensures places lt ∙ ap (λ (n : ℕ). min n (value c.args.both.now.together places))
-    (turned (value c.more_than-2.new.self places) (value c.args.other.now.waits places) c.args.one.now.hold (c.more_than-2.ensures places lt)) in
-    let is_with_other : (places : ℕ) → places < 2 ^ count → value c.more_than.new.self places ≡ c.args.one.now.hold + value c.args.party.now.crew.rates places
-    = λ places lt. turned (value c.more_than.new.self places) (value c.args.party.now.crew.rates places) c.args.one.now.hold (c.more_than.ensures places lt) in
-    let known = c.requires.party in
     let film : GroupData = c.args.self.now in
-    let set : ℕ = c.args.party.now.crew.set.0 in
-    let group : ℕ = c.args.party.now.crew.group.0 in
-    let newcomers : ℕ = c.args.party.now.newcomers.0 in
-    let never : ℕ = c.args.party.now.never in
-    let one : ℕ = c.args.one.now.actor in
-    let other : ℕ = c.args.other.now.actor in
-    let rates : ℕ → ℕ = value c.args.party.now.crew.rates in
-    let waits : ℕ → ℕ = value c.args.other.now.waits in
-    let with_other : ℕ → ℕ = value c.more_than.new.self in
-    let stage = stage_both newcomers one other c.requires.pair in
-    let prices = two_prices value count most c.args.self.now c.args.party.now c.requires.party c.args.one.now c.args.other.now c.args.both.now c.requires.one c.requires.other c.requires.pair c.requires.both c.least.new.self c.more_than.new.self is_neither is_with_other in
-    let days = two_days value count most c.args.self.now c.args.party.now c.requires.party c.args.one.now c.args.other.now c.args.both.now c.requires.one c.requires.other c.requires.pair c.requires.both c.least.new.self c.more_than.new.self is_neither is_with_other in
-    let weights = by_class value (four_of c.least.new.self c.args.other.now.waits c.more_than.new.self c.args.party.now.crew.rates) in
-    let all_days = by_class value (four_of c.args.party.now.days c.args.one.now.days c.args.other.now.days c.args.both.now.days) in
-    let first : ℕ → ℕ = value c.sum_times-3.new.self in
+    let party = c.args.party.now in
+    let known = c.requires.party in
+    let one = c.args.one.now in
+    let other = c.args.other.now in
+    let both = c.args.both.now in
+    let told = c.requires.one in
+    let told_too = c.requires.other in
+    let pair = c.requires.pair in
+    let of_both = c.requires.both in
+    let set : ℕ = party.crew.set.0 in
+    let group : ℕ = party.crew.group.0 in
+    let newcomers : ℕ = party.newcomers.0 in
+    let never : ℕ = party.never in
+    let holds : List ℕ = party.crew.holds in
+    let days : ℕ → ℕ = value both.all in
+    let more : ℕ → ℕ = λ places. one.hold * value other.days places in
+    let first : ℕ → ℕ = value c.greater_with.new.self in
+    let saved : ℕ → ℕ = value c.pass.new.self in
+    let neither = c.more_at_most.new.self in
+    let is_neither = c.more_at_most.ensures in
+    let stage = stage_both newcomers one.actor other.actor pair in
+    let owed : ℕ → ℕ → ℕ = owes 2 (by_class value (two_of neither other.extra)) (by_class value (two_of party.days one.days)) in
+    let saves : Saves count (slice_index holds) days owed first saved = c.pass.ensures in
+    let owed_is : (places before : ℕ) → owed places before ≡ value neither places * (value party.days places - value party.days before)
+    + value other.extra places * (value one.days places - value one.days before)
+    = λ places before. sum_two (λ class. by_class value (two_of neither other.extra) class places
+    * (by_class value (two_of party.days one.days) class places - by_class value (two_of party.days one.days) class before)) in
+    let rise = all_days_rise value count most film party known one other both told told_too pair of_both neither is_neither in
+    let rise_more : (places place : ℕ) → places < 2 ^ count → has places place ≡ true → more (without places place) ≤ more places
+    = λ places place lt there. mul-le-mul_left one.hold (own_rise value count most film party known other told_too places place lt there) in
+    let row_is : (places : ℕ) → places < 2 ^ count
+    → first places ≡ max (value c.args.one_stays.now places) (value c.args.other_stays.now places + one.hold * value other.days places - value other.extra places * value one.days places)
+    = λ places lt. c.greater_with.ensures places lt
+    ∙ ap (λ (n : ℕ). max n (value c.args.other_stays.now places + one.hold * value other.days places - value other.extra places * value one.days places)) (c.copy_from.ensures places lt) in
+    let begun : (places : ℕ) → places < 2 ^ count → first places ≤ never + sum_over holds places * days places + more places
+    = λ places lt. (
+    let low = begins_low never (sum_over holds places) one.hold (value party.days places) (value one.days places) (value other.days places) (of_both.days places)
+    (value one.all places) (value other.all places) (days places) (value c.args.one_stays.now places) (value c.args.other_stays.now places)
+    (value other.extra places * value one.days places) (told.all places lt) (told_too.all places lt) (of_both.all places lt)
+    (c.requires.one_stays.high places lt) (c.requires.other_stays.high places lt) in
+    omega (arith, low, row_is places lt)) in
     let some : 0 < 2 = omega arith in
     let width : 2 ^ size group ≤ 2 ^ count = pow-le-pow_right some known.crew.fits in
     let wide : (places : ℕ) → places < 2 ^ size group → places < 2 ^ count = λ places lt. omega (arith, lt, width) in
-    let passes : Passes count (cost 4 weights all_days) (λ _. 0) first (value c.pass.new.self)
-    = subst (λ w. Passes count (cost 4 (by_class (λ s. value s.now) w) all_days) (λ _. 0) first (value c.pass.new.self)) c.four-weights.ensures
-    (subst (λ w. Passes count (cost 4 (by_class (λ s. value s.now) c.four-weights.result) (by_class (λ s. value s.now) w)) (λ _. 0) first (value c.pass.new.self)) c.four-days.ensures c.pass.ensures) in
-    let by_one : ℕ → ℕ = λ places. waits places * value c.args.one.now.days places in
-    let by_other : ℕ → ℕ = λ places. with_other places * value c.args.other.now.days places in
-    let by_both : ℕ → ℕ = λ places. rates places * value c.args.both.now.days places in
-    let row_is : (places : ℕ) → places < 2 ^ count
-    → first places ≡ min (value c.args.other_stays.now places + (by_one places + by_both places)) (value c.args.one_stays.now places + (by_other places + by_both places))
-    = λ places lt. c.sum_times-3.ensures places lt
-    ∙ (λ i. (c.least-2.ensures places lt
-    ∙ (λ j. min (c.sum_times.ensures places lt j) (c.sum_times-2.ensures places lt j))) i + by_both places)
-    ∙ spread (value c.args.other_stays.now places) (value c.args.one_stays.now places) (by_one places) (by_other places) (by_both places) in
-    free_row value count most film c.args.party.now known 0 (one ∷ other ∷ []) 0 stage 4 (slice_index (0 ∷ with 0 one ∷ with 0 other ∷ two one other ∷ [])) (kinds_two one other c.requires.pair.apart)
-    weights all_days prices days first (value c.pass.new.self) (3 * never)
-    (begun_both_here film set group newcomers never known.company one other (λ places. by_one places + by_both places) (λ places. by_other places + by_both places)
-    (value c.args.other_stays.now) (value c.args.one_stays.now) first c.requires.pair.apart c.requires.other_stays.least c.requires.one_stays.least
-    (λ places lt. either_goes film set group newcomers known.company count known.crew.fits one other one waits (value c.args.one.now.days) rates (value c.args.both.now.days) stage (has_one one other)
-    (prices 1 (omega arith)) c.requires.one.days (prices 3 (omega arith)) c.requires.both.days places lt)
-    (λ places lt. either_goes film set group newcomers known.company count known.crew.fits one other other with_other (value c.args.other.now.days) rates (value c.args.both.now.days) stage
-    (has-with_same (with 0 one) other) (prices 2 (omega arith)) c.requires.other.days (prices 3 (omega arith)) c.requires.both.days places lt)
-    (λ places lt. row_is places (wide places lt)))
-    (λ places lt.
-    let paid = two_paid value count most c.args.self.now c.args.party.now c.requires.party c.args.one.now c.args.other.now c.args.both.now c.requires.one c.requires.other c.requires.pair c.requires.both c.least.new.self c.more_than.new.self is_neither is_with_other places lt in
-    omega (
-      arith,
-      row_is places lt,
-      min-le_left (value c.args.other_stays.now places + (by_one places + by_both places)) (value c.args.one_stays.now places + (by_other places + by_both places)),
-      c.requires.other_stays.low places lt,
-      paid.0,
-    ))
-    refl passes
+    let rates : ℕ → ℕ = sum_over holds in
+    let waits : ℕ → ℕ = λ places. rates places + value other.extra places in
+    let with_other : ℕ → ℕ = λ places. rates places + one.hold in
+    let by_one : ℕ → ℕ = λ places. waits places * value one.days places + rates places * of_both.days places in
+    let by_other : ℕ → ℕ = λ places. with_other places * value other.days places + rates places * of_both.days places in
+    let prices = two_prices value count most film party known one other both told told_too pair of_both neither is_neither in
+    let class_days = two_days value count most film party known one other both told told_too pair of_both neither is_neither in
+    record {
+      least = free_row value count most film party known 0 (one.actor ∷ other.actor ∷ []) 0 stage 4
+          (two_kinds value count most film party known one other both told told_too pair of_both neither is_neither) (kinds_two one.actor other.actor pair.apart)
+          (two_weights value count most film party known one other both told told_too pair of_both neither is_neither)
+          (two_days_of value count most film party known one other both told told_too pair of_both neither is_neither) prices class_days
+          (λ places. never + sum_over holds places * days places + more places - first places) (λ places. never + sum_over holds places * days places + more places - saved places)
+          (begun_both_here film set group newcomers never known.company one.actor other.actor by_one by_other
+          (λ places. never + sum_over holds places * value other.all places + 0 - value c.args.other_stays.now places)
+          (λ places. never + sum_over holds places * value one.all places + 0 - value c.args.one_stays.now places)
+          (λ places. never + sum_over holds places * days places + more places - first places) pair.apart c.requires.other_stays.least c.requires.one_stays.least
+          (λ places lt. either_goes film set group newcomers known.company count known.crew.fits one.actor other.actor one.actor waits (value one.days) rates of_both.days stage
+          (has_one one.actor other.actor) (prices 1 (omega arith)) told.days (prices 3 (omega arith)) of_both.are_days places lt)
+          (λ places lt. either_goes film set group newcomers known.company count known.crew.fits one.actor other.actor other.actor with_other (value other.days) rates of_both.days stage
+          (has-with_same (with 0 one.actor) other.actor) (prices 2 (omega arith)) told_too.days (prices 3 (omega arith)) of_both.are_days places lt)
+          (λ places lt.
+          let few = wide places lt in
+          let extra = extra_low value count most film party known other told_too places few in
+          let hold = hold_all_low value count most film party known other told_too in
+          let owed_low = paid_low value count most film party known (value other.extra places) (value one.days places) (omega (arith, extra, hold)) (own_few value count most film party known one told places few) in
+          ap (λ (n : ℕ). never + sum_over holds places * days places + more places - n) (row_is places few)
+          ∙ begins_as never (rates places) one.hold (value other.extra places) (value party.days places) (value one.days places) (value other.days places) (of_both.days places)
+          (value one.all places) (value other.all places) (days places) (value c.args.one_stays.now places) (value c.args.other_stays.now places)
+          (told.all places few) (told_too.all places few) (of_both.all places few) (c.requires.one_stays.high places few) (c.requires.other_stays.high places few)
+          (omega (arith, owed_low, c.requires.other_stays.low places few))))
+          refl
+          (lowered count known.few holds never days more rise rise_more owed first saved saves begun _
+          (two_costs value count most film party known one other both told told_too pair of_both neither is_neither owed owed_is));
+      low = λ places lt. (let kept = saves.kept places lt in omega (arith, kept, row_is places lt, c.requires.one_stays.low places lt));
+      high = within count known.few holds never days more rise rise_more owed first saved saves begun;
+    }

@@ -1,13 +1,8 @@
-use Rattle.std.proofs.Common.{◌≡◌, ◌≢◌, ℕ, ◌<◌, ◌^◌, ◌≤◌, true, sym, ap, ◌∙◌, subst, inl, inr, arith}
+use Rattle.std.proofs.Common.{◌≡◌, ◌≢◌, ℕ, ◌≤◌, true, sym, ap, ◌∙◌, inl, inr, arith}
 use Rattle.std.proofs.lemmas.Bool.{cases_eq, false≢true}
 use Rattle.strip_mask.specs.Set.{IsSet, full, has, size, with, without}
 use Rattle.strip_mask.proofs.ByMembers.{IsSet-without, below_64, has-without_other, has-without_same, with-without}
 use Rattle.strip_mask.proofs.Sizes.{first_is, first_none, size-without}
-use Rattle.strip_group.specs.Group.{GroupData}
-use Rattle.strip_sets.proofs.Sets.{full_small}
-use Rattle.strip_arrivals.specs.Arrivals.{at_first}
-use Rattle.strip_arrivals.specs.Gross.{IsGross}
-use Rattle.strip_arrivals.proofs.AtOnce.{none_comes}
 use Rattle.strip_arrivals.proofs.table.ArrivalsTable.gross.Goals as goal
 
 -- a set of one has no two members
@@ -57,18 +52,6 @@ gross_with_two-requires-clause-pair g c =
       ];
     }
 
-pub at-requires-clause-known : goal.at-requires-clause-known
-at-requires-clause-known g c =
-    subst (λ (all : ℕ). all < 2 ^ g.S.BySet.places) (sym c.all.ensures) (full_small (size c.args.party.now.crew.group.0) g.S.BySet.places c.requires.party.crew.fits)
-
-pub returns-in-None : goal.returns-in-None
-returns-in-None g c =
-    let film : GroupData = c.args.self.now in
-    let set : ℕ = c.args.party.now.crew.set.0 in
-    let group : ℕ = c.args.party.now.crew.group.0 in
-    let newcomers : ℕ = c.args.party.now.newcomers.0 in
-    let row : ℕ → ℕ = g.S.BySet.value c.over.result in
-    let all : ℕ = full (size group) in
-    subst (λ (gross : ℕ). IsGross film set group (at_first newcomers) gross) (sym (c.at.ensures ∙ ap row c.all.ensures))
-    (none_comes film set group newcomers c.requires.party.company (row all) (first_none newcomers c.requires.party.company.small_newcomers (sym c.first.ensures ∙ c.in-None.is))
-    (c.over.ensures.least all (full_small (size group) (size group) (omega arith))))
+pub gross_alone-requires-clause-nobody : goal.gross_alone-requires-clause-nobody
+gross_alone-requires-clause-nobody g c =
+    first_none c.args.party.now.newcomers.0 c.requires.party.company.small_newcomers (sym c.first.ensures ∙ c.in-None.is)

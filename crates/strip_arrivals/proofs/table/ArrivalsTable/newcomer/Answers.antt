@@ -1,5 +1,4 @@
 use Rattle.std.proofs.Common.{◌≡◌, ◌<◌, ℕ, [], ◌∷◌, true, not, ap, arith, sym, subst, ◌∙◌, inl, inr}
-use Rattle.std.proofs.Math.Nat.{min-le_right}
 use Rattle.std.proofs.lemmas.Bool.{and_parts, cases_eq, false≢true}
 use Rattle.strip_mask.specs.Set.{has, meet, minus, with, without}
 use Rattle.strip_mask.proofs.ByMembers.{below_64, has-minus, has-without_other, has-without_same}
@@ -8,7 +7,7 @@ use Rattle.strip_group.specs.Group.{GroupData}
 use Rattle.strip_arrivals.specs.Arrivals.{is_without}
 use Rattle.strip_arrivals.specs.Company.{AreCounted, just}
 use Rattle.strip_arrivals.proofs.Masks.{alone_is, counted_alike, with_one_is, in_set}
-use Rattle.strip_arrivals.proofs.Room.{days_fit, hold_low, rates_low}
+use Rattle.strip_arrivals.proofs.Room.{days_fit, days_low, hold_low}
 use Rattle.strip_arrivals.proofs.table.ArrivalsTable.newcomer.Goals as goal
 
 pub scenes_with-requires : goal.scenes_with-requires
@@ -22,42 +21,37 @@ alone_in_set : (alone scenes others plays set scene : ℕ) → alone ≡ minus s
 alone_in_set alone scenes others plays set scene is_alone is there =
     in_set scenes plays set scene is (and_parts (has scenes scene) (not (has others scene)) (sym (has-minus scenes others scene) ∙ ap (λ (s : ℕ). has s scene) (sym is_alone) ∙ there)).0
 
-pub mates-waits-requires-clause-within : goal.mates-waits-requires-clause-within
-mates-waits-requires-clause-within g c = λ scene there. in_set c.meet-scenes.result.0 c.plays.result.0 c.args.party.now.crew.set.0 scene c.meet-scenes.ensures there
-
-pub all-requires : goal.all-requires
-all-requires g c =
-    let low = hold_low g.S.BySet.value g.S.BySet.places g.S.BySet.most c.args.self.now c.args.party.now c.requires.party c.args.actor c.requires.comes in
-    omega (arith, c.hold-hold.ensures.same, low, c.requires.party.low, c.requires.party.room)
+pub mates-extra-requires-clause-within : goal.mates-extra-requires-clause-within
+mates-extra-requires-clause-within g c = λ scene there. in_set c.meet-scenes.result.0 c.plays.result.0 c.args.party.now.crew.set.0 scene c.meet-scenes.ensures there
 
 pub plus-requires : goal.plus-requires
 plus-requires g c = λ places lt.
-    let low = hold_low g.S.BySet.value g.S.BySet.places g.S.BySet.most c.args.self.now c.args.party.now c.requires.party c.args.actor c.requires.comes in
-    let rates = rates_low g.S.BySet.value g.S.BySet.places g.S.BySet.most c.args.self.now c.args.party.now c.requires.party places lt in
-    omega (
-      arith,
-      c.least.ensures places lt,
-      c.all.ensures places lt,
-      min-le_right (g.S.BySet.value c.mates-waits.result places) c.hold-hold.result,
-      c.hold-hold.ensures.same,
-      low,
-      rates,
-      c.requires.party.low,
-      c.requires.party.room,
-    )
+    let film : GroupData = c.args.self.now in
+    let value = g.S.BySet.value in
+    let free = days_low value g.S.BySet.places g.S.BySet.most film c.args.party.now c.requires.party
+    (just film c.args.party.now.newcomers.0 0 c.args.party.now.crew.set.0) (value c.args.party.now.days) c.requires.party.days places lt in
+    let days = days_low value g.S.BySet.places g.S.BySet.most film c.args.party.now c.requires.party
+    c.minus-alone.result.0 (value c.counted-days.result)
+    (counted_alike film c.args.party.now.crew.group.0 g.S.BySet.places c.scene_days.result.now film.days c.minus-alone.result.0 (value c.counted-days.result) c.scene_days.ensures.days c.counted-days.ensures) places lt in
+    omega (arith, free, days, c.copy_from.ensures places lt, c.requires.party.wide)
 
-pub counted-requires-clause-within : goal.counted-requires-clause-within
-counted-requires-clause-within g c = λ scene there.
+pub at_most-requires : goal.at_most-requires
+at_most-requires g c =
+    let low = hold_low g.S.BySet.value g.S.BySet.places g.S.BySet.most c.args.self.now c.args.party.now c.requires.party c.args.actor c.requires.comes in
+    omega (arith, c.hold-hold.ensures.same, low, c.requires.party.low, c.requires.party.room)
+
+pub counted-days-requires-clause-within : goal.counted-days-requires-clause-within
+counted-days-requires-clause-within g c = λ scene there.
     alone_in_set c.minus-alone.result.0 c.meet-scenes.result.0 c.scenes_with.result.0 c.plays.result.0 c.args.party.now.crew.set.0 scene c.minus-alone.ensures c.meet-scenes.ensures there
 
-pub counted-requires-clause-long : goal.counted-requires-clause-long
-counted-requires-clause-long g c = λ scene there.
+pub counted-days-requires-clause-long : goal.counted-days-requires-clause-long
+counted-days-requires-clause-long g c = λ scene there.
     let lt : scene < 64 = below_64 c.args.party.now.crew.set.0 scene c.requires.party.company.small_set
     (alone_in_set c.minus-alone.result.0 c.meet-scenes.result.0 c.scenes_with.result.0 c.plays.result.0 c.args.party.now.crew.set.0 scene c.minus-alone.ensures c.meet-scenes.ensures there) in
     omega (arith, lt, c.scene_days.ensures.long)
 
-pub counted-requires-clause-fits : goal.counted-requires-clause-fits
-counted-requires-clause-fits g c =
+pub counted-days-requires-clause-fits : goal.counted-days-requires-clause-fits
+counted-days-requires-clause-fits g c =
     let fits = days_fit g.S.BySet.value g.S.BySet.places g.S.BySet.most c.args.self.now c.args.party.now c.requires.party c.minus-alone.result.0 in
     omega (arith, fits, sum_over-ext c.scene_days.result.now c.args.self.now.days c.minus-alone.result.0 (λ scene _. c.scene_days.ensures.days scene))
 
@@ -71,17 +65,15 @@ returns-clause-newcomer g c =
     let alone : c.minus-alone.result.0 ≡ just film newcomers (with 0 c.args.actor) set
     = alone_is film set newcomers c.requires.party.company.small_set c.args.actor c.plays.result.0 c.meet-scenes.result.0 c.scenes_with.result.0 c.minus-alone.result.0 c.requires.comes c.plays.ensures c.meet-scenes.ensures
     (subst (λ (others : ℕ). (scene : ℕ) → has c.scenes_with.result.0 scene ≡ not (is_without film others scene)) c.without.ensures c.scenes_with.ensures) c.minus-alone.ensures in
-    let mates : ℕ → ℕ = value c.mates-waits.result in
-    let are_mates = c.mates-waits.ensures (c.args.actor ∷ []) (with_one_is film set newcomers c.requires.party.company.small_set c.args.actor c.plays.result.0 c.meet-scenes.result.0 c.plays.ensures c.meet-scenes.ensures) in
+    let mates : ℕ → ℕ = value c.mates-extra.result in
+    let are_mates = c.mates-extra.ensures (c.args.actor ∷ []) (with_one_is film set newcomers c.requires.party.company.small_set c.args.actor c.plays.result.0 c.meet-scenes.result.0 c.plays.ensures c.meet-scenes.ensures) in
     record {
       comes = c.requires.comes;
       hold = c.hold-hold.ensures.same;
-      days = subst (λ (s : ℕ). AreCounted film group g.S.BySet.places film.days s (value c.counted.result)) alone
-          (counted_alike film group g.S.BySet.places c.scene_days.result.now film.days c.minus-alone.result.0 (value c.counted.result) c.scene_days.ensures.days c.counted.ensures);
+      days = subst (λ (s : ℕ). AreCounted film group g.S.BySet.places film.days s (value c.counted-days.result)) alone
+          (counted_alike film group g.S.BySet.places c.scene_days.result.now film.days c.minus-alone.result.0 (value c.counted-days.result) c.scene_days.ensures.days c.counted-days.ensures);
       mates = mates;
       are_mates = are_mates;
-      waits = λ places lt. omega (arith, c.plus.ensures places lt, c.least.ensures places lt, c.all.ensures places lt);
-      waits_low = λ places lt. (
-          let rates = rates_low value g.S.BySet.places g.S.BySet.most film c.args.party.now c.requires.party places lt in
-          omega (arith, c.plus.ensures places lt, c.least.ensures places lt, c.all.ensures places lt, min-le_right (mates places) c.hold-hold.result, rates));
+      all = λ places lt. omega (arith, c.plus.ensures places lt, c.copy_from.ensures places lt);
+      extra = λ places lt. c.at_most.ensures places lt;
     }

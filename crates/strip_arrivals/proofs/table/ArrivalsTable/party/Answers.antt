@@ -40,7 +40,7 @@ returns-clause-party g c =
     = none_is c.args.self.now c.args.set.0 c.args.newcomers.0 c.requires.company.small_set c.minus-without.result.0 c.scenes_with.result.0 c.scenes_with.ensures c.minus-without.ensures in
     record {
       few = c.requires.few;
-      crew = c.crew-crew.ensures.crew;
+      crew = c.crew-crew.ensures.crew g.S.BySet.places c.requires.fits;
       company = subst (λ (s : Mask). IsCompany c.args.self.now s.0 c.crew-crew.result.group.0 c.args.newcomers.0) (sym set)
           (subst (λ (s : Mask). IsCompany c.args.self.now c.args.set.0 s.0 c.args.newcomers.0) (sym group) c.requires.company);
       days = subst (λ (s : Mask). AreCounted c.args.self.now c.crew-crew.result.group.0 g.S.BySet.places c.args.self.now.days (just c.args.self.now c.args.newcomers.0 0 s.0) (g.S.BySet.value c.counted-days.result)) (sym set)
@@ -52,3 +52,6 @@ returns-clause-party g c =
       room = c.requires.room;
       wide = c.requires.wide;
     }
+
+pub counted-days-requires-clause-crew : goal.counted-days-requires-clause-crew
+counted-days-requires-clause-crew g c = c.crew-crew.ensures.crew g.S.BySet.places c.requires.fits
