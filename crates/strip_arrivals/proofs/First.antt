@@ -97,8 +97,7 @@ module _ (film : GroupData) (set group : ℕ) (small : IsSet group) where
       = awaited_off film set state (after state (leaves other)) other refl (λ scene. open_after_leaving film state other scene) parts.1 awaited in
       let found = sooner actor later (after state (leaves other)) next expected absent first rest in
       let fine = still_fine state actor awaited expected (open_scenes film set state other) parts.1 in
-      let less = no_dearer state actor awaited expected (open_scenes film set state other) parts.1 in
-      (
+      let less = no_dearer state actor awaited expected (open_scenes film set state other) parts.1 in (
         leaves other ∷ found.0,
         (may film set group small (after state (comes actor)) (leaves other) (still_there state actor (leaves other) parts.0) fine, found.1),
         omega (arith, less, found.2),
@@ -119,8 +118,7 @@ module _ (film : GroupData) (set group : ℕ) (small : IsSet group) where
       = awaited_off film set state (after state (goes other)) other refl (λ scene. open_after_going film state other scene) parts.1 awaited in
       let found = sooner actor later (after state (goes other)) next expected (λ again. absent (contains_from_filter stays state.here actor again).0) first rest in
       let fine = still_fine state actor awaited expected (open_scenes film set state other) parts.1 in
-      let less = no_dearer state actor awaited expected (open_scenes film set state other) parts.1 in
-      (
+      let less = no_dearer state actor awaited expected (open_scenes film set state other) parts.1 in (
         goes other ∷ found.0,
         (
           may film set group small (after state (comes actor)) (goes other) (still_there state actor (goes other) parts.0) fine,
