@@ -5,10 +5,10 @@ use Rattle.std.proofs.lemmas.List.{append-nil, map_more, take_all}
 use Rattle.std.proofs.lemmas.List.Elements.{All-more, All-nil, All-push}
 use Rattle.strip_io.specs.Sink.{Took}
 use Rattle.strip_words.specs.Shown.{texts}
-use Rattle.strip_cases.specs.declared.case.Case.{Case}
-use Rattle.strip_cases.specs.declared.case.Cases.{Cases}
-use Rattle.strip_cases.specs.declared.case.Given.{Given}
-use Rattle.strip_cases.specs.CaseRows.{HasEachCase}
+use Rattle.stripboard_cases.specs.declared.case.Case.{Case}
+use Rattle.stripboard_cases.specs.declared.case.Cases.{Cases}
+use Rattle.stripboard_cases.specs.declared.case.Given.{Given}
+use Rattle.stripboard_cases.specs.CaseRows.{HasEachCase}
 use Rattle.stripboard_cases.specs.Runs.{IsCaseMet}
 use Rattle.stripboard_cases.specs.Judged.{AreMet, AreRead, IsCounted, IsReadFrom, cases_in, is_any_unread}
 

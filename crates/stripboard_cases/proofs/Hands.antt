@@ -8,10 +8,10 @@ use Rattle.std.proofs.lemmas.List.Elements.{All-contains, All-contains_itself, A
 use Rattle.std.proofs.lemmas.List.{take_more}
 use Rattle.std.proofs.lemmas.Slice.Eq.{bytes_eq-Decides}
 use Rattle.strip_io.specs.Held.{HeldFile, found, bytes_of, faults_of, held_data, is_held}
-use Rattle.strip_cases.specs.declared.case.Base.{Base}
-use Rattle.strip_cases.specs.declared.case.Base.TheVariants.{Within}
-use Rattle.strip_cases.specs.declared.case.Held.{Held}
-use Rattle.strip_cases.specs.Met.{IsHeld}
+use Rattle.stripboard_cases.specs.declared.case.Base.{Base}
+use Rattle.stripboard_cases.specs.declared.case.Base.TheVariants.{Within}
+use Rattle.stripboard_cases.specs.declared.case.Held.{Held}
+use Rattle.stripboard_cases.specs.Met.{IsHeld}
 use Rattle.stripboard_cases.specs.AtHand.{AreApart, HasBytes, IsNowHeld, IsSource}
 
 passed : {X : Type 0} (p : X → Bool) (xs : List X) (x : X) (k : ℕ) → k < length xs → get_or xs k x ≡ x → p x ≡ true → Contains (filter p xs) x

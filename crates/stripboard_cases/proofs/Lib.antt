@@ -1,3 +1,6 @@
+mod CaseLines
+mod Fronts
+mod Found
 mod Counts
 mod Hands
 mod Turns

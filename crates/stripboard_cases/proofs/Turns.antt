@@ -1,10 +1,10 @@
 -- What is done one after the other.
 use Rattle.std.proofs.Common.{◌≡◌, ℕ, ◌<◌, ◌+◌, ◌++◌, ◌∷◌, [], List, Option, Some, None, String, Global, length, take, get_or, refl, sym, subst, ap, ◌∙◌}
 use Rattle.std.proofs.lemmas.List.{take_more}
-use Rattle.strip_cases.specs.declared.case.Action.{Action}
-use Rattle.strip_cases.specs.declared.case.Action.TheVariants.{Give, Run}
-use Rattle.strip_cases.specs.declared.case.Given.{Given}
-use Rattle.strip_cases.specs.declared.case.Held.{Held}
+use Rattle.stripboard_cases.specs.declared.case.Action.{Action}
+use Rattle.stripboard_cases.specs.declared.case.Action.TheVariants.{Give, Run}
+use Rattle.stripboard_cases.specs.declared.case.Given.{Given}
+use Rattle.stripboard_cases.specs.declared.case.Held.{Held}
 use Rattle.stripboard_cases.specs.AtHand.{AreApart, IsGiven}
 use Rattle.stripboard_cases.specs.Runs.{InTurn, IsDone, IsKept}
 use Rattle.stripboard_cases.proofs.Hands.{apart_now}

@@ -1,11 +1,11 @@
 -- The files at hand in a case, and how they change.
 use Rattle.std.specs.Prelude.{◌≡◌, ◌≢◌, ◌↔◌, ℕ, true, List, ◌++◌, Some, string_bytes}
 use Rattle.strip_io.specs.Files.{FilesData}
-use Rattle.strip_cases.specs.declared.case.Base.{Base}
-use Rattle.strip_cases.specs.declared.case.Base.TheVariants.{None, Behind, Within}
-use Rattle.strip_cases.specs.declared.case.Given.{Given}
-use Rattle.strip_cases.specs.declared.case.Held.{Held}
-use Rattle.strip_cases.specs.Met.{IsHeld}
+use Rattle.stripboard_cases.specs.declared.case.Base.{Base}
+use Rattle.stripboard_cases.specs.declared.case.Base.TheVariants.{None, Behind, Within}
+use Rattle.stripboard_cases.specs.declared.case.Given.{Given}
+use Rattle.stripboard_cases.specs.declared.case.Held.{Held}
+use Rattle.stripboard_cases.specs.Met.{IsHeld}
 
 -- no name has two texts
 pub record AreApart (files : List Held) : Type 0 where

@@ -3,8 +3,8 @@ use Rattle.std.specs.Prelude.{◌≡◌, ◌⊎◌, ℕ, zero, suc, ◌+◌, ◌
 use Rattle.std.specs.Fmt.{decimal}
 use Rattle.strip_io.specs.Sink.{Took}
 use Rattle.strip_answer.specs.Run.{RunData, HasWriteFault}
-use Rattle.strip_cases.specs.declared.case.Cases.{Cases}
-use Rattle.strip_cases.specs.CaseRows.{HasEachCase}
+use Rattle.stripboard_cases.specs.declared.case.Cases.{Cases}
+use Rattle.stripboard_cases.specs.CaseRows.{HasEachCase}
 use Rattle.stripboard_cases.specs.Runs.{IsCaseMet}
 
 -- all cases of a file are met

@@ -1,3 +1,5 @@
+pub mod CaseRows
+pub mod Met
 pub mod AtHand
 pub mod Judged
 pub mod Runs

@@ -6,15 +6,15 @@ use Rattle.strip_answer.specs.Headline.{IsHeadline}
 use Rattle.strip_answer.specs.Run.{RunData}
 use Rattle.strip_commands.specs.Due.{board_claims}
 use Rattle.strip_check_command.specs.Claims.{audit_claims}
-use Rattle.strip_cases.specs.declared.case.Action.{Action}
-use Rattle.strip_cases.specs.declared.case.Action.TheVariants.{Give, Run}
-use Rattle.strip_cases.specs.declared.case.Case.{Case}
-use Rattle.strip_cases.specs.declared.case.Given.{Given}
-use Rattle.strip_cases.specs.declared.case.Held.{Held}
-use Rattle.strip_cases.specs.declared.case.Program.{Program}
-use Rattle.strip_cases.specs.declared.case.Program.TheVariants.{Stripboard, Stripcheck}
-use Rattle.strip_cases.specs.declared.case.Step.{Step}
-use Rattle.strip_cases.specs.Met.{IsMet}
+use Rattle.stripboard_cases.specs.declared.case.Action.{Action}
+use Rattle.stripboard_cases.specs.declared.case.Action.TheVariants.{Give, Run}
+use Rattle.stripboard_cases.specs.declared.case.Case.{Case}
+use Rattle.stripboard_cases.specs.declared.case.Given.{Given}
+use Rattle.stripboard_cases.specs.declared.case.Held.{Held}
+use Rattle.stripboard_cases.specs.declared.case.Program.{Program}
+use Rattle.stripboard_cases.specs.declared.case.Program.TheVariants.{Stripboard, Stripcheck}
+use Rattle.stripboard_cases.specs.declared.case.Step.{Step}
+use Rattle.stripboard_cases.specs.Met.{IsMet}
 use Rattle.stripboard_cases.specs.AtHand.{IsGiven, IsNowHeld, IsSource}
 
 -- all that the program claims of its runs is claimed of this one

@@ -1,11 +1,11 @@
 // The files that are available in a case.
 ghost use Rattle.std.specs.Prelude.{◌≡◌, ◌≤◌, ◌++◌, [], length, Ok, None, IfOk, IfSome, OnOk, string_bytes};
 ghost use Rattle.strip_io.specs.Held.{held_data};
-ghost use Rattle.strip_cases.specs.Met.{IsHeld};
+ghost use Rattle.stripboard_cases.specs.Met.{IsHeld};
 ghost use Rattle.stripboard_cases.specs.AtHand.{AreApart, HasBytes, IsGiven, IsNowHeld, IsSource};
 
+use crate::case::{Base, Given, Held};
 use std::alloc::{AllocError, AllocFailed, Global};
-use strip_cases::{Base, Given, Held};
 use strip_io::{MemFiles, Memory};
 
 /// A reason why a file can't be given.

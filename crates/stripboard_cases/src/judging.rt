@@ -2,15 +2,17 @@
 ghost use Rattle.std.specs.Prelude.{◌≡◌, ◌↔◌, ◌+◌, ◌-◌, ◌^◌, ◌≤◌, min, false, List, [], ◌∷◌, ◌++◌, length, Option, Some, IfOk, IfSome, OnOk, string_bytes};
 ghost use Rattle.strip_words.specs.Shown.{texts};
 ghost use Rattle.strip_answer.specs.Run.{run_data};
-ghost use Rattle.strip_cases.specs.declared.case.Cases.{Cases};
+ghost use Rattle.stripboard_cases.specs.declared.case.Cases.{Cases};
 ghost use Rattle.stripboard_cases.specs.Runs.{IsCaseMet};
 ghost use Rattle.stripboard_cases.specs.Judged.{IsCounted, IsJudgement, IsReadFrom, end_status, last_row};
 
+use crate::case::{Case, Cases, Given};
+use crate::fault::{CaseFault, Wrong};
+use crate::reading::read_cases;
 use crate::running::run_case;
 use std::alloc::{AllocError, Global};
 use std::sync::Wait;
 use std::thread::Threads;
-use strip_cases::{Case, CaseFault, Cases, Given, Wrong, read_cases};
 use strip_io::{Failed, Files, LoadFault, Memory, Sink, load, send};
 
 /// The greatest size of a case file, in bytes.

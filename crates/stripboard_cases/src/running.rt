@@ -7,11 +7,12 @@ ghost use Rattle.strip_answer.specs.Run.{run_data};
 ghost use Rattle.stripboard_cases.specs.AtHand.{AreApart, IsGiven};
 ghost use Rattle.stripboard_cases.specs.Runs.{InTurn, IsCaseMet, IsDone, IsKept, IsClaimedBy, IsStepMet};
 
+use crate::case::{Action, Case, Given, Held, Program, Step};
+use crate::differing::difference;
 use crate::files::{give, hold, source};
 use std::alloc::Global;
 use std::sync::Wait;
 use std::thread::Threads;
-use strip_cases::{Action, Case, Given, Held, Program, Step, difference};
 use strip_io::{MemFiles, MemSink, Memory};
 use strip_worker::OpenGate;
 

@@ -1,6 +1,6 @@
 use Rattle.std.proofs.Common.{rules, List, ◌++◌, ◌∷◌, [], string_bytes, refl, ◌∙◌, ap}
 use Rattle.std.proofs.lemmas.Fn.{filter_same}
-use Rattle.strip_cases.specs.declared.case.Held.{Held}
+use Rattle.stripboard_cases.specs.declared.case.Held.{Held}
 use Rattle.stripboard_cases.proofs.Hands.{is_other, now_held}
 use Rattle.stripboard_cases.proofs.files.hold.Goals as goal
 

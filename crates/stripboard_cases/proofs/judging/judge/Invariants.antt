@@ -1,7 +1,7 @@
 use Rattle.std.proofs.Common.{◌≡◌, ℕ, List, Option, take}
 use Rattle.strip_io.specs.Sink.{Took}
 use Rattle.strip_words.specs.Shown.{texts}
-use Rattle.strip_cases.specs.declared.case.Cases.{Cases}
+use Rattle.stripboard_cases.specs.declared.case.Cases.{Cases}
 use Rattle.stripboard_cases.specs.Judged.{AreRead, IsCounted}
 use Rattle.stripboard_cases.proofs.judging.judge.Given as goal
 

@@ -1,3 +1,0 @@
-mod CaseLines
-mod Fronts
-mod Found

@@ -1,6 +1,0 @@
-use Rattle.std.proofs.Common.{◌≡◌, take}
-use Rattle.strip_cases.specs.CaseRows.{case_lines}
-use Rattle.strip_cases.proofs.blocks.before_case.Given as goal
-
-abbrev pub invariant-loop-place : goal.invariant-loop-place
-invariant-loop-place l = case_lines (take l.place l.lines) ≡ 0

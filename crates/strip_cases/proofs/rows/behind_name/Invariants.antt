@@ -1,9 +1,0 @@
-use Rattle.std.proofs.Common.{length}
-use Rattle.strip_cases.proofs.Fronts.{IsRest}
-use Rattle.strip_cases.proofs.rows.behind_name.Given as goal
-
-abbrev pub invariant-loop-first : goal.invariant-loop-first
-invariant-loop-first l = IsRest l.text l.rest
-
-abbrev pub decreases-loop-first : goal.decreases-loop-first
-decreases-loop-first l = length l.rest

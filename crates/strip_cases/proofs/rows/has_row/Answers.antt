@@ -1,6 +1,0 @@
-use Rattle.strip_cases.proofs.Fronts.{rest_behind}
-use Rattle.strip_cases.proofs.rows.has_row.Goals as goal
-
-pub loop-first-preserved : goal.loop-first-preserved
-loop-first-preserved c =
-    rest_behind c.args.text.now c.loop-first.rest.now c.in-Some.first.now c.in-Some.behind.now c.loop-first.invariant c.in-Some.ensures

@@ -1,2 +1,0 @@
-pub mod CaseRows
-pub mod Met
