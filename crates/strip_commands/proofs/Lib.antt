@@ -1,3 +1,7 @@
+mod Drawn
+mod Casts
+mod Limits
+mod Readable
 pub mod Films
 pub mod Boards
 pub mod Printed

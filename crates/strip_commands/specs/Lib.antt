@@ -1,3 +1,5 @@
+pub mod Words
+pub mod Generated
 pub mod Plan
 pub mod Film
 pub mod Solve

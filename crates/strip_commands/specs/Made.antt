@@ -7,7 +7,6 @@ use Rattle.strip_reduce.specs.Reduction.{class_count}
 use Rattle.strip_text.specs.Rows.{csv_row}
 use Rattle.strip_instance.specs.Text.{says}
 use Rattle.strip_instance.specs.Canonical.{canonical_text}
-use Rattle.strip_gen.specs.Made.{generated}
 use Rattle.strip_proof.specs.Plan.{PlanData}
 use Rattle.strip_proof.specs.Rows.{status_word}
 use Rattle.strip_check.specs.Accepted.{IsAccepted}
@@ -17,6 +16,7 @@ use Rattle.strip_answer.specs.declared.status.Status.{Status}
 use Rattle.strip_answer.specs.declared.status.Status.TheVariants.{Done, BadInstance}
 use Rattle.strip_answer.specs.Rows.{error_row}
 use Rattle.strip_answer.specs.Said.{too_many_told}
+use Rattle.strip_commands.specs.Generated.{generated}
 use Rattle.strip_commands.specs.Plan.{exit_of}
 
 -- the instance that is made

@@ -1,11 +1,15 @@
 //! The program `stripboard` over any files and output sink: the commands, from words and files to the printed text and
-//! the exit status.
+//! the exit status. The crate also makes the random instances of the command `gen` from a seed, so that anyone can try
+//! the solver on the same film. A law is a function that does nothing when it runs: its contract is a theorem that a
+//! caller obtains by calling it.
 #![tactic(auto)]
 
 mod answer;
 mod arrange;
 mod board;
 mod convert;
+mod drawing;
+pub mod laws;
 mod making;
 mod pricing;
 mod program;
@@ -13,4 +17,5 @@ mod reports;
 mod solve;
 mod solver;
 
+pub use drawing::generate;
 pub use program::{report, run};

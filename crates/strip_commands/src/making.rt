@@ -13,13 +13,13 @@ ghost use Rattle.strip_commands.specs.Made.{IsGenDue, IsTrialDue, made_of, trial
 ghost use Rattle.strip_commands.specs.Plan.{exit_of};
 ghost use Rattle.strip_commands.specs.Solver.{Solves};
 
+use crate::drawing::generate;
+use crate::laws::what_is_made_has_readable_names;
 use crate::reports::printed;
 use crate::solve::{options_of, status_of};
 use std::alloc::Global;
 use strip_answer::{Answer, too_many_classes};
 use strip_check::{CheckFault, Verdict, check};
-use strip_gen::generate;
-use strip_gen::laws::what_is_made_has_readable_names;
 use strip_instance::write_instance;
 use strip_io::Memory;
 use strip_model::Instance;

@@ -1,8 +1,8 @@
 use Rattle.std.proofs.Common.{true≢false, sym, subst, ◌∙◌}
 use Rattle.strip_model.specs.Data.{IsInstance}
-use Rattle.strip_gen.proofs.Limits.{made_is}
-use Rattle.strip_gen.proofs.Drawn.{made}
-use Rattle.strip_gen.proofs.drawing.generate.Goals as goal
+use Rattle.strip_commands.proofs.Limits.{made_is}
+use Rattle.strip_commands.proofs.Drawn.{made}
+use Rattle.strip_commands.proofs.drawing.generate.Goals as goal
 
 pub unreachable-requires : goal.unreachable-requires
 unreachable-requires c =

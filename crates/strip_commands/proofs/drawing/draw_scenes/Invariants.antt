@@ -1,9 +1,9 @@
 use Rattle.std.proofs.Common.{◌≡◌, ◌+◌, ◌*◌, map}
 use Rattle.std.specs.List.{range_with_len}
 use Rattle.strip_model.specs.Instance.{scene_data}
-use Rattle.strip_gen.specs.Made.{scene_at}
-use Rattle.strip_gen.specs.Words.{behind}
-use Rattle.strip_gen.proofs.drawing.draw_scenes.Given as goal
+use Rattle.strip_commands.specs.Generated.{scene_at}
+use Rattle.strip_commands.specs.Words.{behind}
+use Rattle.strip_commands.proofs.drawing.draw_scenes.Given as goal
 
 abbrev pub invariant-loop-scene : goal.invariant-loop-scene
 invariant-loop-scene l = record {

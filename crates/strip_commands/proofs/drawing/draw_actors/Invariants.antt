@@ -1,9 +1,9 @@
 use Rattle.std.proofs.Common.{◌≡◌, map}
 use Rattle.std.specs.List.{range_with_len}
 use Rattle.strip_model.specs.Instance.{actor_data}
-use Rattle.strip_gen.specs.Made.{actor_at}
-use Rattle.strip_gen.specs.Words.{behind}
-use Rattle.strip_gen.proofs.drawing.draw_actors.Given as goal
+use Rattle.strip_commands.specs.Generated.{actor_at}
+use Rattle.strip_commands.specs.Words.{behind}
+use Rattle.strip_commands.proofs.drawing.draw_actors.Given as goal
 
 abbrev pub invariant-loop-actor : goal.invariant-loop-actor
 invariant-loop-actor l = record {

@@ -5,7 +5,7 @@ use Rattle.std.specs.Fmt.{decimal}
 use Rattle.rand_pcg.specs.Lcg.{Lcg}
 use Rattle.strip_mask.specs.Set.{with}
 use Rattle.strip_model.specs.Data.{ActorData, InstanceData, SceneData}
-use Rattle.strip_gen.specs.Words.{behind, generator_of, word_at}
+use Rattle.strip_commands.specs.Words.{behind, generator_of, word_at}
 
 -- a letter, and the number of an actor or a scene, from 1
 abbrev pub name_at : List ℕ → ℕ → List ℕ

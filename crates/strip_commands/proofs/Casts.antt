@@ -5,7 +5,7 @@ use Rattle.std.proofs.lemmas.Bool.{eqb-true}
 use Rattle.std.proofs.lemmas.Bool.Decides.{nat_tests}
 use Rattle.strip_mask.specs.Set.{LiesBelow, has, with}
 use Rattle.strip_mask.proofs.ByMembers.{has-empty, has-with}
-use Rattle.strip_gen.specs.Made.{cast_of, works_in}
+use Rattle.strip_commands.specs.Generated.{cast_of, works_in}
 
 pub cast-none : (generator : Lcg) → cast_of generator 0 ≡ 0
 unfolding cast_of

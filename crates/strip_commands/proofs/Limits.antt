@@ -9,9 +9,9 @@ use Rattle.std.proofs.lemmas.Nat.{mod_below}
 use Rattle.strip_mask.specs.Set.{LiesBelow}
 use Rattle.strip_model.proofs.Fits.{fit-none}
 use Rattle.strip_model.specs.Data.{ActorData, IsActor, IsInstance, IsName, IsScene, SceneData}
-use Rattle.strip_gen.specs.Words.{behind, generator_of, word_at}
-use Rattle.strip_gen.specs.Made.{actor_at, cast_of, generated, name_at, scene_at}
-use Rattle.strip_gen.proofs.Casts.{cast_lies}
+use Rattle.strip_commands.specs.Words.{behind, generator_of, word_at}
+use Rattle.strip_commands.specs.Generated.{actor_at, cast_of, generated, name_at, scene_at}
+use Rattle.strip_commands.proofs.Casts.{cast_lies}
 
 -- ---- names
 

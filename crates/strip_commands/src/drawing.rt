@@ -2,8 +2,8 @@
 ghost use Rattle.std.specs.Prelude.{◌≡◌, ◌≤◌, ◌<◌, IfOk, map, string_bytes};
 ghost use Rattle.std.specs.List.{range_with_len};
 ghost use Rattle.strip_model.specs.Instance.{actor_data, scene_data};
-ghost use Rattle.strip_gen.specs.Made.{actor_at, cast_of, generated, name_at, scene_at};
-ghost use Rattle.strip_gen.specs.Words.{behind};
+ghost use Rattle.strip_commands.specs.Generated.{actor_at, cast_of, generated, name_at, scene_at};
+ghost use Rattle.strip_commands.specs.Words.{behind};
 
 use rand_core::utils::NextWord;
 use rand_pcg::Pcg32;

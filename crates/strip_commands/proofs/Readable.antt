@@ -15,9 +15,9 @@ use Rattle.strip_text.specs.Field.{Field, is_blank, trimmed}
 use Rattle.strip_text.proofs.Blanks.{HasNoBlank-decimal, trimmed-same}
 use Rattle.strip_instance.specs.Field.{is_kept, is_name, is_name_byte, is_scene_name}
 use Rattle.strip_instance.specs.Text.{HasReadableNames, IsReadableName}
-use Rattle.strip_gen.specs.Words.{behind, generator_of}
-use Rattle.strip_gen.specs.Made.{actor_at, generated, name_at, scene_at}
-use Rattle.strip_gen.proofs.Limits.{all_places, name_fits}
+use Rattle.strip_commands.specs.Words.{behind, generator_of}
+use Rattle.strip_commands.specs.Generated.{actor_at, generated, name_at, scene_at}
+use Rattle.strip_commands.proofs.Limits.{all_places, name_fits}
 
 digit_byte : (digit : ℕ) → digit < 10 → is_name_byte (48 + digit) ≡ true
 digit_byte digit low = grind (arith, nat_tests, low)

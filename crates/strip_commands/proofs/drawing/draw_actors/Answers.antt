@@ -1,8 +1,8 @@
 use Rattle.std.proofs.Common.{◌+◌, ◌%◌, map, sym, ap, ◌∙◌}
 use Rattle.strip_model.specs.Instance.{actor_data}
-use Rattle.strip_gen.specs.Made.{actor_at}
-use Rattle.strip_gen.proofs.Drawn.{behind-none, drawn-more, word_drawn}
-use Rattle.strip_gen.proofs.drawing.draw_actors.Goals as goal
+use Rattle.strip_commands.specs.Generated.{actor_at}
+use Rattle.strip_commands.proofs.Drawn.{behind-none, drawn-more, word_drawn}
+use Rattle.strip_commands.proofs.drawing.draw_actors.Goals as goal
 
 pub loop-actor-init : goal.loop-actor-init
 loop-actor-init c = record { behind = sym (behind-none c.args.words.now); drawn = ap (map actor_data) c.new-drawn.ensures.items }

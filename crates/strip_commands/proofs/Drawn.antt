@@ -8,8 +8,8 @@ use Rattle.rand_pcg.specs.Pcg.{pcg32}
 use Rattle.strip_model.specs.declared.scene.Scene.{Scene}
 use Rattle.strip_model.specs.declared.scene.Actor.{Actor}
 use Rattle.strip_model.specs.Instance.{actor_data, instance_data, scene_data}
-use Rattle.strip_gen.specs.Words.{behind, generator_of, word_at}
-use Rattle.strip_gen.specs.Made.{actor_at, generated, scene_at}
+use Rattle.strip_commands.specs.Words.{behind, generator_of, word_at}
+use Rattle.strip_commands.specs.Generated.{actor_at, generated, scene_at}
 
 -- so many words, and so many more
 pub behind-more : (generator : Lcg) (m n : ℕ) → behind (behind generator m) n ≡ behind generator (m + n)

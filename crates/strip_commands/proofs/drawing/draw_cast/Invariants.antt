@@ -1,7 +1,7 @@
 use Rattle.std.proofs.Common.{◌≡◌}
-use Rattle.strip_gen.specs.Made.{cast_of}
-use Rattle.strip_gen.specs.Words.{behind}
-use Rattle.strip_gen.proofs.drawing.draw_cast.Given as goal
+use Rattle.strip_commands.specs.Generated.{cast_of}
+use Rattle.strip_commands.specs.Words.{behind}
+use Rattle.strip_commands.proofs.drawing.draw_cast.Given as goal
 
 abbrev pub invariant-loop-actor : goal.invariant-loop-actor
 invariant-loop-actor l = record {

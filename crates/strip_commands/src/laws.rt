@@ -1,10 +1,10 @@
-//! Laws of the definitions: functions that do nothing when they run, each with a theorem as its contract.
+//! Laws of generated instances: functions that do nothing when they run, each with a theorem as its contract.
 ghost use Rattle.std.specs.Prelude.{◌≡◌, ◌≤◌, ℕ, ◌&&◌, nat_lt};
 ghost use Rattle.rand_pcg.specs.Lcg.{Lcg};
 ghost use Rattle.strip_mask.specs.Set.{has};
 ghost use Rattle.strip_model.specs.Data.{IsInstance};
 ghost use Rattle.strip_instance.specs.Text.{HasReadableNames};
-ghost use Rattle.strip_gen.specs.Made.{cast_of, generated, works_in};
+ghost use Rattle.strip_commands.specs.Generated.{cast_of, generated, works_in};
 
 /// A generated instance keeps the limits of instances.
 pub fn what_is_made_keeps_the_limits()

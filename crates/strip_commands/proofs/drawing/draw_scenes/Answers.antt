@@ -1,10 +1,10 @@
 use Rattle.std.proofs.Common.{◌≡◌, ◌+◌, ◌*◌, ◌%◌, map, sym, ap, ◌∙◌, arith}
 use Rattle.rand_pcg.specs.Lcg.{Lcg}
 use Rattle.strip_model.specs.Instance.{scene_data}
-use Rattle.strip_gen.specs.Words.{behind}
-use Rattle.strip_gen.specs.Made.{cast_of, scene_at}
-use Rattle.strip_gen.proofs.Drawn.{behind-more, behind-none, drawn-more, one_scene_more, word_drawn}
-use Rattle.strip_gen.proofs.drawing.draw_scenes.Goals as goal
+use Rattle.strip_commands.specs.Words.{behind}
+use Rattle.strip_commands.specs.Generated.{cast_of, scene_at}
+use Rattle.strip_commands.proofs.Drawn.{behind-more, behind-none, drawn-more, one_scene_more, word_drawn}
+use Rattle.strip_commands.proofs.drawing.draw_scenes.Goals as goal
 
 pub loop-scene-init : goal.loop-scene-init
 loop-scene-init c = record { behind = sym (ap (behind c.args.words.now) (let e : 0 * (1 + c.args.actors) ≡ 0 = omega arith in e) ∙ behind-none c.args.words.now); drawn = ap (map scene_data) c.new-drawn.ensures.items }

@@ -1,10 +1,10 @@
 use Rattle.std.proofs.Common.{◌%◌, ℕ, sym, ap, ◌∙◌}
-use Rattle.strip_gen.proofs.Drawn.{behind-none, word_drawn}
+use Rattle.strip_commands.proofs.Drawn.{behind-none, word_drawn}
 use Rattle.std.proofs.lemmas.Bool.{eq-eqb, ne_eqb}
 use Rattle.strip_mask.specs.declared.mask.Mask.{Mask}
-use Rattle.strip_gen.proofs.Casts.{cast-none, cast-with, cast-without}
-use Rattle.strip_gen.proofs.drawing.draw_cast.Goals.{then-next_word-eq0, else-next_word-eq0}
-use Rattle.strip_gen.proofs.drawing.draw_cast.Goals as goal
+use Rattle.strip_commands.proofs.Casts.{cast-none, cast-with, cast-without}
+use Rattle.strip_commands.proofs.drawing.draw_cast.Goals.{then-next_word-eq0, else-next_word-eq0}
+use Rattle.strip_commands.proofs.drawing.draw_cast.Goals as goal
 
 pub loop-actor-init : goal.loop-actor-init
 loop-actor-init c = record { behind = sym (behind-none c.args.words.now); cast = sym (cast-none c.args.words.now) }

@@ -1,4 +1,0 @@
-mod Drawn
-mod Casts
-mod Limits
-mod Readable

@@ -1,5 +1,0 @@
-use Rattle.strip_gen.proofs.Casts.{cast-has}
-use Rattle.strip_gen.proofs.laws.casts_are_by_words.Goals as goal
-
-pub returns : goal.returns
-returns c = λ generator actors actor few. cast-has generator actors actor

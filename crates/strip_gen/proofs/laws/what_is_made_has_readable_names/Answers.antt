@@ -1,5 +1,0 @@
-use Rattle.strip_gen.proofs.Readable.{made_readable}
-use Rattle.strip_gen.proofs.laws.what_is_made_has_readable_names.Goals as goal
-
-pub returns : goal.returns
-returns c = made_readable
