@@ -2,7 +2,7 @@
 use Rattle.std.specs.Prelude.{◌≡◌, ◌⊎◌, ℕ, List}
 use Rattle.strip_model.specs.Data.{InstanceData}
 use Rattle.strip_proof.specs.Plan.{PlanData}
-use Rattle.strip_board.specs.Board.{board_text}
+use Rattle.strip_reports.specs.Board.{board_text}
 use Rattle.strip_words.specs.Plans.{PlanFilesData}
 use Rattle.strip_answer.specs.declared.status.Status.{Status}
 use Rattle.strip_answer.specs.declared.status.Status.TheVariants.{Done}

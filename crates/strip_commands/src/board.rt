@@ -32,6 +32,6 @@ fn page_of(alloc: Global, inst: &Instance, plan: &Plan) -> Result<Answer, Memory
     if !is_order(inst, &plan.order) {
         return refused(alloc, Reason::NotAnOrder);
     }
-    let page = strip_board::board(alloc, inst, plan)?;
+    let page = strip_reports::board(alloc, inst, plan)?;
     Ok(printed(alloc, page))
 }

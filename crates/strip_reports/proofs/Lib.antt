@@ -9,3 +9,13 @@ mod Places
 mod Walk
 pub mod Total
 mod Added
+mod PageExamples
+pub mod Pieces
+pub mod Placed
+pub mod Escapes
+mod Sentence
+mod Columns
+mod Marks
+mod Broken
+mod Warned
+mod Worked

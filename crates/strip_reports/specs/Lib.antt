@@ -3,3 +3,9 @@ pub mod Codes
 pub mod Sums
 pub mod Text
 pub mod Sheet
+pub mod Html
+pub mod Cells
+pub mod Shown
+pub mod Frame
+pub mod Actors
+pub mod Board

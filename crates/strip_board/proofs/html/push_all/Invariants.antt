@@ -1,6 +1,0 @@
-use Rattle.std.proofs.Common.{◌≡◌, ◌++◌, take}
-use Rattle.std.specs.List.{flat_map}
-use Rattle.strip_board.proofs.html.push_all.Given as goal
-
-abbrev pub invariant-loop-piece : goal.invariant-loop-piece
-invariant-loop-piece l = l.page.items ≡ l.fn.page.items ++ flat_map (λ piece. piece.now) (take l.piece-index l.pieces)

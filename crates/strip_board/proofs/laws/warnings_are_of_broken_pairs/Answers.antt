@@ -1,5 +1,0 @@
-use Rattle.strip_board.proofs.Broken.{broken}
-use Rattle.strip_board.proofs.laws.warnings_are_of_broken_pairs.Goals as goal
-
-pub returns : goal.returns
-returns c = broken

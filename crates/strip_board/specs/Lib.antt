@@ -1,6 +1,0 @@
-pub mod Html
-pub mod Cells
-pub mod Shown
-pub mod Frame
-pub mod Actors
-pub mod Board
