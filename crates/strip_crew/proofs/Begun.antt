@@ -12,11 +12,11 @@ use Rattle.strip_least.specs.Rule.{full_weight}
 use Rattle.strip_mask.proofs.Lists.{count_here}
 use Rattle.strip_least.specs.Rule.{once_below, times}
 use Rattle.strip_book.specs.View.{EntryData, ViewData, parts_of, record_at}
-use Rattle.strip_hub.specs.declared.source.Source.{Source}
-use Rattle.strip_hub.specs.declared.source.Source.TheVariants.{Counter}
-use Rattle.strip_hub.specs.Source.{taken_by}
-use Rattle.strip_hub.specs.Hub.{GoTogether}
 use Rattle.strip_worker.specs.Team.{HasFront, OwnsFront}
+use Rattle.strip_crew.specs.declared.source.Source.{Source}
+use Rattle.strip_crew.specs.declared.source.Source.TheVariants.{Counter}
+use Rattle.strip_crew.specs.Source.{taken_by}
+use Rattle.strip_crew.specs.Hub.{GoTogether}
 use Rattle.strip_crew.proofs.Once.{once_here, once_none}
 use Rattle.strip_crew.proofs.Settled.{some_at}
 

@@ -5,11 +5,11 @@ use Rattle.strip_steal.specs.declared.queues.Pool.{Pool}
 use Rattle.strip_steal.specs.declared.taker.Taker.{Taker}
 use Rattle.strip_steal.specs.Seat.{QueueId}
 use Rattle.strip_steal.specs.Taker.{HasGathered, IsPool, IsTaker, StayAt, handed_in, pool_queues, pool_shares, puts, taken_in, taker_queues, taker_shares}
-use Rattle.strip_hub.specs.declared.source.Source.{Source}
-use Rattle.strip_hub.specs.declared.source.Source.TheVariants.{Counter, Gathers, Takes}
-use Rattle.strip_hub.specs.Source.{AreTasks, SourceHome, source_home, taken_by}
-use Rattle.strip_hub.specs.Source.SourceHome.{NoHome, OfCounter, OfGatherer, OfQueues}
 use Rattle.strip_steal.proofs.Handed.{handed-same}
+use Rattle.strip_crew.specs.declared.source.Source.{Source}
+use Rattle.strip_crew.specs.declared.source.Source.TheVariants.{Counter, Gathers, Takes}
+use Rattle.strip_crew.specs.Source.{AreTasks, SourceHome, source_home, taken_by}
+use Rattle.strip_crew.specs.Source.SourceHome.{NoHome, OfCounter, OfGatherer, OfQueues}
 use Rattle.strip_crew.proofs.Done.{or_second}
 use Rattle.strip_crew.proofs.Once.{at_most_once}
 use Rattle.strip_crew.proofs.Parted.{is_counter}

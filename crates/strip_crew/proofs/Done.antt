@@ -12,9 +12,9 @@ use Rattle.strip_book.specs.declared.pass.BookPass.{BookPass}
 use Rattle.strip_book.specs.View.{ViewData}
 use Rattle.strip_book.specs.Pass.{TableData, table_of}
 use Rattle.strip_front.specs.Front.{FrontData}
-use Rattle.strip_hub.specs.declared.asked.Asked.{Asked}
-use Rattle.strip_hub.specs.declared.source.Source.{Source}
-use Rattle.strip_hub.specs.Hub.{IsHub, hand_of}
+use Rattle.strip_crew.specs.declared.asked.Asked.{Asked}
+use Rattle.strip_crew.specs.declared.source.Source.{Source}
+use Rattle.strip_crew.specs.Hub.{IsHub, hand_of}
 use Rattle.strip_worker.specs.Team.{GoesOn, HasWorked}
 use Rattle.strip_worker.proofs.Moved.{goes_then, moved_same}
 

@@ -11,10 +11,10 @@ use Rattle.strip_least.specs.Steps.{AreOnce, joined as least_joined, lightened a
 use Rattle.strip_book.specs.View.{EntryData, ViewData, parts_of, record_at}
 use Rattle.strip_book.specs.Pass.{Joins}
 use Rattle.strip_book.specs.Steps.{lightened, split_off}
-use Rattle.strip_hub.specs.declared.source.Source.{Source}
-use Rattle.strip_hub.specs.Source.{IsSource, taken_by}
-use Rattle.strip_hub.specs.Hub.{GoTogether, hand_of}
 use Rattle.strip_worker.specs.Team.{TakesOver}
+use Rattle.strip_crew.specs.declared.source.Source.{Source}
+use Rattle.strip_crew.specs.Source.{IsSource, taken_by}
+use Rattle.strip_crew.specs.Hub.{GoTogether, hand_of}
 use Rattle.strip_crew.specs.Sources.{JoinsSource, Splits}
 
 module _ (source part after : Source) (told : LeastView) (lines : ViewData) (together : GoTogether source told lines) (splits : Splits source part after) where

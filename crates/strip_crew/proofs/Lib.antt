@@ -1,3 +1,5 @@
+pub mod Acting
+pub mod Drawn
 pub mod Joined
 pub mod Settled
 pub mod Done

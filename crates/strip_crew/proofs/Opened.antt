@@ -16,8 +16,8 @@ use Rattle.strip_book.specs.declared.book.Book.{Book}
 use Rattle.strip_book.specs.declared.pass.BookPass.{BookPass}
 use Rattle.strip_book.specs.Pass.{IsFirst as IsFirstBook, known}
 use Rattle.strip_book.specs.View.{ViewData}
-use Rattle.strip_hub.specs.declared.source.Source.TheVariants.{Counter}
-use Rattle.strip_hub.specs.Hub.{GoTogether, IsSearch}
+use Rattle.strip_crew.specs.declared.source.Source.TheVariants.{Counter}
+use Rattle.strip_crew.specs.Hub.{GoTogether, IsSearch}
 use Rattle.strip_crew.specs.Race.{MayBegin}
 
 module _ (kind : Kind) (film : FilmData) (start : PathData) (cap : ℕ) (tasks : List PathData) (front : FrontData)

@@ -2,10 +2,10 @@
 use Rattle.std.proofs.Common.{◌≡◌, ℕ, Bool, true, refl, sym, ap, subst, arith}
 use Rattle.strip_steal.specs.declared.queues.Pool.{Pool}
 use Rattle.strip_steal.specs.Taker.{IsPool}
-use Rattle.strip_hub.specs.declared.source.Source.{Source}
-use Rattle.strip_hub.specs.declared.source.Source.TheVariants.{Counter, Gathers, Takes}
-use Rattle.strip_hub.specs.Source.{SourceHome, has_ended, source_home}
-use Rattle.strip_hub.specs.Source.SourceHome.{NoHome, OfCounter, OfGatherer, OfQueues}
+use Rattle.strip_crew.specs.declared.source.Source.{Source}
+use Rattle.strip_crew.specs.declared.source.Source.TheVariants.{Counter, Gathers, Takes}
+use Rattle.strip_crew.specs.Source.{SourceHome, has_ended, source_home}
+use Rattle.strip_crew.specs.Source.SourceHome.{NoHome, OfCounter, OfGatherer, OfQueues}
 use Rattle.strip_crew.specs.Sources.{Bears, IsWorkers, NoneLeft}
 
 -- homes by their kind

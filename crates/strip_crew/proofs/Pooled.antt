@@ -13,10 +13,10 @@ use Rattle.strip_book.specs.Pass.{known}
 use Rattle.strip_steal.specs.declared.queues.Pool.{Pool}
 use Rattle.strip_steal.specs.Rule.{full_weight}
 use Rattle.strip_steal.specs.Taker.{AreDealt, IsPool, handed_in, pool_queues, pool_shares, taken_in}
-use Rattle.strip_hub.specs.declared.hub.HubParts.{HubParts}
-use Rattle.strip_hub.specs.declared.source.Source.{Source}
-use Rattle.strip_hub.specs.declared.source.Source.TheVariants.{Counter, Gathers}
-use Rattle.strip_hub.specs.Source.{taken_by}
+use Rattle.strip_crew.specs.declared.hub.HubParts.{HubParts}
+use Rattle.strip_crew.specs.declared.source.Source.{Source}
+use Rattle.strip_crew.specs.declared.source.Source.TheVariants.{Counter, Gathers}
+use Rattle.strip_crew.specs.Source.{taken_by}
 use Rattle.strip_crew.specs.Crew.{ArePassesOf, shown}
 use Rattle.strip_crew.specs.Sources.{Deals, split_home}
 use Rattle.strip_crew.specs.Race.{ArePartsOf, IsReady}

@@ -23,10 +23,10 @@ use Rattle.strip_least.specs.Pass.{known as known_least}
 use Rattle.strip_book.specs.declared.book.Book.{Book}
 use Rattle.strip_book.specs.declared.pass.BookPass.{BookPass}
 use Rattle.strip_steal.specs.Taker.{handed_in, pool_shares, taken_in}
-use Rattle.strip_hub.specs.declared.source.Source.{Source}
-use Rattle.strip_hub.specs.declared.source.Source.TheVariants.{Counter, Gathers, Takes}
-use Rattle.strip_hub.specs.Source.{IsSource, taken_by}
-use Rattle.strip_hub.specs.Hub.{GoTogether, IsHub, hand_of}
+use Rattle.strip_crew.specs.declared.source.Source.{Source}
+use Rattle.strip_crew.specs.declared.source.Source.TheVariants.{Counter, Gathers, Takes}
+use Rattle.strip_crew.specs.Source.{IsSource, taken_by}
+use Rattle.strip_crew.specs.Hub.{GoTogether, IsHub, hand_of}
 use Rattle.strip_crew.specs.Sources.{Bears, NoneLeft}
 use Rattle.strip_worker.specs.Closed.{AreCountedBy, HasAll}
 use Rattle.strip_worker.specs.Team.{GoesOn}

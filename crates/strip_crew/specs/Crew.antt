@@ -8,14 +8,14 @@ use Rattle.strip_least.specs.Rule.{full_weight}
 use Rattle.strip_least.specs.Pass.{known as known_least}
 use Rattle.strip_book.specs.declared.book.Book.{Book}
 use Rattle.strip_book.specs.Pass.{known, table_of}
-use Rattle.strip_hub.specs.declared.hub.HubParts.{HubParts}
-use Rattle.strip_hub.specs.Hub.{IsHub, hand_of}
 use Rattle.strip_memo.specs.Memo.{IsMemo}
 use Rattle.strip_front.specs.Front.{FrontData}
 use Rattle.strip_worker.specs.declared.walked.Walked.{Walked}
 use Rattle.strip_worker.specs.Closed.{AreCountedBy, HasAll}
 use Rattle.strip_worker.specs.Team.{GoesOn, HasWorked, IsFresh}
-use Rattle.strip_hub.specs.Source.{SourceHome, source_home}
+use Rattle.strip_crew.specs.declared.hub.HubParts.{HubParts}
+use Rattle.strip_crew.specs.Hub.{IsHub, hand_of}
+use Rattle.strip_crew.specs.Source.{SourceHome, source_home}
 use Rattle.strip_crew.specs.declared.job.Job.{Job}
 use Rattle.strip_crew.specs.Sources.{Bears, Deals, IsWorkers, NoneLeft, split_home}
 

@@ -1,3 +1,5 @@
+pub mod Source
+pub mod Hub
 pub mod Sources
 pub mod Crew
 pub mod Race

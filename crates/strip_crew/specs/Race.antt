@@ -12,12 +12,12 @@ use Rattle.strip_least.specs.Pass.{best_path, known as known_least}
 use Rattle.strip_least.specs.Rule.{full_weight, once_below, times}
 use Rattle.strip_book.specs.declared.book.Book.{Book}
 use Rattle.strip_book.specs.Pass.{known}
-use Rattle.strip_hub.specs.declared.hub.HubParts.{HubParts}
-use Rattle.strip_hub.specs.declared.source.Source.TheVariants.{Counter}
 use Rattle.strip_worker.specs.declared.walked.Walked.{Walked}
 use Rattle.strip_worker.specs.Closed.{IsClosed}
 use Rattle.strip_worker.specs.Team.{GoesOn, HasWorked}
-use Rattle.strip_hub.specs.Source.{AreTasks}
+use Rattle.strip_crew.specs.declared.hub.HubParts.{HubParts}
+use Rattle.strip_crew.specs.declared.source.Source.TheVariants.{Counter}
+use Rattle.strip_crew.specs.Source.{AreTasks}
 use Rattle.strip_crew.specs.declared.racing.Opening.{Opening}
 use Rattle.strip_crew.specs.Crew.{ArePassesOf, Weigh, shown}
 use Rattle.strip_crew.specs.Sources.{Deals, split_home}

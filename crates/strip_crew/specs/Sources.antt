@@ -3,10 +3,10 @@ use Rattle.std.specs.Prelude.{◌≡◌, ⊤, ℕ, suc, ◌+◌, ◌<◌, ◌≤
 use Rattle.strip_least.specs.Rule.{times}
 use Rattle.strip_steal.specs.Rule.{full_weight}
 use Rattle.strip_steal.specs.Taker.{IsPool, handed_in, have_ended, pool_queues, pool_shares, puts, taken_in, taker_shares}
-use Rattle.strip_hub.specs.declared.source.Source.{Source}
-use Rattle.strip_hub.specs.declared.source.Source.TheVariants.{Counter, Gathers, Takes}
-use Rattle.strip_hub.specs.Source.{IsSource, SourceHome, has_ended, source_home, taken_by}
-use Rattle.strip_hub.specs.Source.SourceHome.{NoHome, OfCounter, OfGatherer, OfQueues}
+use Rattle.strip_crew.specs.declared.source.Source.{Source}
+use Rattle.strip_crew.specs.declared.source.Source.TheVariants.{Counter, Gathers, Takes}
+use Rattle.strip_crew.specs.Source.{IsSource, SourceHome, has_ended, source_home, taken_by}
+use Rattle.strip_crew.specs.Source.SourceHome.{NoHome, OfCounter, OfGatherer, OfQueues}
 
 -- which source those have who work beside one with this source
 abbrev pub split_home : Source → SourceHome

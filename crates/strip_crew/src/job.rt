@@ -1,5 +1,5 @@
 // A worker's job.
-use strip_hub::HubParts;
+use crate::hub::HubParts;
 use strip_memo::Memo;
 use strip_worker::Walked;
 

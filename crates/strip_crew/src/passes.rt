@@ -4,17 +4,17 @@ ghost use Rattle.strip_hand.specs.Hand.{IsHand};
 ghost use Rattle.strip_least.specs.Pass.{best_path, known as known_least};
 ghost use Rattle.strip_least.specs.Rule.{full_weight};
 ghost use Rattle.strip_worker.specs.Team.{TakesOver};
-ghost use Rattle.strip_hub.specs.Source.{source_home};
+ghost use Rattle.strip_crew.specs.Source.{source_home};
 ghost use Rattle.strip_crew.specs.Sources.{Deals, split_home};
 ghost use Rattle.strip_crew.specs.Crew.{ArePassesOf, AreSettled, HasSplit, NoPartLeft, Weigh, shown};
 
+use crate::hub::HubParts;
 use crate::sources::{join_source, split_source};
 use std::alloc::Global;
 use strip_book::Book;
 use strip_book::laws::{
     entries_are_records, lines_of_entries_are_counted, other_parts_have_no_record,
 };
-use strip_hub::HubParts;
 use strip_io::Memory;
 use strip_least::Least;
 

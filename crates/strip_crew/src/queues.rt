@@ -4,10 +4,11 @@ ghost use Rattle.strip_front.specs.Shown.{front_data};
 ghost use Rattle.strip_crew.specs.Crew.{ArePassesOf, shown};
 ghost use Rattle.strip_crew.specs.Race.{ArePartsOf, HasOnlyFront, IsReady, part_if, parts_where};
 
+use crate::hub::HubParts;
+use crate::source::{Gatherer, Source};
 use std::alloc::Global;
 use strip_book::Book;
 use strip_front::Front;
-use strip_hub::{Gatherer, HubParts, Source};
 use strip_io::Memory;
 use strip_least::Least;
 use strip_steal::pool;

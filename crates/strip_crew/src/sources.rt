@@ -1,11 +1,11 @@
 // Sources from which the workers take their parts: a counter or queues.
 ghost use Rattle.std.specs.Prelude.{◌≡◌, ℕ, suc, List, IfOk};
-ghost use Rattle.strip_hub.specs.declared.source.Source.TheVariants.{Gathers};
-ghost use Rattle.strip_hub.specs.Source.{IsSource, source_home};
+ghost use Rattle.strip_crew.specs.declared.source.Source.TheVariants.{Gathers};
+ghost use Rattle.strip_crew.specs.Source.{IsSource, source_home};
 ghost use Rattle.strip_crew.specs.Sources.{Bears, Deals, JoinsSource, Splits, split_home};
 
+use crate::source::{Gatherer, Source};
 use std::alloc::Global;
-use strip_hub::{Gatherer, Source};
 use strip_io::Memory;
 
 /// Makes the source of a further worker, at this desk.

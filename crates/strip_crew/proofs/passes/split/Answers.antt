@@ -7,7 +7,7 @@ use Rattle.strip_least.specs.Steps.{lightened as least_lightened}
 use Rattle.strip_book.specs.View.{ViewData, record_at}
 use Rattle.strip_book.specs.Pass.{known}
 use Rattle.strip_book.specs.Steps.{lightened, split_off}
-use Rattle.strip_hub.specs.Hub.{GoTogether, IsSearch, hand_of}
+use Rattle.strip_crew.specs.Hub.{GoTogether, IsSearch, hand_of}
 use Rattle.strip_crew.proofs.Joined.{fresh_together, light_together}
 use Rattle.strip_crew.proofs.passes.split.Goals as goal
 

@@ -10,13 +10,13 @@ use Rattle.strip_least.specs.Rule.{full_weight}
 use Rattle.strip_book.specs.declared.pass.BookPass.{BookPass}
 use Rattle.strip_book.specs.Pass.{known}
 use Rattle.strip_book.specs.View.{record_at}
-use Rattle.strip_hub.specs.declared.hub.HubParts.{HubParts}
-use Rattle.strip_hub.specs.declared.source.Source.TheVariants.{Counter}
-use Rattle.strip_hub.specs.Source.{source_home}
-use Rattle.strip_hub.specs.Hub.{HubHome, hand_of}
 use Rattle.strip_worker.specs.Team.{GoesOn, HasFront, OwnsFront}
 use Rattle.strip_worker.proofs.Counted.{front_has_all}
 use Rattle.strip_worker.proofs.Moved.{moved_same}
+use Rattle.strip_crew.specs.declared.hub.HubParts.{HubParts}
+use Rattle.strip_crew.specs.declared.source.Source.TheVariants.{Counter}
+use Rattle.strip_crew.specs.Source.{source_home}
+use Rattle.strip_crew.specs.Hub.{HubHome, hand_of}
 use Rattle.strip_crew.specs.Crew.{Weigh, shown}
 use Rattle.strip_crew.specs.Sources.{Bears}
 use Rattle.strip_crew.proofs.Begun.{claim_stays, claimed_front, front_alone, nothing_claimed, owns_before}

@@ -7,11 +7,11 @@ use Rattle.strip_least.specs.Pass.{known as known_least}
 use Rattle.strip_least.specs.Rule.{full_weight}
 use Rattle.strip_book.specs.declared.pass.BookPass.{BookPass}
 use Rattle.strip_book.specs.Pass.{known}
-use Rattle.strip_hub.specs.declared.hub.HubParts.{HubParts}
-use Rattle.strip_hub.specs.Source.{source_home}
-use Rattle.strip_hub.specs.Hub.{HubHome, hand_of}
 use Rattle.strip_worker.specs.Team.{GoesOn, HasWorkedOn}
 use Rattle.strip_worker.proofs.Moved.{moved_same}
+use Rattle.strip_crew.specs.declared.hub.HubParts.{HubParts}
+use Rattle.strip_crew.specs.Source.{source_home}
+use Rattle.strip_crew.specs.Hub.{HubHome, hand_of}
 use Rattle.strip_crew.specs.Crew.{Weigh, shown}
 use Rattle.strip_crew.proofs.Done.{goes_from_unasked}
 use Rattle.strip_crew.proofs.Parted.{bears_still}

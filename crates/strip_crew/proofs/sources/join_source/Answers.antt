@@ -1,5 +1,5 @@
 use Rattle.std.proofs.Common.{◌∙◌, ap, sym, subst}
-use Rattle.strip_hub.specs.declared.source.Source.{Source}
+use Rattle.strip_crew.specs.declared.source.Source.{Source}
 use Rattle.strip_crew.specs.Sources.{JoinsSource, split_home}
 use Rattle.strip_crew.proofs.Dealt.{counter_joins}
 use Rattle.strip_crew.proofs.sources.join_source.Goals as goal

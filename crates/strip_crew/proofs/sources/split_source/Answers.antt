@@ -1,6 +1,6 @@
 use Rattle.std.proofs.Common.{suc, sym, subst}
-use Rattle.strip_hub.specs.declared.source.Source.{Source}
-use Rattle.strip_hub.specs.declared.source.Source.TheVariants.{Gathers, Takes}
+use Rattle.strip_crew.specs.declared.source.Source.{Source}
+use Rattle.strip_crew.specs.declared.source.Source.TheVariants.{Gathers, Takes}
 use Rattle.strip_crew.specs.Sources.{Bears, Splits}
 use Rattle.strip_crew.proofs.Dealt.{pool_splits}
 use Rattle.strip_crew.proofs.sources.split_source.Goals as goal

@@ -5,10 +5,10 @@ use Rattle.strip_least.specs.declared.pass.LeastPass.{LeastPass}
 use Rattle.strip_least.specs.Pass.{known as known_least}
 use Rattle.strip_book.specs.declared.pass.BookPass.{BookPass}
 use Rattle.strip_book.specs.Pass.{known}
-use Rattle.strip_hub.specs.declared.hub.HubParts.{HubParts}
-use Rattle.strip_hub.specs.Source.{source_home}
-use Rattle.strip_hub.specs.Hub.{HubHome, hand_of}
 use Rattle.strip_worker.specs.Team.{GoesOn, HasWorked}
+use Rattle.strip_crew.specs.declared.hub.HubParts.{HubParts}
+use Rattle.strip_crew.specs.Source.{source_home}
+use Rattle.strip_crew.specs.Hub.{HubHome, hand_of}
 use Rattle.strip_crew.specs.Crew.{NoPartLeft, shown}
 use Rattle.strip_crew.proofs.Done.{goes_unasked, hub_is, unasked}
 use Rattle.strip_crew.proofs.Parted.{bears_still, none_left, workers_still}

@@ -3,8 +3,8 @@ use Rattle.strip_io.specs.declared.files.Memory.{Memory}
 use Rattle.strip_front.specs.Shown.{front_data}
 use Rattle.strip_hand.specs.Hand.{HandData}
 use Rattle.strip_memo.specs.Memo.{IsMemo}
-use Rattle.strip_hub.specs.Source.{SourceHome}
 use Rattle.strip_worker.specs.Team.{GoesOn, HasWorked}
+use Rattle.strip_crew.specs.Source.{SourceHome}
 use Rattle.strip_crew.specs.declared.job.Job.{Job}
 use Rattle.strip_crew.specs.Crew.{IsDone, IsJob, Weigh, shown}
 use Rattle.strip_crew.proofs.Done.{all_before, all_last, goes_after, goes_self}

@@ -4,9 +4,9 @@ use Rattle.strip_least.specs.Pass.{known as known_least}
 use Rattle.strip_book.specs.View.{ViewData}
 use Rattle.strip_book.specs.Pass.{known}
 use Rattle.strip_book.specs.Steps.{lightened, split_off}
-use Rattle.strip_hub.specs.declared.source.Source.{Source}
-use Rattle.strip_hub.specs.declared.source.Source.TheVariants.{Counter}
-use Rattle.strip_hub.specs.Hub.{GoTogether}
+use Rattle.strip_crew.specs.declared.source.Source.{Source}
+use Rattle.strip_crew.specs.declared.source.Source.TheVariants.{Counter}
+use Rattle.strip_crew.specs.Hub.{GoTogether}
 use Rattle.strip_crew.proofs.Dealt.{counter_splits}
 use Rattle.strip_crew.proofs.Joined.{fresh_together, light_together}
 use Rattle.test_workers.proofs.hubs.share.Goals as goal

@@ -2,8 +2,8 @@ use Rattle.std.proofs.Common.{ap}
 use Rattle.strip_least.specs.Pass.{known as known_least}
 use Rattle.strip_book.specs.View.{parts_of}
 use Rattle.strip_book.specs.Pass.{known}
-use Rattle.strip_hub.proofs.Acting.{lines_together, search_still}
-use Rattle.strip_hub.proofs.calls.HubHand.probe.Goals as goal
+use Rattle.strip_crew.proofs.Acting.{lines_together, search_still}
+use Rattle.strip_crew.proofs.calls.HubHand.probe.Goals as goal
 
 pub returns-clause-sound : goal.returns-clause-sound
 returns-clause-sound g c =

@@ -1,7 +1,7 @@
 use Rattle.strip_least.specs.Pass.{known as known_least}
 use Rattle.strip_book.specs.Pass.{known}
-use Rattle.strip_hub.proofs.Acting.{looks, looks_together}
-use Rattle.strip_hub.proofs.calls.HubHand.look.Goals as goal
+use Rattle.strip_crew.proofs.Acting.{looks, looks_together}
+use Rattle.strip_crew.proofs.calls.HubHand.look.Goals as goal
 
 pub returns-clause-told : goal.returns-clause-told
 returns-clause-told g c =

@@ -7,8 +7,8 @@ ghost use Rattle.strip_hand.specs.Calls.{Claims, Enlists, MayEnlist, MayRaise, N
 ghost use Rattle.strip_hand.specs.Hand.{IsHand, Knows};
 ghost use Rattle.strip_least.specs.Pass.{Claims as ClaimsNext, known as known_least};
 ghost use Rattle.strip_book.specs.Pass.{known};
-ghost use Rattle.strip_hub.specs.declared.source.Source.TheVariants.{Counter};
-ghost use Rattle.strip_hub.specs.Hub.{HubHome, IsHub, hand_of, home_of};
+ghost use Rattle.strip_crew.specs.declared.source.Source.TheVariants.{Counter};
+ghost use Rattle.strip_crew.specs.Hub.{HubHome, IsHub, hand_of, home_of};
 
 use crate::asked::Asked;
 use crate::hub::Hub;

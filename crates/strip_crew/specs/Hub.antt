@@ -15,9 +15,9 @@ use Rattle.strip_book.specs.declared.book.Book.{Book}
 use Rattle.strip_book.specs.declared.pass.BookPass.{BookPass}
 use Rattle.strip_book.specs.View.{ViewData, parts_of, record_at}
 use Rattle.strip_book.specs.Pass.{IsPassOf as IsBookPassOf, TableData, known, table_of}
-use Rattle.strip_hub.specs.declared.asked.Asked.{Asked}
-use Rattle.strip_hub.specs.declared.source.Source.{Source}
-use Rattle.strip_hub.specs.Source.{IsSource, SourceHome, has_ended, source_home, taken_by}
+use Rattle.strip_crew.specs.declared.asked.Asked.{Asked}
+use Rattle.strip_crew.specs.declared.source.Source.{Source}
+use Rattle.strip_crew.specs.Source.{IsSource, SourceHome, has_ended, source_home, taken_by}
 
 abbrev pub probe_data : Asked → ProbeData
 probe_data asked = record { set = asked.set; answer = asked.answer }

@@ -19,10 +19,10 @@ use Rattle.strip_least.specs.Rule.{times}
 use Rattle.strip_least.specs.Steps.{AreOnce, HasLooked, HasOffered}
 use Rattle.strip_book.specs.View.{EntryData, ViewData, new_entry, parts_of, record_at}
 use Rattle.strip_book.specs.Pass.{Begins, Enlists as BookEnlists, MayBegin, MayEnlist as MayEnlistIn}
-use Rattle.strip_hub.specs.declared.asked.Asked.{Asked}
-use Rattle.strip_hub.specs.declared.source.Source.{Source}
-use Rattle.strip_hub.specs.Source.{DrawsNone, DrawsPart, IsSource}
-use Rattle.strip_hub.specs.Hub.{GoTogether, IsSearch, hand_of}
+use Rattle.strip_crew.specs.declared.asked.Asked.{Asked}
+use Rattle.strip_crew.specs.declared.source.Source.{Source}
+use Rattle.strip_crew.specs.Source.{DrawsNone, DrawsPart, IsSource}
+use Rattle.strip_crew.specs.Hub.{GoTogether, IsSearch, hand_of}
 
 module _ (source : Source) (told : LeastView) (lines : ViewData) (asked : Option Asked) (noted : Option Known) (together : GoTogether source told lines) where
   -- what is known of costs of the one film is known of those of the other

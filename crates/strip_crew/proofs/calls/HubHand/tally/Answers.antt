@@ -1,6 +1,6 @@
 use Rattle.std.proofs.Common.{◌∙◌, ap, arith, sym}
 use Rattle.strip_hand.specs.Search.{SearchData}
-use Rattle.strip_hub.proofs.calls.HubHand.tally.Goals as goal
+use Rattle.strip_crew.proofs.calls.HubHand.tally.Goals as goal
 
 pub returns-clause-lines : goal.returns-clause-lines
 returns-clause-lines g c = omega (arith, c.peek-lines.ensures, c.cap-most.ensures)

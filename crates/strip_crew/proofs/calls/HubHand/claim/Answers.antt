@@ -5,11 +5,11 @@ use Rattle.strip_hand.specs.Search.{AreStarts, SearchData}
 use Rattle.strip_least.specs.declared.view.View.{View}
 use Rattle.strip_least.specs.Pass.{known as known_least}
 use Rattle.strip_book.specs.Pass.{known}
-use Rattle.strip_hub.specs.declared.source.Source.{Source}
-use Rattle.strip_hub.specs.Source.{Draws, DrawsNone, DrawsPart}
-use Rattle.strip_hub.specs.Hub.{hand_of}
-use Rattle.strip_hub.proofs.Acting.{begins_together, claims, ends, ends_together, may_begin}
-use Rattle.strip_hub.proofs.calls.HubHand.claim.Goals as goal
+use Rattle.strip_crew.specs.declared.source.Source.{Source}
+use Rattle.strip_crew.specs.Source.{Draws, DrawsNone, DrawsPart}
+use Rattle.strip_crew.specs.Hub.{hand_of}
+use Rattle.strip_crew.proofs.Acting.{begins_together, claims, ends, ends_together, may_begin}
+use Rattle.strip_crew.proofs.calls.HubHand.claim.Goals as goal
 
 -- a part was given, where that is what the source answered
 drawn_as : (source after_source : Source) (told after : View) (answer : Option ℕ) (part : ℕ) → answer ≡ Some part → Draws source told answer after_source after

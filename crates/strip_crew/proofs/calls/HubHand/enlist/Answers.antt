@@ -8,9 +8,9 @@ use Rattle.strip_hand.specs.Hand.{HandData}
 use Rattle.strip_least.specs.Pass.{known as known_least}
 use Rattle.strip_book.specs.View.{ViewData, parts_of}
 use Rattle.strip_book.specs.Pass.{Enlists as BookEnlists, MayEnlist, known}
-use Rattle.strip_hub.specs.Hub.{hand_of}
-use Rattle.strip_hub.proofs.Acting.{lines_together, makes, may_enlist, search_still}
-use Rattle.strip_hub.proofs.calls.HubHand.enlist.Goals as goal
+use Rattle.strip_crew.specs.Hub.{hand_of}
+use Rattle.strip_crew.proofs.Acting.{lines_together, makes, may_enlist, search_still}
+use Rattle.strip_crew.proofs.calls.HubHand.enlist.Goals as goal
 
 pub enlist-listed-requires-clause-may : goal.enlist-listed-requires-clause-may
 enlist-listed-requires-clause-may g c =

@@ -2,7 +2,7 @@
 ghost use Rattle.std.specs.Prelude.{◌≡◌, Some, None};
 ghost use Rattle.strip_book.specs.Pass.{IsPassOf as IsBookPassOf, known, table_of};
 ghost use Rattle.strip_least.specs.Pass.{IsPassOf as IsLeastPassOf, known as known_least};
-ghost use Rattle.strip_hub.specs.Hub.{GoTogether, IsHub, IsSearch};
+ghost use Rattle.strip_crew.specs.Hub.{GoTogether, IsHub, IsSearch};
 
 use crate::asked::Asked;
 use crate::source::Source;

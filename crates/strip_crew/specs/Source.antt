@@ -6,8 +6,8 @@ use Rattle.strip_steal.specs.declared.queues.Pool.{Pool}
 use Rattle.strip_steal.specs.declared.taker.Taker.{Taker}
 use Rattle.strip_steal.specs.Seat.{QueueId}
 use Rattle.strip_steal.specs.Taker.{IsPool, IsTaker, handed_in, have_ended, pool_shares, puts, taken_in, taker_queues, taker_shares}
-use Rattle.strip_hub.specs.declared.source.Source.{Source}
-use Rattle.strip_hub.specs.declared.source.Source.TheVariants.{Counter, Gathers, Takes}
+use Rattle.strip_crew.specs.declared.source.Source.{Source}
+use Rattle.strip_crew.specs.declared.source.Source.TheVariants.{Counter, Gathers, Takes}
 
 -- the parts that a source gave or gathered, beside those that the counter gave
 abbrev pub taken_by : Source → List ℕ

@@ -8,9 +8,9 @@ use Rattle.strip_least.specs.Rule.{once_below, times}
 use Rattle.strip_steal.specs.declared.taker.Taker.{Taker}
 use Rattle.strip_steal.proofs.Handed.{handed-same}
 use Rattle.strip_steal.specs.Taker.{IsTaker, StayAt, handed_in, taken_in, taker_queues, taker_shares}
-use Rattle.strip_hub.specs.declared.source.Source.TheVariants.{Takes}
-use Rattle.strip_hub.specs.Source.{AreTasks, Draws, FindsNone, GivesPart, HasTaker}
-use Rattle.strip_hub.specs.Source.SourceHome.{OfQueues}
+use Rattle.strip_crew.specs.declared.source.Source.TheVariants.{Takes}
+use Rattle.strip_crew.specs.Source.{AreTasks, Draws, FindsNone, GivesPart, HasTaker}
+use Rattle.strip_crew.specs.Source.SourceHome.{OfQueues}
 
 by_bool : (b : Bool) (P : Bool → Type 0) → P true → P false → P b
 by_bool true P yes_ no_ = yes_

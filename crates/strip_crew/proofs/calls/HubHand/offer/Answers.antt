@@ -1,8 +1,8 @@
 use Rattle.strip_film.specs.Shown.{path_data}
 use Rattle.strip_least.specs.Pass.{known as known_least}
 use Rattle.strip_book.specs.Pass.{known}
-use Rattle.strip_hub.proofs.Acting.{offers, offers_together}
-use Rattle.strip_hub.proofs.calls.HubHand.offer.Goals as goal
+use Rattle.strip_crew.proofs.Acting.{offers, offers_together}
+use Rattle.strip_crew.proofs.calls.HubHand.offer.Goals as goal
 
 pub returns-clause-told : goal.returns-clause-told
 returns-clause-told g c =

@@ -1,10 +1,10 @@
 use Rattle.std.proofs.Common.{sym, subst}
 use Rattle.strip_least.specs.Pass.{known}
-use Rattle.strip_hub.specs.declared.source.Source.{Source}
-use Rattle.strip_hub.specs.declared.source.Source.TheVariants.{Takes}
-use Rattle.strip_hub.specs.Source.{Draws, IsSource}
-use Rattle.strip_hub.proofs.Taken.{draws}
-use Rattle.strip_hub.proofs.source.next_part.Goals as goal
+use Rattle.strip_crew.specs.declared.source.Source.{Source}
+use Rattle.strip_crew.specs.declared.source.Source.TheVariants.{Takes}
+use Rattle.strip_crew.specs.Source.{Draws, IsSource}
+use Rattle.strip_crew.proofs.Drawn.{draws}
+use Rattle.strip_crew.proofs.source.next_part.Goals as goal
 
 pub returns-in-Takes-clause-draws : goal.returns-in-Takes-clause-draws
 returns-in-Takes-clause-draws g c =

@@ -2,8 +2,8 @@
 ghost use Rattle.std.specs.Prelude.{◌≡◌, MatchOption};
 ghost use Rattle.strip_least.specs.Pass.{Claims, IsPassOf, known};
 ghost use Rattle.strip_steal.specs.Taker.{IsTaker, StayAt, taker_queues, taker_shares};
-ghost use Rattle.strip_hub.specs.Source.{Draws, FindsNone, GivesPart, IsSource};
-ghost use Rattle.strip_hub.specs.declared.source.Source.TheVariants.{Counter};
+ghost use Rattle.strip_crew.specs.Source.{Draws, FindsNone, GivesPart, IsSource};
+ghost use Rattle.strip_crew.specs.declared.source.Source.TheVariants.{Counter};
 
 use std::sync::Wait;
 use strip_least::{Least, LeastPass};
