@@ -7,3 +7,5 @@ mod TwoPlaces
 mod ByClass
 pub mod Parts
 mod Once
+pub mod Blocks
+mod Halving

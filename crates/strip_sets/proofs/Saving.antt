@@ -66,7 +66,80 @@ saves_none hold days owed first = record {
   attained = λ set small. inl refl;
 }
 
+-- ---- numbers that agree
+
+module _ (places classes : ℕ) (holds : List ℕ) (days first also_days also_first : ℕ → ℕ) (extras owed also_extras also_owed : ℕ → ℕ → ℕ)
+    (d : (set : ℕ) → set < 2 ^ places → also_days set ≡ days set) (f : (set : ℕ) → set < 2 ^ places → also_first set ≡ first set)
+    (e : (class set : ℕ) → set < 2 ^ places → also_extras class set ≡ extras class set)
+    (o : (class set : ℕ) → set < 2 ^ places → also_owed class set ≡ owed class set) where
+  fewer : (set place : ℕ) → set < 2 ^ places → has set place ≡ true → without set place < 2 ^ places
+  fewer set place lt there = (let less : without set place < set = without_less set place there in omega (arith, less, lt))
+
+  pub room_agrees : (limit : ℕ) → SavingRoom places classes limit holds days extras owed first → SavingRoom places classes limit holds also_days also_extras also_owed also_first
+  room_agrees limit room = record {
+    rise = λ set place lt there. omega (arith, room.rise set place lt there, d set lt, d (without set place) (fewer set place lt there));
+    rise_owed = λ class set place known lt there. omega (
+      arith,
+      room.rise_owed class set place known lt there,
+      o class set lt,
+      o class (without set place) (fewer set place lt there),
+    );
+    base = room.base;
+    begun = λ set lt. omega (arith, room.begun set lt, f set lt, ap (λ (n : ℕ). sum_over holds set * n) (d set lt));
+    fits = λ set lt. omega (arith, room.fits set lt, ap (λ (n : ℕ). sum_over holds set * n) (d set lt));
+    floor = room.floor;
+    covered = λ set lt. omega (arith, room.covered set lt, totals_same classes extras owed also_extras also_owed set set (λ class. e class set lt) (λ class. o class set lt));
+    low = λ set lt. omega (arith, room.low set lt, f set lt);
+  }
+
+  debt_agrees : (set place : ℕ) → set < 2 ^ places → has set place ≡ true
+      → owes classes also_extras also_owed set (without set place) ≡ owes classes extras owed set (without set place)
+  debt_agrees set place lt there = owes_same classes extras owed (λ class _. owed class (without set place)) also_extras also_owed
+      (λ class _. also_owed class (without set place)) set set (λ class. e class set lt) (λ class. o class set lt)
+      (λ class. o class (without set place) (fewer set place lt there))
+
+  pub saves_agree : (most also_most : ℕ → ℕ) → ((set : ℕ) → set < 2 ^ places → also_most set ≡ most set)
+      → Saves places (slice_index holds) days (owes classes extras owed) first most
+      → Saves places (slice_index holds) also_days (owes classes also_extras also_owed) also_first also_most
+  saves_agree most also_most m saves = record {
+    kept = λ set lt. omega (arith, saves.kept set lt, f set lt, m set lt);
+    higher = λ set place lt there. omega (
+      arith,
+      saves.higher set place lt there,
+      m set lt,
+      m (without set place) (fewer set place lt there),
+      ap (λ (n : ℕ). slice_index holds place * n) (d (without set place) (fewer set place lt there)),
+      debt_agrees set place lt there,
+    );
+    attained = λ set lt. elim (saves.attained set lt) [
+      | inl begun ↦ inl (omega (arith, begun, f set lt, m set lt))
+      | inr step ↦ inr (
+        step.0,
+        step.1,
+        omega (
+          arith,
+          step.2,
+          m set lt,
+          m (without set step.0) (fewer set step.0 lt step.1),
+          ap (λ (n : ℕ). slice_index holds step.0 * n) (d (without set step.0) (fewer set step.0 lt step.1)),
+          debt_agrees set step.0 lt step.1,
+        ),
+      )
+    ];
+  }
+
 -- ---- by halves
+
+-- numbers of sets, by those of the sets without a place and of those with it
+pub record IsSplit (n : ℕ) (all out within : ℕ → ℕ) : Type 0 where
+  pub low : (set : ℕ) → set < 2 ^ n → out set ≡ all set
+  pub high : (set : ℕ) → set < 2 ^ n → within set ≡ all (with set n)
+
+pub split_agrees : (n : ℕ) (all out within : ℕ → ℕ) → IsSplit n all out within → (set : ℕ) → set < 2 ^ suc n → halves n out within set ≡ all set
+split_agrees n all out within split set small = elim (cases_Bool (has set n)) [
+  | inl there ↦ halves_with n out within set there ∙ split.high (without set n) (without_top n set small) ∙ ap all (with-without set n there)
+  | inr missing ↦ halves_out n out within set missing ∙ split.low set (below_top n set small missing)
+]
 
 -- numbers of classes, by those of the sets without a place and of those with it
 pub record AreParts (n : ℕ) (all out within : ℕ → ℕ → ℕ) : Type 0 where

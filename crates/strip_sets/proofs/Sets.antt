@@ -156,7 +156,7 @@ pub sum_most : (numbers : List ℕ) (n set : ℕ) → set < 2 ^ n → sum_over n
 sum_most numbers n set small = sum_over_mono numbers set (full n) (λ i there. has_full n i (below_width set n i small there))
 
 -- 1 shifted by the number of places
-pub one_shifted : (n shift : ℕ) → shift ≡ n → suc n ≤ 10 → 1 * 2 ^ shift % 18446744073709551616 ≡ 2 ^ n
+pub one_shifted : (n shift : ℕ) → shift ≡ n → n ≤ 10 → 1 * 2 ^ shift % 18446744073709551616 ≡ 2 ^ n
 one_shifted n shift is few =
     let small : 2 ^ shift < 2 ^ 64 = pow_below shift 64 (omega (arith, is, few)) in
     let one : 1 * 2 ^ shift ≡ 2 ^ shift = omega arith in

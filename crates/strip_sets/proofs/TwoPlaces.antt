@@ -7,8 +7,7 @@ use Rattle.strip_mask.proofs.ByMembers.{empty_has}
 use Rattle.strip_sets.specs.Numbers.{AreLanes, CanStep, RaisedByFirst, RaisedBySecond, step_by, step_from, step_to, stepped}
 use Rattle.strip_sets.specs.Saving.{Saves, SavingRoom, owes}
 use Rattle.strip_sets.proofs.FourSets.{both_without_first, both_without_second, by_four, full_two, has_these, lacks, sum_both, sum_first, sum_second, two, without_first, without_second}
-use Rattle.strip_sets.proofs.Owed.{owes_same, totals_same}
-use Rattle.strip_sets.proofs.Saving.{greater, owed_most, step_most}
+use Rattle.strip_sets.proofs.Saving.{room_agrees, saves_agree, greater, owed_most, step_most}
 use Rattle.strip_sets.proofs.Vectors.{low_product, product_at, products_fit}
 use lib.Lanes.{Each2, zip2}
 
@@ -267,28 +266,10 @@ module _ (places classes : ℕ) (holds : List ℕ) (days : ℕ → ℕ) (extras 
     (o : (class set : ℕ) → also_owed class set ≡ owed class set) where
   pub saves_same : (first most : ℕ → ℕ) → Saves places (slice_index holds) days (owes classes also_extras also_owed) first most
       → Saves places (slice_index holds) days (owes classes extras owed) first most
-  saves_same first most saves = record {
-    kept = saves.kept;
-    higher = λ set place lt there. omega (arith, saves.higher set place lt there, same set (without set place));
-    attained = λ set lt. elim (saves.attained set lt) [
-      | inl begun ↦ inl begun
-      | inr step ↦ inr (step.0, step.1, omega (arith, step.2, same set (without set step.0)))
-    ];
-  }
-    where
-      same : (set before : ℕ) → owes classes also_extras also_owed set before ≡ owes classes extras owed set before
-      same set before = owes_same classes extras owed (λ class _. owed class before) also_extras also_owed (λ class _. also_owed class before) set set
-          (λ class. e class set) (λ class. o class set) (λ class. o class before)
+  saves_same first most = saves_agree places classes holds days first days first also_extras also_owed extras owed (λ set lt. refl) (λ set lt. refl)
+      (λ class set lt. sym (e class set)) (λ class set lt. sym (o class set)) most most (λ set lt. refl)
 
   pub room_same : (limit : ℕ) (first : ℕ → ℕ) → SavingRoom places classes limit holds days extras owed first
       → SavingRoom places classes limit holds days also_extras also_owed first
-  room_same limit first room = record {
-    rise = room.rise;
-    rise_owed = λ class set place known lt there. omega (arith, room.rise_owed class set place known lt there, o class set, o class (without set place));
-    base = room.base;
-    begun = room.begun;
-    fits = room.fits;
-    floor = room.floor;
-    covered = λ set lt. omega (arith, room.covered set lt, totals_same classes extras owed also_extras also_owed set set (λ class. e class set) (λ class. o class set));
-    low = room.low;
-  }
+  room_same limit first = room_agrees places classes holds days first days first extras owed also_extras also_owed (λ set lt. refl) (λ set lt. refl)
+      (λ class set lt. e class set) (λ class set lt. o class set) limit

@@ -1,5 +1,5 @@
 -- A number for each set of a few places, in lanes and by halves.
-use Rattle.std.specs.Prelude.{◌≡◌, ℕ, zero, suc, ◌+◌, ◌^◌, ◌<◌, ◌-◌, ◌≤◌, Bool, cond, max, List, [], ◌∷◌, length, slice_index}
+use Rattle.std.specs.Prelude.{◌≡◌, ℕ, zero, suc, ◌+◌, ◌^◌, ◌<◌, ◌-◌, ◌≤◌, ◌/◌, ◌%◌, Bool, cond, max, List, [], ◌∷◌, length, map, slice_index}
 use Rattle.strip_mask.specs.Set.{has, with, without}
 use Rattle.strip_sets.specs.declared.terms.Classes.{Classes}
 
@@ -10,6 +10,14 @@ AreLanes numbers = length numbers ≡ 4
 -- the numbers of the sets without a place and of those with it, as those of all sets
 abbrev pub halves : ℕ → (ℕ → ℕ) → (ℕ → ℕ) → ℕ → ℕ
 halves place without_it with_it set = cond {A = ℕ} (has set place) (with_it (without set place)) (without_it set)
+
+-- the number of a set of the first places, within a block of a list
+abbrev pub in_block : {B : Type 0} → (B → ℕ → ℕ) → List B → ℕ → ℕ → ℕ
+in_block value blocks block set = slice_index (map (λ one. value one set) blocks) block
+
+-- the number of a set of any places: its higher places tell the block, the first ones the set within it
+abbrev pub number : {B : Type 0} → (B → ℕ → ℕ) → ℕ → List B → ℕ → ℕ
+number value places blocks set = in_block value blocks (set / 2 ^ places) (set % 2 ^ places)
 
 -- the sum of the numbers of the subsets, those of the first places alone and those with each place more
 abbrev pub sum_within : ℕ → (ℕ → ℕ) → ℕ → ℕ

@@ -1,15 +1,15 @@
-//! Tables with a number for each subset of up to ten places, and vector operations on whole tables: subset sums, and
-//! the pass of a dynamic program over all subsets, four subsets at a time. A law (`laws`) is a function that does
-//! nothing when it runs: its contract is a theorem that a caller obtains by calling it.
+//! Tables with a number for each subset of up to ten places, as slices of blocks of a few places each, and vector
+//! operations on whole tables: subset sums, and the pass of a dynamic program over all subsets, four subsets at a time.
+//! A law (`laws`) is a function that does nothing when it runs: its contract is a theorem that a caller obtains by
+//! calling it.
 #![tactic(auto)]
 
-mod block;
 mod by_set;
 mod lanes;
 pub mod laws;
+pub mod table;
 mod terms;
 
-pub use block::Block;
 pub use by_set::{BySet, Halves};
 pub use terms::{Classes, Count, NoClass, One, Two};
 

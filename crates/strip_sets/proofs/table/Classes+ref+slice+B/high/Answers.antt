@@ -1,0 +1,7 @@
+use Rattle.strip_sets.proofs.Blocks.{number_drop}
+use Rattle.strip_sets.proofs.ByClass.{same_two}
+use Rattle.strip_sets.proofs.table.Classes+ref+slice+B.high.Goals as goal
+
+pub returns-clause-same : goal.returns-clause-same
+returns-clause-same g c = λ class set. same_two (number_drop g.B.BySet.value g.B.BySet.places c.args.half c.args.self.first.now set c.requires.0)
+    (number_drop g.B.BySet.value g.B.BySet.places c.args.half c.args.self.second.now set c.requires.1) class
