@@ -15,6 +15,7 @@ mod Newcomers
 mod Own
 mod Waits
 mod Sets
+mod Tables
 mod Worked
 mod Lowered
 mod Saved

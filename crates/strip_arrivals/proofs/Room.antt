@@ -12,12 +12,12 @@ use Rattle.strip_arrivals.specs.declared.party.Party.{Party}
 use Rattle.strip_arrivals.proofs.Classes.{AreDays, AreKinds, counted_most, counted_rise, days_within}
 use Rattle.strip_group.proofs.Places.{actor_there, has_from_pick}
 
-module _ {S : Type 0} (value : S → ℕ → ℕ) (count most : ℕ) (film : GroupData) (party : Party S) (known : IsParty value count most film party) where
+module _ {B : Type 0} (value : List B → ℕ → ℕ) (count most : ℕ) (film : GroupData) (party : Party B) (known : IsParty value count most film party) where
   abbrev set : ℕ
-  set = party.crew.set.0
+  set = party.crew.now.set.0
 
   abbrev group : ℕ
-  group = party.crew.group.0
+  group = party.crew.now.group.0
 
   abbrev newcomers : ℕ
   newcomers = party.newcomers.0
@@ -42,7 +42,7 @@ module _ {S : Type 0} (value : S → ℕ → ℕ) (count most : ℕ) (film : Gro
   pub group_low : (actors : ℕ) → ((i : ℕ) → has actors i ≡ true → has group i ≡ true) → sum_over film.holds actors ≤ sum_over film.holds group
   group_low actors within = sum_over_mono film.holds actors group within
 
-  pub rates_low : (places : ℕ) → places < 2 ^ count → sum_over party.crew.holds places ≤ sum_over film.holds group
+  pub rates_low : (places : ℕ) → places < 2 ^ count → sum_over party.crew.now.holds places ≤ sum_over film.holds group
   rates_low places lt =
       let part = group_low (pick group places) (λ i there. let found = has_from_pick group places i there in ap (has group) (sym found.3) ∙ actor_there group found.0 found.1) in
       omega (arith, known.crew.rates places lt, part)

@@ -6,6 +6,7 @@ use Rattle.strip_group.specs.Group.{GroupData}
 use Rattle.strip_group.specs.Places.{IsLimited, actor_at, pick}
 use Rattle.strip_arrivals.specs.Arrivals.{StateData, actors_of, is_without, mates}
 use Rattle.strip_arrivals.specs.declared.crew.Crew.{Crew}
+use Rattle.strip_arrivals.specs.declared.party.Arrived.{Arrived}
 use Rattle.strip_arrivals.specs.declared.party.Both.{Both}
 use Rattle.strip_arrivals.specs.declared.party.Newcomer.{Newcomer}
 use Rattle.strip_arrivals.specs.declared.party.Party.{Party}
@@ -131,37 +132,50 @@ pub record IsCrew (count : ℕ) (film : GroupData) (crew : Crew) : Type 0 where
   pub fits : size crew.group.0 ≤ count
 
 -- a group and its newcomers, with room for what they are paid: the days of the scenes without newcomers, and a
--- number that is more than anything that is paid
-pub record IsParty {S : Type 0} (value : S → ℕ → ℕ) (count most : ℕ) (film : GroupData) (party : Party S) : Type 0 where
+-- number that is more than anything that is paid. A table is a list of blocks, which tell a number for each set of places
+pub record IsParty {B : Type 0} (value : List B → ℕ → ℕ) (count most : ℕ) (film : GroupData) (party : Party B) : Type 0 where
   pub few : count ≤ 10
-  pub crew : IsCrew count film party.crew
-  pub company : IsCompany film party.crew.set.0 party.crew.group.0 party.newcomers.0
-  pub days : AreCounted film party.crew.group.0 count film.days (just film party.newcomers.0 0 party.crew.set.0)
-      (value party.days)
-  pub enough : most_paid film party.crew.set.0 party.crew.group.0 party.newcomers.0 < party.never
-  pub low : sum_over film.holds party.crew.group.0 + sum_over film.holds party.newcomers.0 < party.never
+  pub crew : IsCrew count film party.crew.now
+  pub company : IsCompany film party.crew.now.set.0 party.crew.now.group.0 party.newcomers.0
+  pub sized : length party.days.now ≡ 2 ^ party.higher
+  pub days : AreCounted film party.crew.now.group.0 count film.days (just film party.newcomers.0 0 party.crew.now.set.0)
+      (value party.days.now)
+  pub enough : most_paid film party.crew.now.set.0 party.crew.now.group.0 party.newcomers.0 < party.never
+  pub low : sum_over film.holds party.crew.now.group.0 + sum_over film.holds party.newcomers.0 < party.never
   pub room : 4 * party.never ≤ most
   pub wide : 2 ^ 32 - 1 ≤ most
 
 -- one of the newcomers: the days of the scenes in which of them he alone works, those days with the days of the scenes
 -- without newcomers, and how much more a day of the latter costs while he is here
-pub record IsNewcomer {S : Type 0} (value : S → ℕ → ℕ) (count : ℕ) (film : GroupData) (party : Party S) (one : Newcomer S) : Type 0 where
+pub record IsNewcomer {B : Type 0} (value : List B → ℕ → ℕ) (count : ℕ) (film : GroupData) (party : Party B) (one : Newcomer B) : Type 0 where
   pub comes : has party.newcomers.0 one.actor ≡ true
   pub hold : one.hold ≡ slice_index film.holds one.actor
-  pub days : AreCounted film party.crew.group.0 count film.days
-      (just film party.newcomers.0 (with 0 one.actor) party.crew.set.0) (value one.days)
-  pub all : (places : ℕ) → places < 2 ^ count → value one.all places ≡ value party.days places + value one.days places
+  pub sized : (length one.days.now ≡ 2 ^ party.higher) × (length one.all.now ≡ 2 ^ party.higher)
+      × (length one.extra.now ≡ 2 ^ party.higher)
+  pub days : AreCounted film party.crew.now.group.0 count film.days
+      (just film party.newcomers.0 (with 0 one.actor) party.crew.now.set.0) (value one.days.now)
+  pub all : (places : ℕ) → places < 2 ^ count
+      → value one.all.now places ≡ value party.days.now places + value one.days.now places
   pub mates : ℕ → ℕ
-  pub are_mates : AreMates film party.crew.set.0 party.crew.group.0 count (one.actor ∷ []) mates
-  pub extra : (places : ℕ) → places < 2 ^ count → value one.extra places ≡ min (mates places) one.hold
+  pub are_mates : AreMates film party.crew.now.set.0 party.crew.now.group.0 count (one.actor ∷ []) mates
+  pub extra : (places : ℕ) → places < 2 ^ count → value one.extra.now places ≡ min (mates places) one.hold
+
+-- a newcomer with the row of the stage in which he is here and the others are gone
+pub record IsArrived {B : Type 0} (value : List B → ℕ → ℕ) (count : ℕ) (film : GroupData) (party : Party B) (gone : ℕ)
+    (arrived : Arrived B) : Type 0 where
+  pub newcomer : IsNewcomer value count film party arrived.newcomer
+  pub sized : length arrived.row.now ≡ 2 ^ party.higher
+  pub saved : IsSaved film party.crew.now.set.0 party.crew.now.group.0 count 0 (arrived.newcomer.actor ∷ []) gone
+      party.never party.crew.now.holds (value arrived.newcomer.all.now) (λ _. 0) (value arrived.row.now)
 
 -- two newcomers: the days of all scenes, those of the scenes in which both work among them, and what those of the group
 -- get who have left and share a scene with one of the two
-pub record AreBoth {S : Type 0} (value : S → ℕ → ℕ) (count : ℕ) (film : GroupData) (party : Party S) (one other : Newcomer S)
-    (both : Both S) : Type 0 where
+pub record AreBoth {B : Type 0} (value : List B → ℕ → ℕ) (count : ℕ) (film : GroupData) (party : Party B) (one other : Newcomer B)
+    (both : Both B) : Type 0 where
+  pub sized : (length both.all.now ≡ 2 ^ party.higher) × (length both.mates.now ≡ 2 ^ party.higher)
   pub days : ℕ → ℕ
-  pub are_days : AreCounted film party.crew.group.0 count film.days
-      (just film party.newcomers.0 (with (with 0 one.actor) other.actor) party.crew.set.0) days
-  pub all : (places : ℕ) → places < 2 ^ count
-      → value both.all places ≡ value party.days places + value one.days places + value other.days places + days places
-  pub are_mates : AreMates film party.crew.set.0 party.crew.group.0 count (one.actor ∷ other.actor ∷ []) (value both.mates)
+  pub are_days : AreCounted film party.crew.now.group.0 count film.days
+      (just film party.newcomers.0 (with (with 0 one.actor) other.actor) party.crew.now.set.0) days
+  pub all : (places : ℕ) → places < 2 ^ count → value both.all.now places
+      ≡ value party.days.now places + value one.days.now places + value other.days.now places + days places
+  pub are_mates : AreMates film party.crew.now.set.0 party.crew.now.group.0 count (one.actor ∷ other.actor ∷ []) (value both.mates.now)

@@ -1,7 +1,8 @@
 // A group of actors by places, and tables with a number for each set of places.
-ghost use Rattle.std.specs.Prelude.{◌≡◌, ℕ, ◌<◌, ◌≤◌, ◌&&◌, cond, not, true, false, List, length, slice_index};
+ghost use Rattle.std.specs.Prelude.{◌≡◌, ℕ, ◌+◌, ◌^◌, ◌<◌, ◌≤◌, ◌&&◌, cond, not, true, false, List, length, slice_index};
 ghost use Rattle.strip_mask.specs.Set.{IsSet, LiesBelow, has, size, sum_over, with};
 ghost use Rattle.strip_group.specs.Places.{actor_at};
+ghost use Rattle.strip_sets.specs.Numbers.{number};
 ghost use Rattle.strip_arrivals.specs.Arrivals.{actors_of, is_without};
 ghost use Rattle.strip_arrivals.specs.Company.{AreCounted, AreMates, IsCrew};
 
@@ -9,6 +10,7 @@ use crate::table::ArrivalsTable;
 use strip_mask::Mask;
 use strip_sets::BySet;
 use strip_sets::laws::sums_below_have_what_is_added;
+use strip_sets::table::{add, below, other_sums, start};
 
 /// The greatest number of places in a group.
 pub(crate) const PLACES: usize = 10;
@@ -82,43 +84,54 @@ impl ArrivalsTable {
         casts
     }
 
-    /// Returns, for each set of places, the sum of the numbers of the scenes that are open while only the actors at
-    /// these places are still here. Time is linear in the number of scenes and of sets times places.
-    pub(crate) fn counted<S: BySet>(&self, crew: &Crew, numbers: &[u64], scenes: Mask) -> S
-        requires few { S.places ≤ 10 }
-        requires crew { IsCrew S.places self.now crew.now }
+    /// Sets the number of each set of places to the sum of the numbers of the scenes that are open while only the
+    /// actors at these places are still here. Time is linear in the number of scenes and of sets times places.
+    pub(crate) fn counted<B: BySet>(
+        &self,
+        crew: &Crew,
+        numbers: &[u64],
+        scenes: Mask,
+        higher: usize,
+        table: &mut [B],
+    )
+        requires few { higher + B.places ≤ 10 }
+        requires sized { length table.old ≡ 2 ^ higher }
+        requires crew { IsCrew (higher + B.places) self.now crew.now }
         requires within { (scene : ℕ) → has scenes.0 scene ≡ true → has crew.now.set.0 scene ≡ true }
         requires group { IsSet crew.now.group.0 }
         requires long { (scene : ℕ) → has scenes.0 scene ≡ true → scene < length numbers.now }
-        requires fits { sum_over numbers.now scenes.0 ≤ S.most }
-        ensures { AreCounted self.now crew.now.group.0 S.places numbers.now scenes.0 (S.value result) }
+        requires fits { sum_over numbers.now scenes.0 ≤ B.most }
+        ensures length { length table.new ≡ length table.old }
+        ensures counted { AreCounted self.now crew.now.group.0 (higher + B.places) numbers.now scenes.0
+            (number B.value B.places table.new) }
     {
         sums_below_have_what_is_added();
-        let mut sums = S::all(0);
+        start(table, 0, 0);
         for scene in scenes.iter() {
-            sums.add(crew.casts[scene as usize] as usize, numbers[scene as usize]);
+            let cast = crew.casts[scene as usize] as usize;
+            add(table, cast, numbers[scene as usize]);
         }
-        sums.below();
-        sums
+        below(table, higher);
     }
 
-    /// Returns, for each set of places, the pay for a day of waiting of the group's actors who are at none of them and
-    /// work in one of these scenes. Time is linear in the number of scenes and of sets.
-    pub(crate) fn mates<S: BySet>(&self, crew: &Crew, scenes: Mask) -> S
-        requires few { S.places ≤ 10 }
-        requires crew { IsCrew S.places self.now crew.now }
+    /// Sets the number of each set of places to the pay for a day of waiting of the group's actors who are at none of
+    /// them and work in one of these scenes. Time is linear in the number of scenes and of sets.
+    pub(crate) fn mates<B: BySet>(&self, crew: &Crew, scenes: Mask, higher: usize, table: &mut [B])
+        requires few { higher + B.places ≤ 10 }
+        requires sized { length table.old ≡ 2 ^ higher }
+        requires crew { IsCrew (higher + B.places) self.now crew.now }
         requires small { IsSet crew.now.set.0 }
         requires group { IsSet crew.now.group.0 }
-        requires room { sum_over self.now.holds crew.now.group.0 ≤ S.most }
+        requires room { sum_over self.now.holds crew.now.group.0 ≤ B.most }
         requires within { (scene : ℕ) → has scenes.0 scene ≡ true → has crew.now.set.0 scene ≡ true }
-        ensures { (actors : List ℕ) → ((scene : ℕ)
+        ensures length { length table.new ≡ length table.old }
+        ensures mates { (actors : List ℕ) → ((scene : ℕ)
             → has scenes.0 scene ≡ (has crew.now.set.0 scene && not (is_without self.now (actors_of actors) scene)))
-            → AreMates self.now crew.now.set.0 crew.now.group.0 S.places actors (S.value result) }
+            → AreMates self.now crew.now.set.0 crew.now.group.0 (higher + B.places) actors
+            (number B.value B.places table.new) }
     {
         let numbers = holds_at(&crew.holds, works_in(&crew.casts, scenes));
-        let mut rates = S::all(0);
-        rates.other_sums(0, &numbers);
-        rates
+        other_sums(table, higher, 0, &numbers);
     }
 }
 

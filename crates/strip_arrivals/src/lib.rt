@@ -9,6 +9,5 @@ pub mod laws;
 mod party;
 mod rows;
 mod table;
-mod width;
 
 pub use table::ArrivalsTable;

@@ -4,15 +4,16 @@ ghost use Rattle.strip_mask.specs.Set.{LiesBelow, has, size, sum_over, with};
 ghost use Rattle.strip_group.specs.Group.{GroupData};
 ghost use Rattle.strip_group.specs.Places.{IsLimited};
 ghost use Rattle.strip_arrivals.specs.Arrivals.{arrivals_value, at_first, is_without};
-ghost use Rattle.strip_arrivals.specs.Company.{ArePlays, IsCompany, most_paid};
+ghost use Rattle.strip_arrivals.specs.Company.{ArePlays, IsCompany, IsCrew, most_paid};
 ghost use Rattle.strip_arrivals.specs.Gross.{own_pay};
 
+use crate::crew::Crew;
 use std::alloc::{AllocError, Global};
 use std::marker::Model;
 use strip_group::DaySums;
 use strip_io::Memory;
 use strip_mask::{Mask, sum_over};
-use strip_sets::BySet;
+use strip_sets::{BySet, FivePlaces, FourPlaces, SixPlaces, WideFourPlaces};
 
 /// A quarter of the greatest number of 32 bits.
 const NARROW: u64 = 1_073_741_823;
@@ -66,47 +67,80 @@ impl ArrivalsTable {
     }
 
     /// Returns the value of a group of at most ten actors and at most two newcomers outside it, while the set of
-    /// scenes remains, in whole units of money. It allocates nothing. Time is linear in the number of sets of the
-    /// group's actors, times their number.
-    pub fn value(&self, set: Mask, group: Mask, newcomers: Mask) -> u64
+    /// scenes remains, in whole units of money. The room is for its tables: what is in it doesn't matter, and what
+    /// it has afterwards is of no use. It allocates nothing. Time is linear in the number of sets of the group's
+    /// actors, times their number.
+    pub fn value(&self, set: Mask, group: Mask, newcomers: Mask, room: &mut [SixPlaces]) -> u64
         requires few { size group.0 ≤ 10 }
         requires few_newcomers { size newcomers.0 ≤ 2 }
         requires known { LiesBelow (length self.now.holds) group.0 }
         requires known_newcomers { LiesBelow (length self.now.holds) newcomers.0 }
         requires apart { (actor : ℕ) → has newcomers.0 actor ≡ true → has group.0 actor ≡ false }
+        requires room { (2 + 6 * size newcomers.0) * 2 ^ (size group.0 - 6) ≤ length room.old }
         ensures same { result ≡ arrivals_value self.now set.0 group.0 newcomers.0 }
         ensures small { result ≤ sum self.now.days * sum self.now.holds }
+        ensures room { length room.new ≡ length room.old }
     {
         self.keeps_limits();
+        let crew = self.crew(set, group);
         let never = self.never(set, group, newcomers);
-        if never <= NARROW {
-            self.narrow_value(set, group, newcomers, never)
-        } else {
-            self.wide_value(set, group, newcomers, never)
+        if never > NARROW {
+            return self.wide_value(&crew, newcomers, never);
+        }
+        match group.size() {
+            0..=4 => {
+                let mut room = [FourPlaces::all(0); 14];
+                self.value_in(&crew, newcomers, never, 0, &mut room)
+            }
+            5 => {
+                let mut room = [FivePlaces::all(0); 14];
+                self.value_in(&crew, newcomers, never, 0, &mut room)
+            }
+            size => self.value_in(&crew, newcomers, never, size as usize - 6, room),
         }
     }
 
-    /// Returns the value by tables of this type.
+    /// Returns the value by tables of 64-bit numbers, for all ten places.
     #[inline(never)]
-    pub(crate) fn value_by<S: BySet>(
-        &self,
-        set: Mask,
-        group: Mask,
-        newcomers: Mask,
-        never: u64,
-    ) -> u64
-        requires few { S.places ≤ 10 }
-        requires fits { size group.0 ≤ S.places }
-        requires company { IsCompany self.now set.0 group.0 newcomers.0 }
-        requires enough { most_paid self.now set.0 group.0 newcomers.0 < never }
-        requires low { sum_over self.now.holds group.0 + sum_over self.now.holds newcomers.0 < never }
-        requires room { 4 * never ≤ S.most }
-        requires wide { 2 ^ 32 - 1 ≤ S.most }
-        ensures same { result ≡ arrivals_value self.now set.0 group.0 newcomers.0 }
+    fn wide_value(&self, crew: &Crew, newcomers: Mask, never: u64) -> u64
+        requires few { size crew.now.group.0 ≤ 10 }
+        requires crew { (count : ℕ) → size crew.now.group.0 ≤ count → IsCrew count self.now crew.now }
+        requires company { IsCompany self.now crew.now.set.0 crew.now.group.0 newcomers.0 }
+        requires enough { most_paid self.now crew.now.set.0 crew.now.group.0 newcomers.0 < never }
+        requires low { sum_over self.now.holds crew.now.group.0 + sum_over self.now.holds newcomers.0 < never }
+        requires wide { 4 * never < 2 ^ 64 }
+        ensures same { result ≡ arrivals_value self.now crew.now.set.0 crew.now.group.0 newcomers.0 }
         ensures small { result ≤ sum self.now.days * sum self.now.holds }
     {
-        let party = self.party::<S>(set, group, newcomers, never);
-        self.gross(&party) - self.own_pay(set, group)
+        let mut room = [WideFourPlaces::all(0); 14 * 64];
+        self.value_in(crew, newcomers, never, 6, &mut room)
+    }
+
+    /// Returns the value by tables of this type of blocks, with so many places more.
+    #[inline(never)]
+    fn value_in<B: BySet>(
+        &self,
+        crew: &Crew,
+        newcomers: Mask,
+        never: u64,
+        higher: usize,
+        room: &mut [B],
+    ) -> u64
+        requires few { higher + B.places ≤ 10 }
+        requires crew { IsCrew (higher + B.places) self.now crew.now }
+        requires company { IsCompany self.now crew.now.set.0 crew.now.group.0 newcomers.0 }
+        requires enough { most_paid self.now crew.now.set.0 crew.now.group.0 newcomers.0 < never }
+        requires low { sum_over self.now.holds crew.now.group.0 + sum_over self.now.holds newcomers.0 < never }
+        requires narrow { 4 * never ≤ B.most }
+        requires wide { 2 ^ 32 - 1 ≤ B.most }
+        requires room { (2 + 6 * size newcomers.0) * 2 ^ higher ≤ length room.old }
+        ensures same { result ≡ arrivals_value self.now crew.now.set.0 crew.now.group.0 newcomers.0 }
+        ensures small { result ≤ sum self.now.days * sum self.now.holds }
+        ensures room { length room.new ≡ length room.old }
+    {
+        let (days, room) = room.split_at_mut(1 << higher);
+        let party = self.party(crew, newcomers, never, higher, days);
+        self.gross(&party, room) - self.own_pay(crew.set, crew.group)
     }
 
     /// Returns a sum of money above all that the group and the newcomers can be paid on the days of the set.

@@ -1,9 +1,9 @@
 // The bound of arrivals: the pay for waiting of parties. A party is a group of actors on location with some newcomers.
-ghost use Rattle.std.specs.Prelude.{◌≡◌, ℕ, ◌+◌, ◌-◌, ◌*◌, ◌^◌, ◌<◌, ◌≤◌, ◌⊎◌, not, All, drop, filter, length, max, slice_index, slice_set, sum_by, take};
+ghost use Rattle.std.specs.Prelude.{◌≡◌, ℕ, ◌+◌, ◌-◌, ◌*◌, ◌^◌, ◌<◌, ◌≤◌, ◌⊎◌, not, All, drop, filter, length, max, min, slice_index, slice_set, sum_by, take};
 ghost use Rattle.strip_mask.specs.Set.{LiesBelow, members};
 ghost use Rattle.strip_film.specs.Film.{LiesIn};
 ghost use Rattle.strip_film.specs.Shoot.{on_location};
-ghost use Rattle.strip_bound.specs.Bounds.{located_by_hold, newcomers_at, number_of_parties, parties_extra, set_of};
+ghost use Rattle.strip_bound.specs.Bounds.{located_by_hold, newcomers_at, newcomers_of, number_of_parties, parties_extra, set_of};
 ghost use Rattle.strip_bound.specs.Falling.{by_falling};
 ghost use Rattle.strip_bound.specs.Parties.{AreAsked, AreChoices, AreParties};
 ghost use Rattle.strip_bound.specs.Tables.{AreTables};
@@ -15,6 +15,7 @@ use arrayvec::ArrayVec;
 use strip_arrivals::laws::fewer_newcomers_wait_no_more;
 use strip_film::{Film, on};
 use strip_mask::Mask;
+use strip_sets::{BySet, SixPlaces};
 
 /// Number of actors of a small group; the last group has the rest.
 const FEW: usize = 7;
@@ -43,6 +44,13 @@ pub(crate) struct Parties {
     pub(crate) need: u64,
 }
 
+/// A set of remaining scenes, and the actors on location by falling hold rate.
+#[derive(Drop)]
+pub(crate) struct OnLocation {
+    pub(crate) q: Mask,
+    pub(crate) actors: Falling,
+}
+
 /// Returns the extra of parties of seven or of ten, whichever is greater, or a part of it that is at least `need`. It
 /// first computes the values of groups of seven alone, then with newcomers. Last come groups of ten, with all newcomers
 /// at once, since more newcomers don't lower a value.
@@ -54,37 +62,75 @@ pub(crate) fn extra_of_parties(film: &Film, tables: &BoundTables, q: Mask, need:
 {
     film.keeps_limits();
     let on = on(film, q);
-    let located = located(film, tables, on);
-    let mut few = Parties::new(film, q, &located, FEW, need);
-    few.ask(film, tables, q, &located, &Choices::none(), 0);
+    let here = OnLocation {
+        q,
+        actors: located(film, tables, on),
+    };
+    let mut few = Parties::new(film, &here, FEW, need);
+    let mut room = [SixPlaces::all(0); 4];
+    few.ask(film, tables, &here, &Choices::none(), 0, &mut room);
     if few.extra >= need {
         return few.extra;
     }
     let newcomers = newcomers(film, tables, q, on);
-    let choices = Choices::of(film, tables, q, &located, newcomers, &few);
-    few.ask_all(film, tables, q, &located, &choices);
-    if few.extra >= need || located.len() <= FEW {
+    let choices = Choices::of(film, tables, q, &here.actors, newcomers, &few);
+    let mut room = [SixPlaces::all(0); 28];
+    few.ask_all(film, tables, &here, &choices, &mut room);
+    if few.extra >= need || here.actors.len() <= FEW {
         return few.extra;
     }
-    let mut many = Parties::new(film, q, &located, MANY, need);
-    let choices = Choices::of(film, tables, q, &located, newcomers, &many);
-    many.ask(film, tables, q, &located, &choices, 2);
-    few.extra.max(many.extra)
+    few.extra
+        .max(extra_of_many(film, tables, &here, newcomers, need))
+}
+
+/// Returns the extra of parties of ten, or a part of it that is at least `need`. The room for their tables is cleared
+/// for as many actors as are on location.
+fn extra_of_many(
+    film: &Film,
+    tables: &BoundTables,
+    here: &OnLocation,
+    newcomers: Mask,
+    need: u64,
+) -> u64
+    requires tables { AreTables film.now tables.now }
+    requires lies { LiesIn film.now here.now.q.0 }
+    requires located { here.now.actors.items ≡ located_by_hold film.now here.now.q.0 }
+    requires newcomers { newcomers.0 ≡ newcomers_of film.now here.now.q.0 }
+    ensures most { result ≤ parties_extra film.now here.now.q.0 10 }
+    ensures reaches { (need ≤ result) ⊎ (result ≡ parties_extra film.now here.now.q.0 10) }
+{
+    let mut many = Parties::new(film, here, MANY, need);
+    let choices = Choices::of(film, tables, here.q, &here.actors, newcomers, &many);
+    match here.actors.len() {
+        0..=8 => {
+            let mut room = [SixPlaces::all(0); 56];
+            many.ask(film, tables, here, &choices, 2, &mut room);
+        }
+        9 => {
+            let mut room = [SixPlaces::all(0); 112];
+            many.ask(film, tables, here, &choices, 2, &mut room);
+        }
+        _ => {
+            let mut room = [SixPlaces::all(0); 224];
+            many.ask(film, tables, here, &choices, 2, &mut room);
+        }
+    }
+    many.extra
 }
 
 impl Parties {
     /// Makes the parties, with no value known.
-    fn new(film: &Film, q: Mask, located: &[u32], many: usize, need: u64) -> Parties
-        requires located { located.now ≡ located_by_hold film.now q.0 }
+    fn new(film: &Film, here: &OnLocation, many: usize, need: u64) -> Parties
+        requires located { here.now.actors.items ≡ located_by_hold film.now here.now.q.0 }
         requires many { (many ≡ 7) ⊎ (many ≡ 10) }
-        ensures parties { AreParties film.now q.0 many result }
-        ensures asked { AreAsked film.now q.0 many result }
+        ensures parties { AreParties film.now here.now.q.0 many result }
+        ensures asked { AreAsked film.now here.now.q.0 many result }
         ensures none { result.asked ≡ 0 }
         ensures need { result.need ≡ need }
     {
         Parties {
             many,
-            number: (located.len() + (many - 1)) / many,
+            number: (here.actors.len() + (many - 1)) / many,
             asked: 0,
             values: [0; PARTIES],
             extra: 0,
@@ -98,30 +144,32 @@ impl Parties {
         &mut self,
         film: &Film,
         tables: &BoundTables,
-        q: Mask,
-        located: &[u32],
+        here: &OnLocation,
         choices: &Choices,
+        room: &mut [SixPlaces],
     )
         requires tables { AreTables film.now tables.now }
-        requires lies { LiesIn film.now q.0 }
-        requires located { located.now ≡ located_by_hold film.now q.0 }
-        requires choices { AreChoices film.now q.0 self.old.many choices.now }
+        requires lies { LiesIn film.now here.now.q.0 }
+        requires located { here.now.actors.items ≡ located_by_hold film.now here.now.q.0 }
+        requires choices { AreChoices film.now here.now.q.0 self.old.many choices.now }
         requires many { (self.old.many ≡ 7) ⊎ (self.old.many ≡ 10) }
-        requires parties { AreParties film.now q.0 self.old.many self.old }
-        requires asked { AreAsked film.now q.0 self.old.many self.old }
+        requires parties { AreParties film.now here.now.q.0 self.old.many self.old }
+        requires asked { AreAsked film.now here.now.q.0 self.old.many self.old }
         requires fewer { self.old.asked ≤ 1 }
+        requires room { 14 * 2 ^ (min self.old.many (length here.now.actors.items) - 6) ≤ length room.old }
         ensures many { self.new.many ≡ self.old.many }
         ensures need { self.new.need ≡ self.old.need }
-        ensures parties { AreParties film.now q.0 self.new.many self.new }
-        ensures asked { AreAsked film.now q.0 self.new.many self.new }
+        ensures parties { AreParties film.now here.now.q.0 self.new.many self.new }
+        ensures asked { AreAsked film.now here.now.q.0 self.new.many self.new }
         ensures all { self.new.asked ≡ 3 }
+        ensures room { length room.new ≡ length room.old }
     {
         if !self.is_near() {
-            self.ask(film, tables, q, located, choices, 2);
+            self.ask(film, tables, here, choices, 2, room);
             return;
         }
-        self.ask(film, tables, q, located, choices, 1);
-        self.ask(film, tables, q, located, choices, 2);
+        self.ask(film, tables, here, choices, 1, room);
+        self.ask(film, tables, here, choices, 2, room);
     }
 
     /// Returns whether at most a sixth of `need` is lacking. It affects the time only, not the result.
@@ -135,25 +183,27 @@ impl Parties {
         &mut self,
         film: &Film,
         tables: &BoundTables,
-        q: Mask,
-        located: &[u32],
+        here: &OnLocation,
         choices: &Choices,
         count: usize,
+        room: &mut [SixPlaces],
     )
         requires tables { AreTables film.now tables.now }
-        requires lies { LiesIn film.now q.0 }
-        requires located { located.now ≡ located_by_hold film.now q.0 }
-        requires choices { (count ≡ 0) ⊎ AreChoices film.now q.0 self.old.many choices.now }
+        requires lies { LiesIn film.now here.now.q.0 }
+        requires located { here.now.actors.items ≡ located_by_hold film.now here.now.q.0 }
+        requires choices { (count ≡ 0) ⊎ AreChoices film.now here.now.q.0 self.old.many choices.now }
         requires count { count ≤ 2 }
         requires many { (self.old.many ≡ 7) ⊎ (self.old.many ≡ 10) }
-        requires parties { AreParties film.now q.0 self.old.many self.old }
-        requires asked { AreAsked film.now q.0 self.old.many self.old }
+        requires parties { AreParties film.now here.now.q.0 self.old.many self.old }
+        requires asked { AreAsked film.now here.now.q.0 self.old.many self.old }
         requires fewer { self.old.asked ≤ count }
+        requires room { (2 + 6 * count) * 2 ^ (min self.old.many (length here.now.actors.items) - 6) ≤ length room.old }
         ensures many { self.new.many ≡ self.old.many }
         ensures need { self.new.need ≡ self.old.need }
-        ensures parties { AreParties film.now q.0 self.new.many self.new }
-        ensures asked { AreAsked film.now q.0 self.new.many self.new }
+        ensures parties { AreParties film.now here.now.q.0 self.new.many self.new }
+        ensures asked { AreAsked film.now here.now.q.0 self.new.many self.new }
         ensures more { self.new.asked ≡ count + 1 }
+        ensures room { length room.new ≡ length room.old }
     {
         film.keeps_limits();
         fewer_newcomers_wait_no_more();
@@ -167,8 +217,8 @@ impl Parties {
             if asked > 0 && choices.at(place, asked - 1).0 == newcomers.0 {
                 continue;
             }
-            let group = set_from(located, place * self.many, self.many);
-            let value = tables.arrivals.value(q, group, newcomers);
+            let group = set_from(&here.actors, place * self.many, self.many);
+            let value = tables.arrivals.value(here.q, group, newcomers, room);
             self.raise(place, value);
         }
     }

@@ -384,7 +384,7 @@ impl BySet for [u32; 4] {
 }
 
 /// A table of one more place: the numbers of the sets without it, and of the sets with it.
-#[derive(Debug, Drop)]
+#[derive(Debug, Clone, Copy)]
 pub struct Halves<T> {
     without: T,
     with: T,

@@ -13,5 +13,14 @@ mod terms;
 pub use by_set::{BySet, Halves};
 pub use terms::{Classes, Count, NoClass, One, Two};
 
-/// A table of 32-bit numbers for the sets of four places.
+/// A block of 32-bit numbers for the sets of four places.
 pub type FourPlaces = Halves<Halves<[u32; 4]>>;
+
+/// A block of 32-bit numbers for the sets of five places.
+pub type FivePlaces = Halves<FourPlaces>;
+
+/// A block of 32-bit numbers for the sets of six places.
+pub type SixPlaces = Halves<FivePlaces>;
+
+/// A block of 64-bit numbers for the sets of four places.
+pub type WideFourPlaces = Halves<Halves<Halves<Halves<u64>>>>;

@@ -1,9 +1,9 @@
-use Rattle.std.proofs.Common.{◌≡◌, ℕ, ◌+◌, ◌*◌, ◌-◌, ◌^◌, ◌<◌, ◌≤◌, true, max, min, List, [], ◌∷◌, refl, slice_index, ap, ◌∙◌, arith}
+use Rattle.std.proofs.Common.{length, ◌≡◌, ℕ, ◌+◌, ◌*◌, ◌-◌, ◌^◌, ◌<◌, ◌≤◌, true, max, min, List, [], ◌∷◌, refl, slice_index, ap, ◌∙◌, arith}
 use Rattle.std.proofs.Math.Nat.{mul-le-mul_left, pow-le-pow_right}
 use Rattle.strip_mask.specs.Set.{has, size, sum_over, with, without}
 use Rattle.strip_mask.proofs.ByMembers.{has-with_same}
 use Rattle.strip_group.specs.Group.{GroupData}
-use Rattle.strip_sets.specs.Numbers.{by_class}
+use Rattle.strip_sets.specs.Numbers.{number, by_class}
 use Rattle.strip_sets.specs.Saving.{Saves, SavingRoom, owes}
 use Rattle.strip_arrivals.proofs.Among.{for_two}
 use Rattle.strip_arrivals.proofs.Begun.{begun_both_here}
@@ -14,6 +14,7 @@ use Rattle.strip_arrivals.proofs.Room.{both_paid_low, paid_low}
 use Rattle.strip_arrivals.proofs.Saved.{lowered, within}
 use Rattle.strip_arrivals.proofs.Staged.{all_open_few, all_days_rise, all_few, extra_low, free_rise, free_row, hold_all_low, neither_low, own_few, own_rise, rates_all_low, two_costs, two_days, two_days_of, two_kinds, two_of, two_prices, two_weights}
 use Rattle.strip_arrivals.proofs.Stages.{stage_both}
+use Rattle.strip_arrivals.proofs.Tables.{known_set, small_set}
 use Rattle.strip_arrivals.proofs.table.ArrivalsTable.both_here.Goals as goal
 
 -- the row begins with no more than can be paid
@@ -54,148 +55,165 @@ begins_as never rate hold extra free own other both own_all other_all all one_sa
     spread_all : (rate free own other both : ℕ) → rate * (free + own + other + both) ≡ rate * free + rate * own + rate * other + rate * both
     spread_all rate free own other both = omega arith
 
-pub more_at_most-requires : goal.more_at_most-requires
-more_at_most-requires g c = λ places lt.
-    let value = g.S.BySet.value in
-    let count : ℕ = g.S.BySet.places in
-    let most : ℕ = g.S.BySet.most in
+pub more_at_most-requires-clause-fits : goal.more_at_most-requires-clause-fits
+more_at_most-requires-clause-fits g c = λ places there.
+    let lt = small_set (length c.split_at_mut-neither.result.0.now) c.args.party.now.higher g.B.BySet.places places (omega (arith, c.split_at_mut-neither.ensures.front_len, c.requires.party.sized)) there in
+    let value = number g.B.BySet.value g.B.BySet.places in
+    let count : ℕ = c.args.party.now.higher + g.B.BySet.places in
+    let most : ℕ = g.B.BySet.most in
     let film : GroupData = c.args.self.now in
-    let extra = extra_low value count most film c.args.party.now c.requires.party c.args.other.now c.requires.other places lt in
-    let hold = hold_all_low value count most film c.args.party.now c.requires.party c.args.one.now c.requires.one in
-    let hold_too = hold_all_low value count most film c.args.party.now c.requires.party c.args.other.now c.requires.other in
+    let extra = extra_low value count most film c.args.party.now c.requires.party c.args.other.now.newcomer c.requires.other.newcomer places lt in
+    let hold = hold_all_low value count most film c.args.party.now c.requires.party c.args.one.now.newcomer c.requires.one.newcomer in
+    let hold_too = hold_all_low value count most film c.args.party.now c.requires.party c.args.other.now.newcomer c.requires.other.newcomer in
     omega (arith, extra, hold, hold_too, c.requires.party.low, c.requires.party.room)
 
 pub greater_with-requires-clause-fits : goal.greater_with-requires-clause-fits
-greater_with-requires-clause-fits g c = λ places lt.
-    let value = g.S.BySet.value in
-    let count : ℕ = g.S.BySet.places in
-    let most : ℕ = g.S.BySet.most in
+greater_with-requires-clause-fits g c = λ places there.
+    let lt = small_set (length c.copy.new.table) c.args.party.now.higher g.B.BySet.places places (omega (arith, c.copy.ensures.length, c.requires.sized)) there in
+    let value = number g.B.BySet.value g.B.BySet.places in
+    let count : ℕ = c.args.party.now.higher + g.B.BySet.places in
+    let most : ℕ = g.B.BySet.most in
     let film : GroupData = c.args.self.now in
     let party = c.args.party.now in
     let known = c.requires.party in
-    let hold = hold_all_low value count most film party known c.args.one.now c.requires.one in
-    let held = paid_low value count most film party known c.args.one.now.hold (value c.args.other.now.days places) hold
-    (own_few value count most film party known c.args.other.now c.requires.other places lt) in
-    let all = paid_low value count most film party known (sum_over party.crew.holds places) (value c.args.other.now.all places)
-    (rates_all_low value count most film party known places lt) (all_few value count most film party known c.args.other.now c.requires.other places lt) in
-    omega (arith, held, all, c.requires.other_stays.high places lt, known.room)
+    let hold = hold_all_low value count most film party known c.args.one.now.newcomer c.requires.one.newcomer in
+    let held = paid_low value count most film party known c.args.one.now.newcomer.hold (value c.args.other.now.newcomer.days.now places) hold
+    (own_few value count most film party known c.args.other.now.newcomer c.requires.other.newcomer places lt) in
+    let all = paid_low value count most film party known (sum_over party.crew.now.holds places) (value c.args.other.now.newcomer.all.now places)
+    (rates_all_low value count most film party known places lt) (all_few value count most film party known c.args.other.now.newcomer c.requires.other.newcomer places lt) in
+    omega (arith, held, all, c.requires.other.saved.high places lt, known.room)
 
 pub greater_with-requires-clause-covered : goal.greater_with-requires-clause-covered
-greater_with-requires-clause-covered g c = λ places lt.
-    let value = g.S.BySet.value in
-    let count : ℕ = g.S.BySet.places in
-    let most : ℕ = g.S.BySet.most in
+greater_with-requires-clause-covered g c = λ places there.
+    let lt = small_set (length c.copy.new.table) c.args.party.now.higher g.B.BySet.places places (omega (arith, c.copy.ensures.length, c.requires.sized)) there in
+    let value = number g.B.BySet.value g.B.BySet.places in
+    let count : ℕ = c.args.party.now.higher + g.B.BySet.places in
+    let most : ℕ = g.B.BySet.most in
     let film : GroupData = c.args.self.now in
     let party = c.args.party.now in
     let known = c.requires.party in
-    let extra = extra_low value count most film party known c.args.other.now c.requires.other places lt in
-    let hold = hold_all_low value count most film party known c.args.other.now c.requires.other in
-    let owed = paid_low value count most film party known (value c.args.other.now.extra places) (value c.args.one.now.days places) (omega (arith, extra, hold))
-    (own_few value count most film party known c.args.one.now c.requires.one places lt) in
-    omega (arith, owed, c.requires.other_stays.low places lt)
+    let extra = extra_low value count most film party known c.args.other.now.newcomer c.requires.other.newcomer places lt in
+    let hold = hold_all_low value count most film party known c.args.other.now.newcomer c.requires.other.newcomer in
+    let owed = paid_low value count most film party known (value c.args.other.now.newcomer.extra.now places) (value c.args.one.now.newcomer.days.now places) (omega (arith, extra, hold))
+    (own_few value count most film party known c.args.one.now.newcomer c.requires.one.newcomer places lt) in
+    omega (arith, owed, c.requires.other.saved.low places lt)
 
 pub pass-requires-clause-room : goal.pass-requires-clause-room
 pass-requires-clause-room g c =
-    let value = g.S.BySet.value in
-    let count : ℕ = g.S.BySet.places in
-    let most : ℕ = g.S.BySet.most in
+    let value = number g.B.BySet.value g.B.BySet.places in
+    let count : ℕ = c.args.party.now.higher + g.B.BySet.places in
+    let most : ℕ = g.B.BySet.most in
     let film : GroupData = c.args.self.now in
     let party = c.args.party.now in
     let known = c.requires.party in
-    let one = c.args.one.now in
-    let other = c.args.other.now in
+    let one = c.args.one.now.newcomer in
+    let other = c.args.other.now.newcomer in
     let both = c.args.both.now in
     let never : ℕ = party.never in
-    let first : ℕ → ℕ = value c.greater_with.new.self in
-    let neither = c.more_at_most.new.self in
-    let is_neither = c.more_at_most.ensures in
-    let made : SavingRoom count 2 most party.crew.holds (value both.all) (by_class value (two_of neither other.extra)) (by_class value (two_of party.days one.days)) first
+    let first : ℕ → ℕ = value c.greater_with.new.table in
+    let neither = c.more_at_most.new.table in
+    let higher : ℕ = party.higher in
+    let inner : ℕ = g.B.BySet.places in
+    let copied = λ (places : ℕ) (lt : places < 2 ^ count). c.copy.ensures.each places (known_set (length c.args.row.now) higher inner places c.requires.sized lt) in
+    let raised = λ (places : ℕ) (lt : places < 2 ^ count).
+    c.greater_with.ensures.each places (known_set (length c.copy.new.table) higher inner places (c.copy.ensures.length ∙ c.requires.sized) lt) in
+    let is_neither : (places : ℕ) → places < 2 ^ count → value neither places ≡ min (value other.extra.now places + one.hold) (value both.mates.now places)
+    = λ places lt. c.more_at_most.ensures.each places
+    (known_set (length c.split_at_mut-neither.result.0.now) higher inner places (omega (arith, c.split_at_mut-neither.ensures.front_len, known.sized)) lt) in
+    let made : SavingRoom count 2 most party.crew.now.holds (value both.all.now) (by_class value (two_of neither other.extra.now)) (by_class value (two_of party.days.now one.days.now)) first
     = record {
-      rise = all_days_rise value count most film party known one other both c.requires.one c.requires.other c.requires.pair c.requires.both neither is_neither;
-      rise_owed = λ class places place some lt there. for_two (λ k. by_class value (two_of party.days one.days) k (without places place) ≤ by_class value (two_of party.days one.days) k places)
-          (free_rise value count most film party known places place lt there) (own_rise value count most film party known one c.requires.one places place lt there) class some;
+      rise = all_days_rise value count most film party known one other both c.requires.one.newcomer c.requires.other.newcomer c.requires.pair c.requires.both neither is_neither;
+      rise_owed = λ class places place some lt there. for_two (λ k. by_class value (two_of party.days.now one.days.now) k (without places place) ≤ by_class value (two_of party.days.now one.days.now) k places)
+          (free_rise value count most film party known places place lt there) (own_rise value count most film party known one c.requires.one.newcomer places place lt there) class some;
       base = 2 * never;
       begun = λ places lt. (
-          let low = begins_low never (sum_over party.crew.holds places) one.hold (value party.days places) (value one.days places) (value other.days places) (c.requires.both.days places)
-          (value one.all places) (value other.all places) (value both.all places) (value c.args.one_stays.now places) (value c.args.other_stays.now places)
-          (value other.extra places * value one.days places) (c.requires.one.all places lt) (c.requires.other.all places lt) (c.requires.both.all places lt)
-          (c.requires.one_stays.high places lt) (c.requires.other_stays.high places lt) in
-          let hold = hold_all_low value count most film party known one c.requires.one in
-          let held = paid_low value count most film party known one.hold (value other.days places) hold (own_few value count most film party known other c.requires.other places lt) in
-          omega (arith, low, held, c.greater_with.ensures places lt, c.copy_from.ensures places lt));
-      fits = λ places lt. (let low = paid_low value count most film party known (sum_over party.crew.holds places) (value both.all places)
+          let low = begins_low never (sum_over party.crew.now.holds places) one.hold (value party.days.now places) (value one.days.now places) (value other.days.now places) (c.requires.both.days places)
+          (value one.all.now places) (value other.all.now places) (value both.all.now places) (value c.args.one.now.row.now places) (value c.args.other.now.row.now places)
+          (value other.extra.now places * value one.days.now places) (c.requires.one.newcomer.all places lt) (c.requires.other.newcomer.all places lt) (c.requires.both.all places lt)
+          (c.requires.one.saved.high places lt) (c.requires.other.saved.high places lt) in
+          let hold = hold_all_low value count most film party known one c.requires.one.newcomer in
+          let held = paid_low value count most film party known one.hold (value other.days.now places) hold (own_few value count most film party known other c.requires.other.newcomer places lt) in
+          omega (arith, low, held, raised places lt, copied places lt));
+      fits = λ places lt. (let low = paid_low value count most film party known (sum_over party.crew.now.holds places) (value both.all.now places)
           (rates_all_low value count most film party known places lt)
-          (all_open_few value count most film party known one other both c.requires.one c.requires.other c.requires.pair c.requires.both places lt) in
+          (all_open_few value count most film party known one other both c.requires.one.newcomer c.requires.other.newcomer c.requires.pair c.requires.both places lt) in
           omega (arith, low, known.room));
       floor = never;
       covered = λ places lt. (
-          let extra = extra_low value count most film party known other c.requires.other places lt in
-          let hold = hold_all_low value count most film party known other c.requires.other in
-          let all = all_few value count most film party known one c.requires.one places lt in
-          let low = both_paid_low value count most film party known (value neither places) (value party.days places) (value other.extra places) (value one.days places)
-          (neither_low value count most film party known one other both c.requires.one c.requires.other c.requires.pair c.requires.both neither is_neither places lt)
-          (omega (arith, extra, hold)) (omega (arith, all, c.requires.one.all places lt)) in
-          let sum = sum_two (λ class. by_class value (two_of neither other.extra) class places * by_class value (two_of party.days one.days) class places) in
+          let extra = extra_low value count most film party known other c.requires.other.newcomer places lt in
+          let hold = hold_all_low value count most film party known other c.requires.other.newcomer in
+          let all = all_few value count most film party known one c.requires.one.newcomer places lt in
+          let low = both_paid_low value count most film party known (value neither places) (value party.days.now places) (value other.extra.now places) (value one.days.now places)
+          (neither_low value count most film party known one other both c.requires.one.newcomer c.requires.other.newcomer c.requires.pair c.requires.both neither is_neither places lt)
+          (omega (arith, extra, hold)) (omega (arith, all, c.requires.one.newcomer.all places lt)) in
+          let sum = sum_two (λ class. by_class value (two_of neither other.extra.now) class places * by_class value (two_of party.days.now one.days.now) class places) in
           omega (arith, low, sum));
-      low = λ places lt. omega (arith, c.greater_with.ensures places lt, c.copy_from.ensures places lt, c.requires.one_stays.low places lt);
+      low = λ places lt. omega (arith, raised places lt, copied places lt, c.requires.one.saved.low places lt);
     } in
     made
 
-pub returns : goal.returns
-returns g c =
-    let value = g.S.BySet.value in
-    let count : ℕ = g.S.BySet.places in
-    let most : ℕ = g.S.BySet.most in
+pub returns-clause-saved : goal.returns-clause-saved
+returns-clause-saved g c =
+    let value = number g.B.BySet.value g.B.BySet.places in
+    let count : ℕ = c.args.party.now.higher + g.B.BySet.places in
+    let most : ℕ = g.B.BySet.most in
     let film : GroupData = c.args.self.now in
     let party = c.args.party.now in
     let known = c.requires.party in
-    let one = c.args.one.now in
-    let other = c.args.other.now in
+    let one = c.args.one.now.newcomer in
+    let other = c.args.other.now.newcomer in
     let both = c.args.both.now in
-    let told = c.requires.one in
-    let told_too = c.requires.other in
+    let told = c.requires.one.newcomer in
+    let told_too = c.requires.other.newcomer in
     let pair = c.requires.pair in
     let of_both = c.requires.both in
-    let set : ℕ = party.crew.set.0 in
-    let group : ℕ = party.crew.group.0 in
+    let set : ℕ = party.crew.now.set.0 in
+    let group : ℕ = party.crew.now.group.0 in
     let newcomers : ℕ = party.newcomers.0 in
     let never : ℕ = party.never in
-    let holds : List ℕ = party.crew.holds in
-    let days : ℕ → ℕ = value both.all in
-    let more : ℕ → ℕ = λ places. one.hold * value other.days places in
-    let first : ℕ → ℕ = value c.greater_with.new.self in
-    let saved : ℕ → ℕ = value c.pass.new.self in
-    let neither = c.more_at_most.new.self in
-    let is_neither = c.more_at_most.ensures in
+    let holds : List ℕ = party.crew.now.holds in
+    let days : ℕ → ℕ = value both.all.now in
+    let more : ℕ → ℕ = λ places. one.hold * value other.days.now places in
+    let first : ℕ → ℕ = value c.greater_with.new.table in
+    let saved : ℕ → ℕ = value c.pass.new.table in
+    let neither = c.more_at_most.new.table in
+    let higher : ℕ = party.higher in
+    let inner : ℕ = g.B.BySet.places in
+    let copied = λ (places : ℕ) (lt : places < 2 ^ count). c.copy.ensures.each places (known_set (length c.args.row.now) higher inner places c.requires.sized lt) in
+    let raised = λ (places : ℕ) (lt : places < 2 ^ count).
+    c.greater_with.ensures.each places (known_set (length c.copy.new.table) higher inner places (c.copy.ensures.length ∙ c.requires.sized) lt) in
+    let is_neither : (places : ℕ) → places < 2 ^ count → value neither places ≡ min (value other.extra.now places + one.hold) (value both.mates.now places)
+    = λ places lt. c.more_at_most.ensures.each places
+    (known_set (length c.split_at_mut-neither.result.0.now) higher inner places (omega (arith, c.split_at_mut-neither.ensures.front_len, known.sized)) lt) in
     let stage = stage_both newcomers one.actor other.actor pair in
-    let owed : ℕ → ℕ → ℕ = owes 2 (by_class value (two_of neither other.extra)) (by_class value (two_of party.days one.days)) in
-    let saves : Saves count (slice_index holds) days owed first saved = c.pass.ensures in
-    let owed_is : (places before : ℕ) → owed places before ≡ value neither places * (value party.days places - value party.days before)
-    + value other.extra places * (value one.days places - value one.days before)
-    = λ places before. sum_two (λ class. by_class value (two_of neither other.extra) class places
-    * (by_class value (two_of party.days one.days) class places - by_class value (two_of party.days one.days) class before)) in
+    let owed : ℕ → ℕ → ℕ = owes 2 (by_class value (two_of neither other.extra.now)) (by_class value (two_of party.days.now one.days.now)) in
+    let saves : Saves count (slice_index holds) days owed first saved = c.pass.ensures.saves in
+    let owed_is : (places before : ℕ) → owed places before ≡ value neither places * (value party.days.now places - value party.days.now before)
+    + value other.extra.now places * (value one.days.now places - value one.days.now before)
+    = λ places before. sum_two (λ class. by_class value (two_of neither other.extra.now) class places
+    * (by_class value (two_of party.days.now one.days.now) class places - by_class value (two_of party.days.now one.days.now) class before)) in
     let rise = all_days_rise value count most film party known one other both told told_too pair of_both neither is_neither in
     let rise_more : (places place : ℕ) → places < 2 ^ count → has places place ≡ true → more (without places place) ≤ more places
     = λ places place lt there. mul-le-mul_left one.hold (own_rise value count most film party known other told_too places place lt there) in
     let row_is : (places : ℕ) → places < 2 ^ count
-    → first places ≡ max (value c.args.one_stays.now places) (value c.args.other_stays.now places + one.hold * value other.days places - value other.extra places * value one.days places)
-    = λ places lt. c.greater_with.ensures places lt
-    ∙ ap (λ (n : ℕ). max n (value c.args.other_stays.now places + one.hold * value other.days places - value other.extra places * value one.days places)) (c.copy_from.ensures places lt) in
+    → first places ≡ max (value c.args.one.now.row.now places) (value c.args.other.now.row.now places + one.hold * value other.days.now places - value other.extra.now places * value one.days.now places)
+    = λ places lt. raised places lt
+    ∙ ap (λ (n : ℕ). max n (value c.args.other.now.row.now places + one.hold * value other.days.now places - value other.extra.now places * value one.days.now places)) (copied places lt) in
     let begun : (places : ℕ) → places < 2 ^ count → first places ≤ never + sum_over holds places * days places + more places
     = λ places lt. (
-    let low = begins_low never (sum_over holds places) one.hold (value party.days places) (value one.days places) (value other.days places) (of_both.days places)
-    (value one.all places) (value other.all places) (days places) (value c.args.one_stays.now places) (value c.args.other_stays.now places)
-    (value other.extra places * value one.days places) (told.all places lt) (told_too.all places lt) (of_both.all places lt)
-    (c.requires.one_stays.high places lt) (c.requires.other_stays.high places lt) in
+    let low = begins_low never (sum_over holds places) one.hold (value party.days.now places) (value one.days.now places) (value other.days.now places) (of_both.days places)
+    (value one.all.now places) (value other.all.now places) (days places) (value c.args.one.now.row.now places) (value c.args.other.now.row.now places)
+    (value other.extra.now places * value one.days.now places) (told.all places lt) (told_too.all places lt) (of_both.all places lt)
+    (c.requires.one.saved.high places lt) (c.requires.other.saved.high places lt) in
     omega (arith, low, row_is places lt)) in
     let some : 0 < 2 = omega arith in
     let width : 2 ^ size group ≤ 2 ^ count = pow-le-pow_right some known.crew.fits in
     let wide : (places : ℕ) → places < 2 ^ size group → places < 2 ^ count = λ places lt. omega (arith, lt, width) in
     let rates : ℕ → ℕ = sum_over holds in
-    let waits : ℕ → ℕ = λ places. rates places + value other.extra places in
+    let waits : ℕ → ℕ = λ places. rates places + value other.extra.now places in
     let with_other : ℕ → ℕ = λ places. rates places + one.hold in
-    let by_one : ℕ → ℕ = λ places. waits places * value one.days places + rates places * of_both.days places in
-    let by_other : ℕ → ℕ = λ places. with_other places * value other.days places + rates places * of_both.days places in
+    let by_one : ℕ → ℕ = λ places. waits places * value one.days.now places + rates places * of_both.days places in
+    let by_other : ℕ → ℕ = λ places. with_other places * value other.days.now places + rates places * of_both.days places in
     let prices = two_prices value count most film party known one other both told told_too pair of_both neither is_neither in
     let class_days = two_days value count most film party known one other both told told_too pair of_both neither is_neither in
     record {
@@ -205,26 +223,26 @@ returns g c =
           (two_days_of value count most film party known one other both told told_too pair of_both neither is_neither) prices class_days
           (λ places. never + sum_over holds places * days places + more places - first places) (λ places. never + sum_over holds places * days places + more places - saved places)
           (begun_both_here film set group newcomers never known.company one.actor other.actor by_one by_other
-          (λ places. never + sum_over holds places * value other.all places + 0 - value c.args.other_stays.now places)
-          (λ places. never + sum_over holds places * value one.all places + 0 - value c.args.one_stays.now places)
-          (λ places. never + sum_over holds places * days places + more places - first places) pair.apart c.requires.other_stays.least c.requires.one_stays.least
-          (λ places lt. either_goes film set group newcomers known.company count known.crew.fits one.actor other.actor one.actor waits (value one.days) rates of_both.days stage
+          (λ places. never + sum_over holds places * value other.all.now places + 0 - value c.args.other.now.row.now places)
+          (λ places. never + sum_over holds places * value one.all.now places + 0 - value c.args.one.now.row.now places)
+          (λ places. never + sum_over holds places * days places + more places - first places) pair.apart c.requires.other.saved.least c.requires.one.saved.least
+          (λ places lt. either_goes film set group newcomers known.company count known.crew.fits one.actor other.actor one.actor waits (value one.days.now) rates of_both.days stage
           (has_one one.actor other.actor) (prices 1 (omega arith)) told.days (prices 3 (omega arith)) of_both.are_days places lt)
-          (λ places lt. either_goes film set group newcomers known.company count known.crew.fits one.actor other.actor other.actor with_other (value other.days) rates of_both.days stage
+          (λ places lt. either_goes film set group newcomers known.company count known.crew.fits one.actor other.actor other.actor with_other (value other.days.now) rates of_both.days stage
           (has-with_same (with 0 one.actor) other.actor) (prices 2 (omega arith)) told_too.days (prices 3 (omega arith)) of_both.are_days places lt)
           (λ places lt.
           let few = wide places lt in
           let extra = extra_low value count most film party known other told_too places few in
           let hold = hold_all_low value count most film party known other told_too in
-          let owed_low = paid_low value count most film party known (value other.extra places) (value one.days places) (omega (arith, extra, hold)) (own_few value count most film party known one told places few) in
+          let owed_low = paid_low value count most film party known (value other.extra.now places) (value one.days.now places) (omega (arith, extra, hold)) (own_few value count most film party known one told places few) in
           ap (λ (n : ℕ). never + sum_over holds places * days places + more places - n) (row_is places few)
-          ∙ begins_as never (rates places) one.hold (value other.extra places) (value party.days places) (value one.days places) (value other.days places) (of_both.days places)
-          (value one.all places) (value other.all places) (days places) (value c.args.one_stays.now places) (value c.args.other_stays.now places)
-          (told.all places few) (told_too.all places few) (of_both.all places few) (c.requires.one_stays.high places few) (c.requires.other_stays.high places few)
-          (omega (arith, owed_low, c.requires.other_stays.low places few))))
+          ∙ begins_as never (rates places) one.hold (value other.extra.now places) (value party.days.now places) (value one.days.now places) (value other.days.now places) (of_both.days places)
+          (value one.all.now places) (value other.all.now places) (days places) (value c.args.one.now.row.now places) (value c.args.other.now.row.now places)
+          (told.all places few) (told_too.all places few) (of_both.all places few) (c.requires.one.saved.high places few) (c.requires.other.saved.high places few)
+          (omega (arith, owed_low, c.requires.other.saved.low places few))))
           refl
           (lowered count known.few holds never days more rise rise_more owed first saved saves begun _
           (two_costs value count most film party known one other both told told_too pair of_both neither is_neither owed owed_is));
-      low = λ places lt. (let kept = saves.kept places lt in omega (arith, kept, row_is places lt, c.requires.one_stays.low places lt));
+      low = λ places lt. (let kept = saves.kept places lt in omega (arith, kept, row_is places lt, c.requires.one.saved.low places lt));
       high = within count known.few holds never days more rise rise_more owed first saved saves begun;
     }

@@ -1,11 +1,11 @@
-use Rattle.std.proofs.Common.{◌≡◌, ◌≢◌, ℕ, ◌+◌, ◌*◌, ◌-◌, ◌^◌, ◌<◌, ◌≤◌, ◌==◌, Bool, true, false, cond, List, [], ◌∷◌, inl, inr, refl, slice_index, ap, ◌∙◌, arith, pow_pos}
+use Rattle.std.proofs.Common.{length, ◌≡◌, ◌≢◌, ℕ, ◌+◌, ◌*◌, ◌-◌, ◌^◌, ◌<◌, ◌≤◌, ◌==◌, Bool, true, false, cond, List, [], ◌∷◌, inl, inr, refl, slice_index, ap, ◌∙◌, arith, pow_pos}
 use Rattle.std.proofs.lemmas.Bool.{cases_eq}
 use Rattle.std.proofs.lemmas.Bool.Decides.{nat_tests}
 use Rattle.std.proofs.Math.Nat.{pow-le-pow_right}
 use Rattle.strip_mask.specs.Set.{has, size, sum_over}
 use Rattle.strip_mask.proofs.Totals.{sum_over-empty}
 use Rattle.strip_group.specs.Group.{GroupData}
-use Rattle.strip_sets.specs.Numbers.{by_class}
+use Rattle.strip_sets.specs.Numbers.{number, by_class}
 use Rattle.strip_sets.specs.Saving.{Saves, owes}
 use Rattle.strip_arrivals.proofs.Chosen.{sum_none}
 use Rattle.strip_arrivals.proofs.Begun.{begun_over}
@@ -14,6 +14,7 @@ use Rattle.strip_arrivals.proofs.Room.{paid_low}
 use Rattle.strip_arrivals.proofs.Saved.{all_save, lowered, within}
 use Rattle.strip_arrivals.proofs.Staged.{alone_costs, alone_days, alone_days_of, alone_prices, alone_weights, free_days_few, free_rise, free_row, rates_all_low}
 use Rattle.strip_arrivals.proofs.Stages.{stage_over}
+use Rattle.strip_arrivals.proofs.Tables.{known_set}
 use Rattle.strip_arrivals.proofs.table.ArrivalsTable.over.Goals as goal
 
 two_some : 0 < 2
@@ -34,47 +35,47 @@ marked places never row is = elim (cases_eq places 0) [
 
 pub pass-requires-clause-room : goal.pass-requires-clause-room
 pass-requires-clause-room g c =
-    let value = g.S.BySet.value in
-    let count : ℕ = g.S.BySet.places in
-    let most : ℕ = g.S.BySet.most in
+    let value = number g.B.BySet.value g.B.BySet.places in
+    let count : ℕ = c.args.party.now.higher + g.B.BySet.places in
+    let most : ℕ = g.B.BySet.most in
     let film : GroupData = c.args.self.now in
     let never : ℕ = c.args.party.now.never in
-    let first : ℕ → ℕ = value c.none_and_others-row.result in
+    let first : ℕ → ℕ = value c.start.new.table in
     let few = rates_all_low value count most film c.args.party.now c.requires.party in
     let short = free_days_few value count most film c.args.party.now c.requires.party in
     record {
       rise = free_rise value count most film c.args.party.now c.requires.party;
       rise_owed = λ class places place none lt there. absurd (omega (arith, none));
       base = never;
-      begun = λ places lt. (let low = (marked places never (first places) (c.none_and_others-row.ensures places lt)).0 in omega (arith, low));
-      fits = λ places lt. (let low = paid_low value count most film c.args.party.now c.requires.party (sum_over c.args.party.now.crew.holds places)
-          (value c.args.party.now.days places) (few places lt) (short places lt) in omega (arith, low, c.requires.party.room));
+      begun = λ places lt. (let low = (marked places never (first places) (c.start.ensures.each places (known_set (length c.args.row.now) c.args.party.now.higher g.B.BySet.places places c.requires.sized lt))).0 in omega (arith, low));
+      fits = λ places lt. (let low = paid_low value count most film c.args.party.now c.requires.party (sum_over c.args.party.now.crew.now.holds places)
+          (value c.args.party.now.days.now places) (few places lt) (short places lt) in omega (arith, low, c.requires.party.room));
       floor = 0;
       covered = λ places lt. (let nothing = sum_none (λ class. by_class (λ s. value s.now) c.same-none.result class places * by_class (λ s. value s.now) c.same-none.result class places) in omega (arith, nothing));
       low = λ places lt. omega arith;
     }
 
-pub returns : goal.returns
-returns g c =
-    let value = g.S.BySet.value in
-    let count : ℕ = g.S.BySet.places in
-    let most : ℕ = g.S.BySet.most in
+pub returns-clause-saved : goal.returns-clause-saved
+returns-clause-saved g c =
+    let value = number g.B.BySet.value g.B.BySet.places in
+    let count : ℕ = c.args.party.now.higher + g.B.BySet.places in
+    let most : ℕ = g.B.BySet.most in
     let known = c.requires.party in
     let film : GroupData = c.args.self.now in
-    let set : ℕ = c.args.party.now.crew.set.0 in
-    let group : ℕ = c.args.party.now.crew.group.0 in
+    let set : ℕ = c.args.party.now.crew.now.set.0 in
+    let group : ℕ = c.args.party.now.crew.now.group.0 in
     let newcomers : ℕ = c.args.party.now.newcomers.0 in
     let never : ℕ = c.args.party.now.never in
-    let holds : List ℕ = c.args.party.now.crew.holds in
-    let days : ℕ → ℕ = value c.args.party.now.days in
-    let first : ℕ → ℕ = value c.none_and_others-row.result in
-    let saved : ℕ → ℕ = value c.pass.new.self in
+    let holds : List ℕ = c.args.party.now.crew.now.holds in
+    let days : ℕ → ℕ = value c.args.party.now.days.now in
+    let first : ℕ → ℕ = value c.start.new.table in
+    let saved : ℕ → ℕ = value c.pass.new.table in
     let none = by_class (λ s. value s.now) c.same-none.result in
     let owed : ℕ → ℕ → ℕ = owes 0 none none in
-    let saves : Saves count (slice_index holds) days owed first saved = c.pass.ensures in
+    let saves : Saves count (slice_index holds) days owed first saved = c.pass.ensures.saves in
     let free : (places before : ℕ) → owed places before ≡ 0 = λ places before. sum_none (λ class. none class places * (none class places - none class before)) in
     let marks : (places : ℕ) → places < 2 ^ count → (first places ≤ never) × (places ≢ 0 → first places ≡ 0) × (places ≡ 0 → first places ≡ never)
-    = λ places lt. marked places never (first places) (c.none_and_others-row.ensures places lt) in
+    = λ places lt. marked places never (first places) (c.start.ensures.each places (known_set (length c.args.row.now) c.args.party.now.higher g.B.BySet.places places c.requires.sized lt)) in
     let rise = free_rise value count most film c.args.party.now known in
     let level : (places place : ℕ) → places < 2 ^ count → has places place ≡ true → 0 ≤ 0 = λ places place lt there. omega arith in
     let begun : (places : ℕ) → places < 2 ^ count → first places ≤ never + sum_over holds places * days places + 0

@@ -26,12 +26,12 @@ loop-place-init c = record {
 
 pub set_from-group-requires-clause-listed : goal.set_from-group-requires-clause-listed
 set_from-group-requires-clause-listed c =
-    subst (All (λ actor. actor < 64)) (sym c.requires.located) (located_small c.args.film.now c.args.q.0 c.keeps_limits.ensures c.requires.lies)
+    subst (All (λ actor. actor < 64)) (sym c.requires.located) (located_small c.args.film.now c.args.here.now.q.0 c.keeps_limits.ensures c.requires.lies)
 
 pub value-value-requires-clause-few : goal.value-value-requires-clause-few
 value-value-requires-clause-few c =
     let film = c.args.film.now in
-    let q : ℕ = c.args.q.0 in
+    let q : ℕ = c.args.here.now.q.0 in
     let many : ℕ = c.args.self.now.many in
     let place : ℕ = c.loop-place.place in
     let group_is : c.set_from-group.result.0 ≡ group_at film q many place
@@ -46,7 +46,7 @@ value-value-requires-clause-few c =
 pub value-value-requires-clause-few_newcomers : goal.value-value-requires-clause-few_newcomers
 value-value-requires-clause-few_newcomers c =
     let film = c.args.film.now in
-    let q : ℕ = c.args.q.0 in
+    let q : ℕ = c.args.here.now.q.0 in
     let many : ℕ = c.args.self.now.many in
     let place : ℕ = c.loop-place.place in
     let there : place < number_of_parties film q many
@@ -59,7 +59,7 @@ value-value-requires-clause-few_newcomers c =
 pub value-value-requires-clause-known : goal.value-value-requires-clause-known
 value-value-requires-clause-known c i member =
     let film = c.args.film.now in
-    let q : ℕ = c.args.q.0 in
+    let q : ℕ = c.args.here.now.q.0 in
     let many : ℕ = c.args.self.now.many in
     let place : ℕ = c.loop-place.place in
     let group_is : c.set_from-group.result.0 ≡ group_at film q many place
@@ -72,7 +72,7 @@ value-value-requires-clause-known c i member =
 pub value-value-requires-clause-known_newcomers : goal.value-value-requires-clause-known_newcomers
 value-value-requires-clause-known_newcomers c i member =
     let film = c.args.film.now in
-    let q : ℕ = c.args.q.0 in
+    let q : ℕ = c.args.here.now.q.0 in
     let many : ℕ = c.args.self.now.many in
     let place : ℕ = c.loop-place.place in
     let there : place < number_of_parties film q many
@@ -88,7 +88,7 @@ value-value-requires-clause-known_newcomers c i member =
 pub value-value-requires-clause-apart : goal.value-value-requires-clause-apart
 value-value-requires-clause-apart c i member =
     let film = c.args.film.now in
-    let q : ℕ = c.args.q.0 in
+    let q : ℕ = c.args.here.now.q.0 in
     let many : ℕ = c.args.self.now.many in
     let place : ℕ = c.loop-place.place in
     let group_is : c.set_from-group.result.0 ≡ group_at film q many place
@@ -103,7 +103,7 @@ value-value-requires-clause-apart c i member =
 pub raise-requires-clause-fits : goal.raise-requires-clause-fits
 raise-requires-clause-fits c =
     let film = c.args.film.now in
-    let q : ℕ = c.args.q.0 in
+    let q : ℕ = c.args.here.now.q.0 in
     let many : ℕ = c.args.self.now.many in
     let place : ℕ = c.loop-place.place in
     let group_is : c.set_from-group.result.0 ≡ group_at film q many place
@@ -124,7 +124,7 @@ raise-requires-clause-fits c =
 pub loop-place-preserved-then-at-newcomers : goal.loop-place-preserved-then-at-newcomers
 loop-place-preserved-then-at-newcomers c =
     let film = c.args.film.now in
-    let q : ℕ = c.args.q.0 in
+    let q : ℕ = c.args.here.now.q.0 in
     let many : ℕ = c.args.self.now.many in
     let place : ℕ = c.loop-place.place in
     let there : place < number_of_parties film q many
@@ -165,7 +165,7 @@ loop-place-preserved-then-at-newcomers c =
 pub loop-place-preserved : goal.loop-place-preserved
 loop-place-preserved c =
     let film = c.args.film.now in
-    let q : ℕ = c.args.q.0 in
+    let q : ℕ = c.args.here.now.q.0 in
     let many : ℕ = c.args.self.now.many in
     let place : ℕ = c.loop-place.place in
     let group_is : c.set_from-group.result.0 ≡ group_at film q many place
@@ -212,7 +212,7 @@ loop-place-preserved c =
 pub returns-clause-asked : goal.returns-clause-asked
 returns-clause-asked c =
     let film = c.args.film.now in
-    let q : ℕ = c.args.q.0 in
+    let q : ℕ = c.args.here.now.q.0 in
     let parties : Parties = c.loop-place.self in
     let many : c.args.self.now.many ≡ parties.many = sym c.loop-place.invariant.parties.many in
     let next : suc c.args.count ≡ parties.asked = omega (arith, c.loop-place.invariant.more) in
