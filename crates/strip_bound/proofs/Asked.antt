@@ -211,11 +211,9 @@ module _ (film : FilmData) (set : ℕ) where
       let same : parties_extra film set parties.many ≡ parties_extra film set 7 = ap (parties_extra film set) seven in
       omega (arith, extra_le parties.many parties are, same, le-max_left (parties_extra film set 7) (parties_extra film set 10))
 
-  pub many_le : (parties : Parties) → AreParties film set parties.many parties → parties.many ≡ 10
-      → parties.extra ≤ max (parties_extra film set 7) (parties_extra film set 10)
-  many_le parties are ten =
-      let same : parties_extra film set parties.many ≡ parties_extra film set 10 = ap (parties_extra film set) ten in
-      omega (arith, extra_le parties.many parties are, same, le-max_right (parties_extra film set 7) (parties_extra film set 10))
+  pub many_le : (parties : Parties) → AreParties film set parties.many parties → parties.many ≡ 10 → parties.extra ≤ parties_extra film set 10
+  many_le parties are ten = (let same : parties_extra film set parties.many ≡ parties_extra film set 10 = ap (parties_extra film set) ten in
+      omega (arith, extra_le parties.many parties are, same))
 
   -- asked with all newcomers, they reach as far as is needed, or have all
   pub reached_or_all : (parties : Parties) (many need : ℕ) → AreParties film set parties.many parties → AreAsked film set parties.many parties

@@ -10,9 +10,11 @@ use Rattle.strip_mask.proofs.ByMembers.{has_from_minus}
 use Rattle.strip_mask.proofs.Members.{has_from_members, members_rise}
 use Rattle.strip_mask.proofs.Sums.{sum_below_mono}
 use Rattle.strip_model.specs.Film.{FilmData}
+use Rattle.strip_mask.proofs.Sizes.{size_mono}
 use Rattle.strip_film.specs.Bounds.{plain_bound}
 use Rattle.strip_film.specs.Film.{IsFilm, LiesIn}
 use Rattle.strip_film.specs.Shoot.{on_location}
+use Rattle.strip_mask.proofs.Sizes.{size_mono}
 use Rattle.strip_film.specs.Finish.{steps_cost}
 use Rattle.strip_film.proofs.Located.{location_lies}
 use Rattle.strip_film.proofs.Lists.{AllOnce}
@@ -203,6 +205,10 @@ module _ (film : FilmData) (set : ℕ) where
     pub group_few : (many place : ℕ) → size (group_at film set many place) ≤ many
     group_few many place = size_piece (place * many) many (located_by_hold film set)
         (λ actor there. omega (arith, location_lies film set is actor (is_located actor there), is.actor_count))
+
+    -- nor more than are on location
+    pub group_within : (many place : ℕ) → size (group_at film set many place) ≤ size (on_location film set)
+    group_within many place = size_mono (group_at film set many place) (on_location film set) (group_located many place)
 
     pub newcomers_few : (many count place : ℕ) → size (newcomers_at film set many count place) ≤ count
     newcomers_few many count place = size_piece 0 count (chosen film set (group_at film set many place) (left_at film set many place))

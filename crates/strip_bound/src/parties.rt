@@ -46,9 +46,9 @@ pub(crate) struct Parties {
 
 /// A set of remaining scenes, and the actors on location by falling hold rate.
 #[derive(Drop)]
-pub(crate) struct OnLocation {
+pub(crate) struct OnLocation<'a> {
     pub(crate) q: Mask,
-    pub(crate) actors: Falling,
+    pub(crate) actors: &'a [u32],
 }
 
 /// Returns the extra of parties of seven or of ten, whichever is greater, or a part of it that is at least `need`. It
@@ -62,9 +62,10 @@ pub(crate) fn extra_of_parties(film: &Film, tables: &BoundTables, q: Mask, need:
 {
     film.keeps_limits();
     let on = on(film, q);
+    let located = located(film, tables, on);
     let here = OnLocation {
         q,
-        actors: located(film, tables, on),
+        actors: &located,
     };
     let mut few = Parties::new(film, &here, FEW, need);
     let mut room = [SixPlaces::all(0); 4];
@@ -73,7 +74,7 @@ pub(crate) fn extra_of_parties(film: &Film, tables: &BoundTables, q: Mask, need:
         return few.extra;
     }
     let newcomers = newcomers(film, tables, q, on);
-    let choices = Choices::of(film, tables, q, &here.actors, newcomers, &few);
+    let choices = Choices::of(film, tables, q, here.actors, newcomers, &few);
     let mut room = [SixPlaces::all(0); 28];
     few.ask_all(film, tables, &here, &choices, &mut room);
     if few.extra >= need || here.actors.len() <= FEW {
@@ -94,13 +95,13 @@ fn extra_of_many(
 ) -> u64
     requires tables { AreTables film.now tables.now }
     requires lies { LiesIn film.now here.now.q.0 }
-    requires located { here.now.actors.items ≡ located_by_hold film.now here.now.q.0 }
+    requires located { here.now.actors.now ≡ located_by_hold film.now here.now.q.0 }
     requires newcomers { newcomers.0 ≡ newcomers_of film.now here.now.q.0 }
     ensures most { result ≤ parties_extra film.now here.now.q.0 10 }
     ensures reaches { (need ≤ result) ⊎ (result ≡ parties_extra film.now here.now.q.0 10) }
 {
     let mut many = Parties::new(film, here, MANY, need);
-    let choices = Choices::of(film, tables, here.q, &here.actors, newcomers, &many);
+    let choices = Choices::of(film, tables, here.q, here.actors, newcomers, &many);
     match here.actors.len() {
         0..=8 => {
             let mut room = [SixPlaces::all(0); 56];
@@ -121,7 +122,7 @@ fn extra_of_many(
 impl Parties {
     /// Makes the parties, with no value known.
     fn new(film: &Film, here: &OnLocation, many: usize, need: u64) -> Parties
-        requires located { here.now.actors.items ≡ located_by_hold film.now here.now.q.0 }
+        requires located { here.now.actors.now ≡ located_by_hold film.now here.now.q.0 }
         requires many { (many ≡ 7) ⊎ (many ≡ 10) }
         ensures parties { AreParties film.now here.now.q.0 many result }
         ensures asked { AreAsked film.now here.now.q.0 many result }
@@ -150,13 +151,13 @@ impl Parties {
     )
         requires tables { AreTables film.now tables.now }
         requires lies { LiesIn film.now here.now.q.0 }
-        requires located { here.now.actors.items ≡ located_by_hold film.now here.now.q.0 }
+        requires located { here.now.actors.now ≡ located_by_hold film.now here.now.q.0 }
         requires choices { AreChoices film.now here.now.q.0 self.old.many choices.now }
         requires many { (self.old.many ≡ 7) ⊎ (self.old.many ≡ 10) }
         requires parties { AreParties film.now here.now.q.0 self.old.many self.old }
         requires asked { AreAsked film.now here.now.q.0 self.old.many self.old }
         requires fewer { self.old.asked ≤ 1 }
-        requires room { 14 * 2 ^ (min self.old.many (length here.now.actors.items) - 6) ≤ length room.old }
+        requires room { 14 * 2 ^ (min self.old.many (length here.now.actors.now) - 6) ≤ length room.old }
         ensures many { self.new.many ≡ self.old.many }
         ensures need { self.new.need ≡ self.old.need }
         ensures parties { AreParties film.now here.now.q.0 self.new.many self.new }
@@ -190,14 +191,14 @@ impl Parties {
     )
         requires tables { AreTables film.now tables.now }
         requires lies { LiesIn film.now here.now.q.0 }
-        requires located { here.now.actors.items ≡ located_by_hold film.now here.now.q.0 }
+        requires located { here.now.actors.now ≡ located_by_hold film.now here.now.q.0 }
         requires choices { (count ≡ 0) ⊎ AreChoices film.now here.now.q.0 self.old.many choices.now }
         requires count { count ≤ 2 }
         requires many { (self.old.many ≡ 7) ⊎ (self.old.many ≡ 10) }
         requires parties { AreParties film.now here.now.q.0 self.old.many self.old }
         requires asked { AreAsked film.now here.now.q.0 self.old.many self.old }
         requires fewer { self.old.asked ≤ count }
-        requires room { (2 + 6 * count) * 2 ^ (min self.old.many (length here.now.actors.items) - 6) ≤ length room.old }
+        requires room { (2 + 6 * count) * 2 ^ (min self.old.many (length here.now.actors.now) - 6) ≤ length room.old }
         ensures many { self.new.many ≡ self.old.many }
         ensures need { self.new.need ≡ self.old.need }
         ensures parties { AreParties film.now here.now.q.0 self.new.many self.new }
@@ -217,7 +218,7 @@ impl Parties {
             if asked > 0 && choices.at(place, asked - 1).0 == newcomers.0 {
                 continue;
             }
-            let group = set_from(&here.actors, place * self.many, self.many);
+            let group = set_from(here.actors, place * self.many, self.many);
             let value = tables.arrivals.value(here.q, group, newcomers, room);
             self.raise(place, value);
         }

@@ -6,6 +6,7 @@ use std::alloc::Global;
 use strip_arrivals::ArrivalsTable;
 use strip_io::Memory;
 use strip_mask::Mask;
+use strip_sets::{BySet, SixPlaces};
 
 /// Returns the value of the group and its newcomers on the set, if the film, the group and the newcomers keep the
 /// limits.
@@ -35,7 +36,8 @@ pub(crate) fn value_of(
         return Ok(None);
     }
     let table = ArrivalsTable::of(alloc, casts, days, holds)?;
-    Ok(Some(table.value(set, group, newcomers)))
+    let mut room = [SixPlaces::all(0); 224];
+    Ok(Some(table.value(set, group, newcomers, &mut room)))
 }
 
 /// Tells whether no actor is in both sets.

@@ -1,14 +1,17 @@
-use Rattle.std.proofs.Common.{◌≡◌, ℕ, suc, ◌-◌, ◌*◌, ◌<◌, ◌≤◌, max, true, All, List, drop, length, take, slice_index, slice_set, inl, inr, refl, sym, ap, ◌∙◌, subst, arith}
+use Rattle.std.proofs.Common.{◌≡◌, ℕ, suc, ◌+◌, ◌-◌, ◌*◌, ◌^◌, ◌<◌, ◌≤◌, max, min, true, All, List, drop, length, take, slice_index, slice_set, inl, inr, refl, sym, ap, ◌∙◌, subst, arith}
 use Rattle.std.proofs.lemmas.Bool.{cases_lt}
 use Rattle.std.proofs.lemmas.List.{get_or-set_other}
+use Rattle.std.proofs.Math.Nat.{mul-le-mul}
+use Rattle.std.proofs.Math.Pow.{pow_mono}
 use Rattle.strip_mask.specs.Set.{has, size}
+use Rattle.strip_film.specs.Shoot.{on_location}
 use Rattle.strip_group.specs.Group.{GroupData}
 use Rattle.strip_arrivals.specs.Arrivals.{arrivals_value}
 use Rattle.strip_bound.specs.declared.parties.Parties.{Parties}
 use Rattle.strip_bound.specs.Bounds.{greatest_below, group_at, newcomers_at, number_of_parties, party_value, set_of}
 use Rattle.strip_bound.specs.Parties.{AreParties}
-use Rattle.strip_bound.proofs.Asked.{coming_is, no_more, raised_are, raised_fits, raised_here}
-use Rattle.strip_bound.proofs.Party.{group_few, group_known, located_small, newcomer_apart, newcomers_few, newcomers_known, value_rises}
+use Rattle.strip_bound.proofs.Asked.{coming_is, located_count, no_more, raised_are, raised_fits, raised_here}
+use Rattle.strip_bound.proofs.Party.{group_few, group_known, group_within, located_small, newcomer_apart, newcomers_few, newcomers_known, value_rises}
 use Rattle.strip_bound.proofs.parties.Parties.ask.Goals as goal
 
 pub loop-place-init : goal.loop-place-init
@@ -18,6 +21,7 @@ loop-place-init c = record {
       record { many = are.many; number = are.number; few = are.few; long = are.long; most = are.most; extra = are.extra };
   need = refl;
   more = refl;
+  room = refl;
   asked = elim c.requires.asked [
     | inl reached ↦ inl reached
     | inr known ↦ inr ((λ place none. absurd (omega (arith, none))), (λ place _ there. known place there))
@@ -145,6 +149,7 @@ loop-place-preserved-then-at-newcomers c =
       parties = c.loop-place.invariant.parties;
       need = c.loop-place.invariant.need;
       more = c.loop-place.invariant.more;
+      room = c.loop-place.invariant.room;
       asked = elim c.loop-place.invariant.asked [
         | inl reached ↦ inl reached
         | inr known ↦ inr (
@@ -187,6 +192,7 @@ loop-place-preserved c =
           (raised_are film q many count place c.value-value.result before c.loop-place.invariant.parties inside c.requires.count value_is);
       need = ap (λ (parties : Parties). parties.need) c.raise.ensures ∙ c.loop-place.invariant.need;
       more = ap (λ (parties : Parties). parties.asked) c.raise.ensures ∙ c.loop-place.invariant.more;
+      room = c.value-value.ensures.room ∙ c.loop-place.invariant.room;
       asked = elim c.loop-place.invariant.asked [
         | inl reached ↦ absurd (omega (arith, reached, c.if-self.false))
         | inr known ↦ inr (
@@ -222,3 +228,34 @@ returns-clause-asked c =
           known.0 place (omega (arith, within, c.loop-place-test.false, c.loop-place.invariant.parties.number, c.requires.parties.number))
           ∙ (λ i. greatest_below film q (many i) (next i) place))
     ]
+
+-- room for more newcomers and a greater group is room for fewer
+room_for : (number few size many room : ℕ) → number ≤ few → size ≤ many → (2 + 6 * few) * 2 ^ (many - 6) ≤ room → (2 + 6 * number) * 2 ^ (size - 6) ≤ room
+room_for number few size many room no_more no_larger fits =
+    let tables : 2 + 6 * number ≤ 2 + 6 * few = omega (arith, no_more) in
+    let blocks : 2 ^ (size - 6) ≤ 2 ^ (many - 6) = pow_mono (omega (arith, no_larger)) in
+    let all : (2 + 6 * number) * 2 ^ (size - 6) ≤ (2 + 6 * few) * 2 ^ (many - 6) = mul-le-mul tables blocks in
+    omega (arith, all, fits)
+
+pub value-value-requires-clause-room : goal.value-value-requires-clause-room
+value-value-requires-clause-room c =
+    let film = c.args.film.now in
+    let q : ℕ = c.args.here.now.q.0 in
+    let many : ℕ = c.args.self.now.many in
+    let place : ℕ = c.loop-place.place in
+    let located : ℕ = length c.args.here.now.actors.now in
+    let group_is : c.set_from-group.result.0 ≡ group_at film q many place
+    = c.set_from-group.ensures ∙ (λ i. set_of (take (c.loop-place.invariant.parties.many i) (drop (place * c.loop-place.invariant.parties.many i) (c.requires.located i)))) in
+    let there : place < number_of_parties film q many
+    = omega (arith, c.loop-place-test.true, c.requires.parties.number) in
+    let coming : c.at-newcomers.result.0 ≡ newcomers_at film q many c.args.count place
+    = coming_is film q many c.args.count place c.at-newcomers.result.0 c.args.choices.now c.requires.choices there
+    c.at-newcomers.ensures.none c.at-newcomers.ensures.first c.at-newcomers.ensures.both c.requires.count in
+    let no_more : size c.at-newcomers.result.0 ≤ c.args.count
+    = omega (arith, ap size coming, newcomers_few film q c.keeps_limits.ensures c.requires.lies many c.args.count place) in
+    let here : located ≡ size (on_location film q) = ap length c.requires.located ∙ located_count film q in
+    let few = group_few film q c.keeps_limits.ensures c.requires.lies many place in
+    let within = group_within film q c.keeps_limits.ensures c.requires.lies many place in
+    let no_larger : size c.set_from-group.result.0 ≤ min many located = omega (arith, ap size group_is, few, within, here) in
+    room_for (size c.at-newcomers.result.0) c.args.count (size c.set_from-group.result.0) (min many located) (length c.loop-place.room) no_more no_larger
+    (omega (arith, c.requires.room, c.loop-place.invariant.room))

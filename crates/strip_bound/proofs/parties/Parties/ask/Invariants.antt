@@ -1,4 +1,4 @@
-use Rattle.std.proofs.Common.{◌≡◌, ℕ, suc, ◌+◌, ◌<◌, ◌≤◌, ◌⊎◌, slice_index}
+use Rattle.std.proofs.Common.{◌≡◌, ℕ, suc, ◌+◌, ◌<◌, ◌≤◌, ◌⊎◌, length, slice_index}
 use Rattle.strip_bound.specs.Bounds.{greatest_below}
 use Rattle.strip_bound.specs.Parties.{AreParties}
 use Rattle.strip_bound.proofs.parties.Parties.ask.Given as goal
@@ -9,6 +9,7 @@ invariant-loop-place l = record {
   parties : AreParties l.film l.here.q.0 l.fn.self.many l.self;
   need : l.self.need ≡ l.fn.self.need;
   more : l.self.asked ≡ l.count + 1;
+  room : length l.room ≡ length l.fn.room;
   asked : (l.self.need ≤ l.self.extra) ⊎ (
       ((place : ℕ) → place < l.place → slice_index l.self.values place ≡ greatest_below l.film l.here.q.0 l.fn.self.many (suc l.count) place)
       × ((place : ℕ) → l.place ≤ place → place < l.self.number → slice_index l.self.values place ≡ greatest_below l.film l.here.q.0 l.fn.self.many l.fn.self.asked place)
