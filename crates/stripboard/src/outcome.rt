@@ -55,5 +55,5 @@ fn run_through<R: rt::Files + Input + Print + AllocGlobal + Threads + Wait + Syn
         host.new.files.held host.old.out.faults host.new.out.faults) result }
 {
     let Host { words, files, out } = host;
-    strip_commands::run(rt, rt.alloc(), words, files, out, gate)
+    strip_top::run(rt, rt.alloc(), words, files, out, gate)
 }

@@ -127,7 +127,7 @@ fn run_program<R: Threads + Wait + Sync>(
         (memory_sink_data out.new)) result }
 {
     match program {
-        Program::Stripboard => strip_commands::run(rt, alloc, words, files, out, &OpenGate),
+        Program::Stripboard => strip_top::run(rt, alloc, words, files, out, &OpenGate),
         Program::Stripcheck => strip_check_command::report(alloc, words, files, out),
     }
 }

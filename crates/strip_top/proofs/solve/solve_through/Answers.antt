@@ -5,7 +5,7 @@ use Rattle.strip_proof.specs.Plan.{plan_data}
 use Rattle.strip_reduce.specs.Reduction.{reduced}
 use Rattle.strip_reduce.specs.State.{State}
 use Rattle.strip_solve.proofs.Readable.{chosen_readable}
-use Rattle.strip_solve.proofs.solve.solve_through.Goals as goal
+use Rattle.strip_top.proofs.solve.solve_through.Goals as goal
 
 pub returns-in-Ok : goal.returns-in-Ok
 returns-in-Ok g c =

@@ -3,7 +3,7 @@ use Rattle.strip_model.specs.Order.{IsKeptOrder, IsOrder}
 use Rattle.strip_model.proofs.Counts.{length-order}
 use Rattle.strip_reduce.specs.Oriented.{oriented}
 use Rattle.strip_solve.proofs.Back.{kept_without_pairs, none_there, turned_once, written_over}
-use Rattle.strip_solve.proofs.solve.oriented.Goals as goal
+use Rattle.strip_solve.proofs.plan.oriented.Goals as goal
 
 pub returns-then-is_empty-clause-kept : goal.returns-then-is_empty-clause-kept
 returns-then-is_empty-clause-kept c =

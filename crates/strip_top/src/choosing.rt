@@ -12,12 +12,12 @@ ghost use Rattle.strip_reduce.specs.Shown.{reduced_data};
 ghost use Rattle.strip_proof.specs.Plan.{plan_data};
 ghost use Rattle.strip_solve.specs.Answer.{MayBe};
 ghost use Rattle.strip_solve.specs.Own.{IsOwn};
-ghost use Rattle.strip_solve.specs.Searched.{GoesOnFrom, IsSearchedFrom};
+ghost use Rattle.strip_solve.specs.Searched.{IsSearchedFrom};
 ghost use Rattle.strip_solve.specs.Solved.{IsChosen};
+ghost use Rattle.strip_top.specs.Closed.{GoesOnFrom};
 
 use crate::ending::{Closed, end_alone};
-use crate::own::{Own, own_cost};
-use crate::solve::{SearchOptions, Searched, plan_of, search, search_beside, useful_tries};
+use crate::solve::{search, search_beside};
 use crate::told::Told;
 use std::alloc::Global;
 use std::sync::Wait;
@@ -29,6 +29,7 @@ use strip_mask::Mask;
 use strip_model::Kind;
 use strip_proof::Plan;
 use strip_reduce::Reduced;
+use strip_solve::{Own, SearchOptions, Searched, own_cost, plan_of, useful_tries};
 use strip_start::{greedy, improve, or_listed, path_of, vary_beside};
 use strip_worker::{Ended, Gate};
 

@@ -1,6 +1,6 @@
 use Rattle.std.proofs.Common.{◌∙◌, sym}
-use Rattle.strip_solve.proofs.Chosen.{first_chosen, second_chosen}
-use Rattle.strip_solve.proofs.choosing.choose_beside.Goals as goal
+use Rattle.strip_top.proofs.Chosen.{first_chosen, second_chosen}
+use Rattle.strip_top.proofs.choosing.choose_alone.Goals as goal
 
 pub returns-then-is_some : goal.returns-then-is_some
 returns-then-is_some g c = λ film same stands own.

@@ -11,7 +11,7 @@ use Rattle.strip_reduce.specs.Shown.{reduced_data}
 use Rattle.strip_worker.specs.Ended.{EndedData}
 use Rattle.strip_worker.specs.Shown.{ended_data}
 use Rattle.strip_solve.proofs.Back.{HasOptimum, least_cost, solved_by, status_of}
-use Rattle.strip_solve.proofs.solve.plan_of.Goals as goal
+use Rattle.strip_solve.proofs.plan.plan_of.Goals as goal
 
 pub returns-clause-solved : goal.returns-clause-solved
 returns-clause-solved c = λ film same stands is_own.

@@ -1,25 +1,21 @@
 // A plan of an instance, with one worker or several.
-ghost use Rattle.std.specs.Prelude.{◌≡◌, ◌+◌, ◌≤◌, ◌⊎◌, [], IfOk};
+ghost use Rattle.std.specs.Prelude.{◌≡◌, ◌≤◌, IfOk};
 ghost use Rattle.strip_model.specs.Film.{FilmData};
-ghost use Rattle.strip_model.specs.Order.{IsKeptOrder};
-ghost use Rattle.strip_model.specs.Pay.{pay_of};
 ghost use Rattle.strip_film.specs.Path.{IsComplete};
 ghost use Rattle.strip_film.specs.Shown.{path_data};
 ghost use Rattle.strip_model.specs.FilmOf.{film_of};
 ghost use Rattle.strip_reduce.specs.Law.{StandsFor};
-ghost use Rattle.strip_reduce.specs.Oriented.{oriented};
 ghost use Rattle.strip_reduce.specs.Reduction.{reduced as reduction};
 ghost use Rattle.strip_reduce.specs.Shown.{reduced_data};
 ghost use Rattle.strip_bound.specs.StoredBound.{Keeps};
 ghost use Rattle.strip_proof.specs.Plan.{plan_data};
 ghost use Rattle.strip_solve.specs.Answer.{IsAnswerFor, MayBe};
-ghost use Rattle.strip_solve.specs.Own.{IsOwn, or_own, own_cost};
-ghost use Rattle.strip_solve.specs.Searched.{IsFound, IsProofOf, IsRows, IsSearchedFrom, IsStatusOf};
-ghost use Rattle.strip_solve.specs.Solved.{IsSolved, IsSolvedBy, IsStart};
+ghost use Rattle.strip_solve.specs.Own.{IsOwn};
+ghost use Rattle.strip_solve.specs.Searched.{IsSearchedFrom};
+ghost use Rattle.strip_solve.specs.Solved.{IsSolved, IsSolvedBy};
 
 use crate::choosing::{choose_alone, choose_beside};
-use crate::ending::{Closed, end_alone, layers_beside, trimmed};
-use crate::own::{Own, own_cost, own_order};
+use crate::ending::{Closed, end_alone, layers_beside};
 use crate::told::Told;
 use std::alloc::Global;
 use std::marker::Brand;
@@ -27,42 +23,20 @@ use std::sync::Wait;
 use std::thread::Threads;
 use strip_bound::{BoundTables, StoredBound, static_reach};
 use strip_crew::race;
-use strip_film::laws::{a_least_tail_exists, finishing_everything_is_the_optimum};
-use strip_film::{Film, Line, Path};
+use strip_film::{Film, Path};
 use strip_io::Memory;
-use strip_lines::laws::{paths_are_few, the_rules_are_true};
+use strip_lines::laws::the_rules_are_true;
 use strip_mask::Mask;
 use strip_memo::{Bounded, Memo, Store};
-use strip_model::laws::pays_stay_small;
-use strip_model::{Instance, Kind};
-use strip_proof::{Plan, Status};
-use strip_reduce::{ReduceFault, Reduced, expand, orient, reduce};
+use strip_model::Instance;
+use strip_proof::Plan;
+use strip_reduce::{ReduceFault, Reduced, reduce};
+use strip_solve::{
+    Own, SearchOptions, Searched, own_cost, own_order, plan_of, trimmed, useful_tries,
+};
 use strip_start::{greedy, improve, or_listed, vary, vary_beside};
-use strip_worker::{Ended, Gate, OpenGate};
+use strip_worker::{Gate, OpenGate};
 use strip_world::Limits;
-
-/// Number of local-search moves for each class on the initial order, if the options give none.
-const TRIES_A_CLASS: u32 = 5_000;
-
-/// The options of a search.
-#[derive(Clone, Copy, Debug)]
-pub struct SearchOptions {
-    /// The kind of the static bounds.
-    pub kind: Kind,
-    /// The greatest number of lines (proved lower bounds), 1 to 16,777,216.
-    pub nodes: u32,
-    /// Number of entries of the transposition table, 64 to 4,194,304.
-    pub entries: u32,
-    /// Number of local-search moves on the initial order. If none is given, it is 5,000 for each class.
-    pub tries: Option<u32>,
-    /// Number of steps in which a search by layers raises the bound of all scenes; none for a depth-first search.
-    pub steps: Option<u32>,
-    /// Whether each of several workers has a queue of tasks, and steals from the others when his own is empty.
-    pub steal: bool,
-    /// Whether the program chooses kind and steps: first a search with pair bounds and few lines, then if needed a
-    /// search by layers with arrival bounds. It ignores the options `kind`, `steps` and `steal`.
-    pub auto: bool,
-}
 
 /// Finds a plan of the instance, with one worker. It fails with `TooManyClasses` if more than 64 classes are left. It
 /// takes memory for the lines and entries before it searches.
@@ -213,15 +187,6 @@ fn plan_beside<R: Threads + Wait + Sync, G: Gate>(
     let cost = own_cost(&own, reduced.apart);
     let searched = search_beside(rt, alloc, film, &start, options, cost, workers, &told)?;
     plan_of(alloc, reduced, &start, options, own, searched)
-}
-
-/// A finished search: its initial path and its result. It has the lines that the bound needs, if this is the lesser of
-/// the cost and the cost of the rows' order.
-#[derive(Debug, Drop)]
-pub(crate) struct Searched {
-    pub begun: Path,
-    pub ended: Ended,
-    pub trimmed: Option<Vec<Line>>,
 }
 
 /// Searches a film with one worker, after a local search from this path. It begins with the order of the scenes'
@@ -379,114 +344,4 @@ fn search_stored<
         ended,
         trimmed,
     })
-}
-
-/// Returns the number of local-search moves: as many as asked for, or 5,000 for each class if none are. It is 0 if the
-/// static bound of all scenes proves that no path is cheaper.
-pub(crate) fn useful_tries<F: Fn(u64, u64) -> u64>(
-    kept: &StoredBound<F>,
-    start: &Path,
-    asked: Option<u32>,
-) -> u32
-    requires keeps { Keeps (F.pre kept.now.f) (F.post kept.now.f) kept.now.kind kept.now.film.now }
-{
-    let film = kept.film();
-    film.keeps_limits();
-    if kept.reach(film.all(), start.paid()) >= start.paid() {
-        return 0;
-    }
-    asked.unwrap_or(TRIES_A_CLASS * film.scenes() as u32)
-}
-
-/// Makes the instance's plan from the search of its classes, or from the rows' order if this is cheaper.
-pub(crate) fn plan_of(
-    alloc: Global,
-    reduced: &Reduced,
-    start: &Path,
-    options: SearchOptions,
-    own: Option<Own>,
-    searched: Searched,
-) -> Result<Plan, Memory>
-    requires start { IsStart reduced.now.film (path_data start.now) }
-    requires searched { IsSearchedFrom options.kind reduced.now.film (path_data start.now) options.nodes
-        (own_cost own reduced.now.apart) searched }
-    ensures solved { (film : FilmData) → reduced_data reduced.now ≡ reduction film
-        → StandsFor film (reduced_data reduced.now) → IsOwn film own
-        → IfOk result (λ plan. IsSolved options.kind film options.nodes (plan_data plan)) }
-    ensures status { IfOk result (λ plan. IsStatusOf searched.trimmed plan.status) }
-    ensures cost { IfOk result (λ plan. plan.cost ≡ or_own (searched.ended.cost + reduced.now.apart) own) }
-    ensures bound { IfOk result (λ plan. plan.bound ≡ searched.ended.bound + reduced.now.apart) }
-    ensures held { IfOk result (λ plan. plan.held ≡ searched.ended.held) }
-{
-    reduced.film.keeps_limits();
-    pays_stay_small();
-    paths_are_few();
-    a_least_tail_exists();
-    finishing_everything_is_the_optimum();
-    let Searched { ended, trimmed, .. } = searched;
-    let Ended {
-        order,
-        cost,
-        bound,
-        held,
-        lines,
-        ..
-    } = ended;
-    let (status, lines) = proof_of(trimmed, lines);
-    let (order, cost) = cheaper(alloc, reduced, order, cost + reduced.apart, own)?;
-    Ok(Plan {
-        status,
-        kind: options.kind,
-        cost,
-        bound: bound + reduced.apart,
-        held,
-        order,
-        lines,
-    })
-}
-
-/// Returns the cheaper of two orders and its cost in units of money: an order of the classes, which costs `cost` with
-/// the cost set apart, or that of the rows. If they cost the same, it is the first.
-fn cheaper(
-    alloc: Global,
-    reduced: &Reduced,
-    order: Vec<u8>,
-    cost: u64,
-    own: Option<Own>,
-) -> Result<(Vec<u16>, u64), Memory>
-    requires { IsKeptOrder reduced.now.film order.items }
-    ensures { IfOk result (λ least. IsRows own cost least.0.items least.1
-        ⊎ IsFound reduced.now.film (reduced_data reduced.now).members order.items own cost least.0.items least.1) }
-{
-    match own {
-        Some(rows) if rows.cost < cost => Ok((rows.order, rows.cost)),
-        _ => {
-            let order = oriented(&reduced.film, order);
-            Ok((expand(alloc, reduced, &order)?, cost))
-        }
-    }
-}
-
-/// Returns the status and the lines that prove the bound: if the lines were trimmed, the bound is the plan's cost.
-fn proof_of(trimmed: Option<Vec<Line>>, found: Vec<Line>) -> (Status, Vec<Line>)
-    ensures { IsProofOf trimmed found.items result.0 result.1.items }
-{
-    match trimmed {
-        Some(trimmed) => (Status::Optimal, trimmed),
-        None => (Status::Bounded, found),
-    }
-}
-
-/// Returns one fixed choice of the order and its reverse, if there are no pairs, otherwise the order itself.
-fn oriented(film: &Film, order: Vec<u8>) -> Vec<u8>
-    requires { IsKeptOrder film.now order.items }
-    ensures kept { IsKeptOrder film.now result.items }
-    ensures pay { pay_of film.now result.items ≡ pay_of film.now order.items }
-    ensures turned { film.now.pairs ≡ [] → result.items ≡ oriented result.items }
-{
-    let mut order = order;
-    if film.pairs().is_empty() {
-        orient(&mut order);
-    }
-    order
 }

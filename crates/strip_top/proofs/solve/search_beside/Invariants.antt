@@ -1,4 +1,4 @@
-use Rattle.strip_solve.proofs.solve.search_beside.Given as goal
+use Rattle.strip_top.proofs.solve.search_beside.Given as goal
 
 -- the locks of the store guard bounds of this film
 abbrev pub ghosts-search_stored : goal.ghosts-search_stored

@@ -5,18 +5,15 @@ ghost use Rattle.strip_film.specs.Film.{LiesIn};
 ghost use Rattle.strip_film.specs.Path.{IsComplete};
 ghost use Rattle.strip_film.specs.Shown.{path_data};
 ghost use Rattle.strip_bound.specs.StoredBound.{Keeps};
-ghost use Rattle.strip_memo.specs.Memo.{IsMemo};
 ghost use Rattle.strip_layers.specs.Asks.{AreAnswered};
 ghost use Rattle.strip_layers.specs.Layered.{IsLayered};
 ghost use Rattle.strip_layers.specs.Search.{AreTrue};
 ghost use Rattle.strip_layers.specs.Shown.{layered_data};
-ghost use Rattle.strip_lines.specs.Lines.{AreJustified, rules_of};
 ghost use Rattle.strip_worker.specs.Ended.{IsEnded};
 ghost use Rattle.strip_worker.specs.Shown.{ended_data};
 ghost use Rattle.strip_solve.specs.Answer.{MayBe};
-ghost use Rattle.strip_solve.specs.Searched.{IsClosed, IsTrimmed};
+ghost use Rattle.strip_top.specs.Closed.{IsClosed};
 
-use crate::solve::SearchOptions;
 use crate::told::Told;
 use std::alloc::Global;
 use std::thread::Threads;
@@ -28,7 +25,7 @@ use strip_io::Memory;
 use strip_layers::{Alone, Ask, Layered, search_by_layers};
 use strip_mask::Mask;
 use strip_memo::Memo;
-use strip_trim::trim;
+use strip_solve::{SearchOptions, trimmed};
 use strip_worker::{Ended, Gate, alone_through};
 
 /// The result of a search. It has the lines that its bound needs, if this bound is the lesser of its cost and the cost
@@ -199,25 +196,4 @@ fn ended_of<F: Fn(u64, u64) -> u64>(
         lines,
         spent: is_spent,
     })
-}
-
-/// Returns the lines that the bound needs, if the bound is the lesser of the cost and `own`, the cost of the rows'
-/// order.
-pub(crate) fn trimmed<F: Fn(u64, u64) -> u64>(
-    alloc: Global,
-    kept: &StoredBound<F>,
-    memo: &mut Memo,
-    ended: &Ended,
-    own: u64,
-) -> Result<Option<Vec<Line>>, Memory>
-    requires keeps { Keeps (F.pre kept.now.f) (F.post kept.now.f) kept.now.kind kept.now.film.now }
-    requires memo { IsMemo kept.now.kind kept.now.film.now memo.old }
-    requires lines { AreJustified (rules_of kept.now.kind kept.now.film.now) ended.now.lines.items }
-    ensures { IfOk result (IsTrimmed kept.now.kind kept.now.film.now own (ended_data ended.now)) }
-{
-    if ended.bound == ended.cost.min(own) {
-        Ok(Some(trim(alloc, kept, memo, &ended.lines)?))
-    } else {
-        Ok(None)
-    }
 }
