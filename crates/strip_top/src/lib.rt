@@ -1,6 +1,6 @@
-//! The whole solver, from words and files to the printed text and the exit status: exact branch and bound by one worker
-//! or several, depth-first or by layers, whose results become plans and whose plans the commands print. It carries the
-//! main theorem of the program `stripboard`.
+//! The solver `stripboard` over any files and output sink: exact branch and bound by one worker or several, depth-first
+//! or by layers, whose best order is printed as a plan with a proved bound. Its calls `run` and `report` carry the main
+//! theorem of the program.
 #![tactic(auto)]
 
 mod choosing;
