@@ -10,9 +10,7 @@ ghost use Rattle.strip_world.specs.Opened.{AreLimits};
 ghost use Rattle.strip_least.specs.Pass.{known as known_least};
 ghost use Rattle.strip_least.specs.Rule.{full_weight, once_below, times};
 ghost use Rattle.strip_book.specs.Pass.{table_of};
-ghost use Rattle.strip_worker.specs.Closed.{EndsFrom};
-ghost use Rattle.strip_worker.specs.Ended.{IsEnded};
-ghost use Rattle.strip_worker.specs.Shown.{ended_data};
+ghost use Rattle.strip_lines.specs.Ended.{EndsFrom, IsEnded, ended_data};
 ghost use Rattle.strip_worker.specs.Team.{HasWorkedOn};
 ghost use Rattle.strip_crew.specs.declared.source.Source.TheVariants.{Counter};
 ghost use Rattle.strip_crew.specs.declared.hub.HubParts.{HubParts};
@@ -38,10 +36,11 @@ use strip_front::{Front, make_front};
 use strip_hand::Hand;
 use strip_io::Memory;
 use strip_least::Least;
+use strip_lines::Ended;
 use strip_lines::laws::paths_are_few;
 use strip_memo::Memo;
 use strip_stripes::{Named, Stripes};
-use strip_worker::{Ended, Gate, Walked, Worker, asked_for, close, go_down_front, tell};
+use strip_worker::{Gate, Walked, Worker, asked_for, close, go_down_front, tell};
 use strip_world::Limits;
 
 /// The initial state of a race: its front (search frontier) without lines, the shared incumbent cost and next part, the

@@ -2,14 +2,12 @@
 //! state), and the search by one worker. It ends with a proved lower bound of the cost of every order.
 #![tactic(auto)]
 
-mod ended;
 mod ending;
 mod gate;
 mod search;
 mod walked;
 mod working;
 
-pub use ended::Ended;
 pub use ending::{close, tell};
 pub use gate::{Gate, Limit, OpenGate, Stage, Standing, Worker};
 pub use search::{alone, alone_through, asked_for};

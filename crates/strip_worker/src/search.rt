@@ -8,12 +8,10 @@ ghost use Rattle.strip_front.specs.Shown.{front_data};
 ghost use Rattle.strip_front.specs.Front.{IsFrontOf};
 ghost use Rattle.strip_world.specs.Hand.{IsOwned, hand_data};
 ghost use Rattle.strip_world.specs.Opened.{AreLimits, search_of};
-ghost use Rattle.strip_worker.specs.Ended.{IsEnded};
-ghost use Rattle.strip_worker.specs.Shown.{ended_data};
+ghost use Rattle.strip_lines.specs.Ended.{IsEnded, ended_data};
 ghost use Rattle.strip_worker.specs.Team.{HasFront};
 ghost use Rattle.strip_memo.specs.Memo.{IsMemo};
 
-use crate::ended::Ended;
 use crate::ending::{close, tell};
 use crate::gate::{Gate, OpenGate, Worker};
 use crate::working::{go_down_front, work};
@@ -24,6 +22,7 @@ use strip_front::laws::tasks_are_starts;
 use strip_front::{Front, make_front};
 use strip_hand::Hand;
 use strip_io::Memory;
+use strip_lines::Ended;
 use strip_memo::Memo;
 use strip_world::{Limits, World};
 
