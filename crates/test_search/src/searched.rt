@@ -8,10 +8,11 @@ use std::alloc::Global;
 use strip_bound::{BoundTables, StoredBound, static_reach};
 use strip_film::{Film, Path};
 use strip_io::Memory;
+use strip_lines::Ended;
 use strip_mask::Mask;
 use strip_memo::Memo;
 use strip_model::Kind;
-use strip_worker::{Ended, alone};
+use strip_worker::alone;
 
 /// Runs a search of the film with static bounds of this kind, from this path.
 pub(crate) fn searched(

@@ -18,10 +18,11 @@ use std::thread::Threads;
 use strip_bound::{BoundTables, StoredBound, static_reach};
 use strip_crew::race;
 use strip_film::{Film, Path};
+use strip_lines::Ended;
 use strip_mask::Mask;
 use strip_memo::Memo;
 use strip_model::Kind;
-use strip_worker::{Ended, OpenGate};
+use strip_worker::OpenGate;
 use strip_world::Limits;
 
 fn ring(alloc: Global) -> Result<Film, Fail> {
