@@ -3,13 +3,13 @@
 #![tactic(auto)]
 
 mod ending;
-mod gate;
 mod search;
 mod walked;
+mod worker;
 mod working;
 
 pub use ending::{close, tell};
-pub use gate::{Gate, Limit, OpenGate, Stage, Standing, Worker};
 pub use search::{alone, alone_through, asked_for};
 pub use walked::{Walked, merge};
+pub use worker::Worker;
 pub use working::{go_down_front, work};

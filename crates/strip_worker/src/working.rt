@@ -11,13 +11,13 @@ ghost use Rattle.strip_walk.specs.Found.{MayExplore};
 ghost use Rattle.strip_worker.specs.Team.{HasClaimed, HasEnded, HasWorked, HasWorkedOn, MayStart, OwnsFront, WorksOn};
 ghost use Rattle.strip_worker.specs.Team.{WalksPart, WalksTask, beginning};
 
-use crate::gate::{Gate, Worker};
 use crate::walked::Walked;
+use crate::worker::Worker;
 use std::alloc::Global;
 use strip_bound::StoredBound;
 use strip_film::{Cursor, Path, Running};
 use strip_front::{Front, go_down};
-use strip_hand::Hand;
+use strip_hand::{Gate, Hand};
 use strip_io::Memory;
 use strip_memo::Memo;
 use strip_walk::{Found, explore};
