@@ -15,13 +15,13 @@ use std::alloc::Global;
 use std::sync::Wait;
 use std::thread::Threads;
 use strip_answer::finish;
+use strip_hand::Gate;
 use strip_io::{Files, Sink};
 use strip_model::Instance;
 use strip_proof::Plan;
 use strip_reduce::ReduceFault;
 use strip_solve::{SearchOptions, solve_alone};
 use strip_words::laws::words_name_one_job;
-use strip_worker::Gate;
 
 /// Runs the whole program, and returns its exit status. It reads the files that the words name, and takes all its
 /// memory before it writes. One worker searches, even if the words ask for several.

@@ -24,6 +24,7 @@ use std::sync::Wait;
 use std::thread::Threads;
 use strip_bound::{BoundTables, StoredBound, static_reach};
 use strip_film::{Film, Path};
+use strip_hand::Gate;
 use strip_io::Memory;
 use strip_lines::Ended;
 use strip_mask::Mask;
@@ -31,7 +32,6 @@ use strip_model::Kind;
 use strip_proof::Plan;
 use strip_reduce::Reduced;
 use strip_start::{greedy, improve, or_listed, path_of, vary_beside};
-use strip_worker::Gate;
 
 /// The greatest number of lines of the search with pair bounds. They take a tenth of a second.
 const FIRST_LINES: u32 = 50_000;

@@ -23,13 +23,14 @@ use strip_bound::StoredBound;
 use strip_crew::{Beside, answer_beside};
 use strip_film::laws::{kept_orders_are_ready_lists, steps_add_up_to_the_pay};
 use strip_film::{Line, Path};
+use strip_hand::Gate;
 use strip_io::Memory;
 use strip_layers::{Alone, Ask, Layered, search_by_layers};
 use strip_lines::Ended;
 use strip_mask::Mask;
 use strip_memo::Memo;
 use strip_trim::trim;
-use strip_worker::{Gate, alone_through};
+use strip_worker::alone_through;
 
 /// The result of a search. It has the lines that its bound needs, if this bound is the lesser of its cost and the cost
 /// of the rows' order.

@@ -29,6 +29,7 @@ use strip_bound::{BoundTables, StoredBound, static_reach};
 use strip_crew::race;
 use strip_film::laws::{a_least_tail_exists, finishing_everything_is_the_optimum};
 use strip_film::{Film, Line, Path};
+use strip_hand::{Gate, Limits, OpenGate};
 use strip_io::Memory;
 use strip_lines::Ended;
 use strip_lines::laws::{paths_are_few, the_rules_are_true};
@@ -39,8 +40,6 @@ use strip_model::{Instance, Kind};
 use strip_proof::{Plan, Status};
 use strip_reduce::{ReduceFault, Reduced, expand, orient, reduce};
 use strip_start::{greedy, improve, or_listed, vary, vary_beside};
-use strip_worker::{Gate, OpenGate};
-use strip_world::Limits;
 
 /// Number of local-search moves for each class on the initial order, if the options give none.
 const TRIES_A_CLASS: u32 = 5_000;
