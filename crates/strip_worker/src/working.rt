@@ -48,6 +48,12 @@ pub fn go_down_front<H: Hand, F: Fn(u64, u64) -> u64>(
     Ok(walked)
 }
 
+/// Returns the number of tasks that are to be walked.
+pub fn asked_for(front: &Front) -> u32 {
+    let wanted = front.wanted.iter().filter(|wanted| **wanted);
+    u32::try_from(wanted.count()).unwrap_or(u32::MAX)
+}
+
 /// Claims parts until none is left, and walks each wanted task, after a report to the worker's gate. It skips the
 /// front, since the caller went down it. `walked` has the hand's earlier results, and then also the new ones. It fails
 /// with `Memory` only if the hand was refused memory. The time may grow with the number of open paths that the initial

@@ -13,9 +13,6 @@ ghost use Rattle.strip_lines.specs.Ended.{IsEnded, ended_data};
 ghost use Rattle.strip_worker.specs.Team.{HasFront};
 ghost use Rattle.strip_memo.specs.Memo.{IsMemo};
 
-use crate::ending::{close, tell};
-use crate::worker::Worker;
-use crate::working::{go_down_front, work};
 use std::alloc::Global;
 use strip_bound::StoredBound;
 use strip_film::Path;
@@ -25,6 +22,7 @@ use strip_hand::{Gate, Hand, Limits, OpenGate};
 use strip_io::Memory;
 use strip_lines::Ended;
 use strip_memo::Memo;
+use strip_worker::{Worker, asked_for, close, go_down_front, tell, work};
 use strip_world::World;
 
 /// Number of scenes of a task if one worker walks all tasks.
@@ -91,12 +89,6 @@ pub fn alone_through<F: Fn(u64, u64) -> u64, G: Gate>(
     let number = close(kept, &mut world, &mut front, &walked)?;
     let best = *world.best(0);
     tell(alloc, kept, &best, world.into_lines(), number, walked.spent)
-}
-
-/// Returns the number of tasks that are to be walked.
-pub fn asked_for(front: &Front) -> u32 {
-    let wanted = front.wanted.iter().filter(|wanted| **wanted);
-    u32::try_from(wanted.count()).unwrap_or(u32::MAX)
 }
 
 /// Returns the initial world (the whole search state), in which the worker has claimed the front.
