@@ -19,6 +19,7 @@ use crate::solve::SearchOptions;
 use crate::told::Told;
 use std::alloc::Global;
 use std::thread::Threads;
+use strip_alone::alone_through;
 use strip_bound::StoredBound;
 use strip_crew::{Beside, answer_beside};
 use strip_film::laws::{kept_orders_are_ready_lists, steps_add_up_to_the_pay};
@@ -30,7 +31,6 @@ use strip_lines::Ended;
 use strip_mask::Mask;
 use strip_memo::Memo;
 use strip_trim::trim;
-use strip_worker::alone_through;
 
 /// The result of a search. It has the lines that its bound needs, if this bound is the lesser of its cost and the cost
 /// of the rows' order.
