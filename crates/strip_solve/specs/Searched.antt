@@ -10,8 +10,7 @@ use Rattle.strip_film.specs.Path.{PathData}
 use Rattle.strip_film.specs.Shown.{path_data}
 use Rattle.strip_lines.specs.Lines.{rules_of}
 use Rattle.strip_trim.specs.Trimmed.{AreTrimmed}
-use Rattle.strip_worker.specs.Ended.{EndedData, IsEnded}
-use Rattle.strip_worker.specs.Shown.{ended_data}
+use Rattle.strip_lines.specs.Ended.{EndedData, IsEnded, ended_data}
 use Rattle.strip_proof.specs.declared.plan.Status.{Status}
 use Rattle.strip_proof.specs.declared.plan.Status.TheVariants.{Optimal, Bounded}
 use Rattle.strip_reduce.specs.Oriented.{oriented}

@@ -19,11 +19,11 @@ use std::alloc::Global;
 use strip_film::laws::{a_least_tail_exists, finishing_everything_is_the_optimum};
 use strip_film::{Film, Line, Path};
 use strip_io::Memory;
+use strip_lines::Ended;
 use strip_lines::laws::paths_are_few;
 use strip_model::laws::pays_stay_small;
 use strip_proof::{Plan, Status};
 use strip_reduce::{Reduced, expand, orient};
-use strip_worker::Ended;
 
 /// A finished search: its initial path and its result. It has the lines that the bound needs, if this is the lesser of
 /// the cost and the cost of the rows' order.

@@ -3,16 +3,16 @@ ghost use Rattle.std.specs.Prelude.{IfOk};
 ghost use Rattle.strip_bound.specs.StoredBound.{Keeps};
 ghost use Rattle.strip_memo.specs.Memo.{IsMemo};
 ghost use Rattle.strip_lines.specs.Lines.{AreJustified, rules_of};
-ghost use Rattle.strip_worker.specs.Shown.{ended_data};
+ghost use Rattle.strip_lines.specs.Ended.{ended_data};
 ghost use Rattle.strip_solve.specs.Searched.{IsTrimmed};
 
 use std::alloc::Global;
 use strip_bound::StoredBound;
 use strip_film::Line;
 use strip_io::Memory;
+use strip_lines::Ended;
 use strip_memo::Memo;
 use strip_trim::trim;
-use strip_worker::Ended;
 
 /// Returns the lines that the bound needs, if the bound is the lesser of the cost and `own`, the cost of the rows'
 /// order.

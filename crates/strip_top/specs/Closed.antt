@@ -4,8 +4,7 @@ use Rattle.strip_model.specs.declared.kind.Kind.{Kind}
 use Rattle.strip_model.specs.Film.{FilmData}
 use Rattle.strip_film.specs.Path.{PathData, IsComplete}
 use Rattle.strip_film.specs.Shown.{path_data}
-use Rattle.strip_worker.specs.Ended.{IsEnded}
-use Rattle.strip_worker.specs.Shown.{ended_data}
+use Rattle.strip_lines.specs.Ended.{IsEnded, ended_data}
 use Rattle.strip_solve.specs.declared.plan.Searched.{Searched}
 use Rattle.strip_solve.specs.Searched.{IsTrimmed}
 use Rattle.strip_top.specs.declared.ending.Closed.{Closed}

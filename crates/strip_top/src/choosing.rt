@@ -24,14 +24,15 @@ use std::sync::Wait;
 use std::thread::Threads;
 use strip_bound::{BoundTables, StoredBound, static_reach};
 use strip_film::{Film, Path};
+use strip_hand::Gate;
 use strip_io::Memory;
+use strip_lines::Ended;
 use strip_mask::Mask;
 use strip_model::Kind;
 use strip_proof::Plan;
 use strip_reduce::Reduced;
 use strip_solve::{Own, SearchOptions, Searched, own_cost, plan_of, useful_tries};
 use strip_start::{greedy, improve, or_listed, path_of, vary_beside};
-use strip_worker::{Ended, Gate};
 
 /// The greatest number of lines of the search with pair bounds. They take a tenth of a second.
 const FIRST_LINES: u32 = 50_000;

@@ -9,24 +9,25 @@ ghost use Rattle.strip_layers.specs.Asks.{AreAnswered};
 ghost use Rattle.strip_layers.specs.Layered.{IsLayered};
 ghost use Rattle.strip_layers.specs.Search.{AreTrue};
 ghost use Rattle.strip_layers.specs.Shown.{layered_data};
-ghost use Rattle.strip_worker.specs.Ended.{IsEnded};
-ghost use Rattle.strip_worker.specs.Shown.{ended_data};
+ghost use Rattle.strip_lines.specs.Ended.{IsEnded, ended_data};
 ghost use Rattle.strip_solve.specs.Answer.{MayBe};
 ghost use Rattle.strip_top.specs.Closed.{IsClosed};
 
 use crate::told::Told;
 use std::alloc::Global;
 use std::thread::Threads;
+use strip_alone::alone_through;
 use strip_bound::StoredBound;
 use strip_crew::{Beside, answer_beside};
 use strip_film::laws::{kept_orders_are_ready_lists, steps_add_up_to_the_pay};
 use strip_film::{Line, Path};
+use strip_hand::Gate;
 use strip_io::Memory;
 use strip_layers::{Alone, Ask, Layered, search_by_layers};
+use strip_lines::Ended;
 use strip_mask::Mask;
 use strip_memo::Memo;
 use strip_solve::{SearchOptions, trimmed};
-use strip_worker::{Ended, Gate, alone_through};
 
 /// The result of a search. It has the lines that its bound needs, if this bound is the lesser of its cost and the cost
 /// of the rows' order.

@@ -14,12 +14,12 @@ use std::alloc::Global;
 use std::sync::Wait;
 use std::thread::Threads;
 use strip_commands::report_by;
+use strip_hand::Gate;
 use strip_io::{Files, Sink};
 use strip_model::Instance;
 use strip_proof::Plan;
 use strip_reduce::ReduceFault;
 use strip_solve::SearchOptions;
-use strip_worker::Gate;
 
 /// Runs the whole program, and returns its exit status. It reads the files that the words name, and takes all its
 /// memory before it writes. One worker searches, even if the words ask for several.

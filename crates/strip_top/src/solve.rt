@@ -24,6 +24,7 @@ use std::thread::Threads;
 use strip_bound::{BoundTables, StoredBound, static_reach};
 use strip_crew::race;
 use strip_film::{Film, Path};
+use strip_hand::{Gate, Limits, OpenGate};
 use strip_io::Memory;
 use strip_lines::laws::the_rules_are_true;
 use strip_mask::Mask;
@@ -35,8 +36,6 @@ use strip_solve::{
     Own, SearchOptions, Searched, own_cost, own_order, plan_of, trimmed, useful_tries,
 };
 use strip_start::{greedy, improve, or_listed, vary, vary_beside};
-use strip_worker::{Gate, OpenGate};
-use strip_world::Limits;
 
 /// Finds a plan of the instance, with one worker. It fails with `TooManyClasses` if more than 64 classes are left. It
 /// takes memory for the lines and entries before it searches.

@@ -6,11 +6,11 @@ use crate::solve::{solve_beside, solve_through};
 use std::alloc::Global;
 use std::sync::Wait;
 use std::thread::{self, Threads};
+use strip_hand::Gate;
 use strip_model::Instance;
 use strip_proof::Plan;
 use strip_reduce::ReduceFault;
 use strip_solve::SearchOptions;
-use strip_worker::Gate;
 
 /// Finds a plan of the instance with `workers` workers, 1 to 64; without a number, with as many as the machine has
 /// processors. Several workers run in threads of the runtime. The gate gets reports of the search.

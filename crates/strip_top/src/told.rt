@@ -1,7 +1,8 @@
 // Progress reports of the search of an instance's classes.
+use strip_hand::{Gate, Limit, Stage, Standing};
 use strip_layers::{Reached, Watch};
+use strip_lines::Ended;
 use strip_model::Kind;
-use strip_worker::{Ended, Gate, Limit, Stage, Standing};
 
 /// The gate of a search of classes. It reports costs and bounds with the cost set apart, in units of money.
 #[derive(Drop)]

@@ -19,7 +19,7 @@ use Rattle.strip_lines.specs.Parts.{lies_in}
 use Rattle.strip_table.specs.Home.{hash, bucket_of, stripe_of}
 use Rattle.strip_world.specs.declared.event.Event.TheVariants.{Claim, Look}
 use Rattle.strip_world.specs.declared.event.Reply.TheVariants.{Least, Task}
-use Rattle.strip_world.specs.declared.event.Limits.{Limits}
+use Rattle.strip_hand.specs.declared.limits.Limits.{Limits}
 use Rattle.strip_hand.specs.Search.{AreStarts, depth_of}
 use Rattle.strip_world.specs.World.{WorldData, part_at, worker_at}
 use Rattle.strip_hand.specs.Hand.{Knows, LetsThrough}

@@ -8,8 +8,7 @@ use Rattle.strip_film.specs.Shown.{path_data}
 use Rattle.strip_lines.specs.Lines.{rules_of}
 use Rattle.strip_lines.specs.Paths.{factorial, candidate_count, is_candidate}
 use Rattle.strip_reduce.specs.Shown.{reduced_data}
-use Rattle.strip_worker.specs.Ended.{EndedData}
-use Rattle.strip_worker.specs.Shown.{ended_data}
+use Rattle.strip_lines.specs.Ended.{EndedData, ended_data}
 use Rattle.strip_solve.proofs.Back.{HasOptimum, least_cost, solved_by, status_of}
 use Rattle.strip_solve.proofs.plan.plan_of.Goals as goal
 

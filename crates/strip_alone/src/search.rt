@@ -7,25 +7,23 @@ ghost use Rattle.strip_lines.specs.Lines.{rules_of};
 ghost use Rattle.strip_front.specs.Shown.{front_data};
 ghost use Rattle.strip_front.specs.Front.{IsFrontOf};
 ghost use Rattle.strip_world.specs.Hand.{IsOwned, hand_data};
-ghost use Rattle.strip_world.specs.Opened.{AreLimits, search_of};
-ghost use Rattle.strip_worker.specs.Ended.{IsEnded};
-ghost use Rattle.strip_worker.specs.Shown.{ended_data};
+ghost use Rattle.strip_world.specs.Opened.{search_of};
+ghost use Rattle.strip_hand.specs.Limits.{AreLimits};
+ghost use Rattle.strip_lines.specs.Ended.{IsEnded, ended_data};
 ghost use Rattle.strip_worker.specs.Team.{HasFront};
 ghost use Rattle.strip_memo.specs.Memo.{IsMemo};
 
-use crate::ended::Ended;
-use crate::ending::{close, tell};
-use crate::gate::{Gate, OpenGate, Worker};
-use crate::working::{go_down_front, work};
 use std::alloc::Global;
 use strip_bound::StoredBound;
 use strip_film::Path;
 use strip_front::laws::tasks_are_starts;
 use strip_front::{Front, make_front};
-use strip_hand::Hand;
+use strip_hand::{Gate, Hand, Limits, OpenGate};
 use strip_io::Memory;
+use strip_lines::Ended;
 use strip_memo::Memo;
-use strip_world::{Limits, World};
+use strip_worker::{Worker, asked_for, close, go_down_front, tell, work};
+use strip_world::World;
 
 /// Number of scenes of a task if one worker walks all tasks.
 const TASK_SCENES: usize = 2;
@@ -91,12 +89,6 @@ pub fn alone_through<F: Fn(u64, u64) -> u64, G: Gate>(
     let number = close(kept, &mut world, &mut front, &walked)?;
     let best = *world.best(0);
     tell(alloc, kept, &best, world.into_lines(), number, walked.spent)
-}
-
-/// Returns the number of tasks that are to be walked.
-pub fn asked_for(front: &Front) -> u32 {
-    let wanted = front.wanted.iter().filter(|wanted| **wanted);
-    u32::try_from(wanted.count()).unwrap_or(u32::MAX)
 }
 
 /// Returns the initial world (the whole search state), in which the worker has claimed the front.

@@ -1,6 +1,5 @@
 // Reports of a running search.
 
-use strip_hand::Tally;
 use strip_model::Kind;
 
 /// The state of a search: the best order's cost and the bound of all orders proved so far, if there is one, in units of
@@ -58,24 +57,4 @@ impl Gate for OpenGate {
     fn reached(&self, _limit: &Limit) {}
 
     fn ended(&self, _stage: &Stage) {}
-}
-
-/// A worker of a search: its number and its observer.
-#[derive(Drop)]
-pub struct Worker<'g, G: Gate> {
-    pub gate: &'g G,
-    pub number: u32,
-}
-
-impl<'g, G: Gate> Worker<'g, G> {
-    /// Reports that the worker begins the task of a part, with the state of the search.
-    pub(crate) fn begin(&self, part: u32, tally: Tally) {
-        let standing = Standing {
-            cost: tally.cost,
-            bound: None,
-            lines: u64::from(tally.lines),
-            most: tally.most,
-        };
-        self.gate.enter(self.number, part, &standing);
-    }
 }

@@ -9,12 +9,12 @@ use Rattle.strip_front.specs.Shown.{front_data}
 use Rattle.strip_world.specs.Hand.{hand_data}
 use Rattle.strip_world.specs.Opened.{search_of}
 use Rattle.strip_world.specs.World.{worker_at}
-use Rattle.strip_worker.specs.Closed.{EndsFrom, IsSettled}
-use Rattle.strip_worker.specs.Shown.{ended_data}
+use Rattle.strip_worker.specs.Closed.{IsSettled}
+use Rattle.strip_lines.specs.Ended.{EndsFrom, ended_data}
 use Rattle.strip_worker.proofs.Closed.{ended_from, search_stays, told_by}
 use Rattle.strip_worker.proofs.Counted.{front_has_all}
-use Rattle.strip_worker.proofs.OneWorker.{has_all, owns_all, search_by, settled_alone}
-use Rattle.strip_worker.proofs.search.alone_through.Goals as goal
+use Rattle.strip_alone.proofs.OneWorker.{has_all, owns_all, search_by, settled_alone}
+use Rattle.strip_alone.proofs.search.alone_through.Goals as goal
 
 pub go_down_front-requires-clause-search : goal.go_down_front-requires-clause-search
 go_down_front-requires-clause-search g c =

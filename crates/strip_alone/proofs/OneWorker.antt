@@ -12,7 +12,7 @@ use Rattle.strip_lines.specs.Parts.{AreCounted}
 use Rattle.strip_hand.specs.Calls.{Claims}
 use Rattle.strip_hand.specs.Hand.{RecordData, no_path_yet}
 use Rattle.strip_hand.specs.Search.{GoesBy, SearchData, depth_of, search_rules}
-use Rattle.strip_world.specs.declared.event.Limits.{Limits}
+use Rattle.strip_hand.specs.declared.limits.Limits.{Limits}
 use Rattle.strip_world.specs.declared.event.Reply.TheVariants.{Task}
 use Rattle.strip_world.specs.Hand.{IsOwned, hand_data, own_record, record_by}
 use Rattle.strip_world.specs.Opened.{opened}

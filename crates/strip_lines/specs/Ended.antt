@@ -7,6 +7,7 @@ use Rattle.strip_model.specs.Pay.{IsLeast, pay_of}
 use Rattle.strip_film.specs.declared.shared.Line.{Line}
 use Rattle.strip_film.specs.Film.{all_scenes}
 use Rattle.strip_film.specs.Path.{PathData}
+use Rattle.strip_lines.specs.declared.ended.Ended.{Ended}
 use Rattle.strip_lines.specs.Lines.{AreJustified, ahead, known, rules_of}
 use Rattle.strip_lines.specs.Paths.{candidate_count, leaving_count}
 
@@ -19,6 +20,17 @@ pub record EndedData : Type 0 where
   pub held : ℕ
   pub lines : List Line
   pub spent : Bool
+
+-- what contracts see of the end of a search
+abbrev pub ended_data : Ended → EndedData
+ended_data ended = record {
+  order = ended.order.items;
+  cost = ended.cost;
+  bound = ended.bound;
+  held = ended.held;
+  lines = ended.lines.items;
+  spent = ended.spent;
+}
 
 -- the search was cut short: there are as many lines as there may be, and fewer than candidates of the start; and the
 -- bound is at least the look-ahead of all scenes
@@ -44,3 +56,7 @@ pub record IsEnded (kind : Kind) (film : FilmData) (start : PathData) (cap : ℕ
       ≤ leaving_count (rules_of kind film) start.paid set
   pub spent : ended.spent ≡ true → RanOut kind film start cap ended
   pub closed : ended.spent ≡ false → ended.bound ≡ ended.cost
+
+-- it ended so, where the search began with a path that paid this much
+abbrev pub EndsFrom : Kind → FilmData → ℕ → ℕ → EndedData → Type 0
+EndsFrom kind film paid cap ended = (start : PathData) → start.paid ≡ paid → IsEnded kind film start cap ended

@@ -11,10 +11,10 @@ use Rattle.strip_lines.specs.Lines.{rules_of}
 use Rattle.strip_front.specs.Shown.{front_data}
 use Rattle.strip_world.specs.Opened.{idle_worker, search_of}
 use Rattle.strip_world.specs.World.{WorldData}
-use Rattle.strip_worker.proofs.OneWorker.{front_claimed}
-use Rattle.strip_worker.proofs.search.open.Given.{Over}
-use Rattle.strip_worker.proofs.search.open.Goals as goal
-use Rattle.strip_worker.proofs.search.open.Goals.{In_ok-world}
+use Rattle.strip_alone.proofs.OneWorker.{front_claimed}
+use Rattle.strip_alone.proofs.search.open.Given.{Over}
+use Rattle.strip_alone.proofs.search.open.Goals as goal
+use Rattle.strip_alone.proofs.search.open.Goals.{In_ok-world}
 
 pub new-requires-clause-start : goal.new-requires-clause-start
 new-requires-clause-start g c = subst (λ (f : FilmData). IsComplete f (path_data c.args.start.now)) (sym c.film-2.ensures) c.requires.start
