@@ -17,7 +17,7 @@ use Rattle.strip_table.specs.Stripe.{bucket_at}
 use Rattle.strip_hand.specs.Search.{depth_of, search_rules}
 use Rattle.strip_hand.proofs.Starts.{tasks_apart}
 use Rattle.strip_world.specs.World.{WorldData, no_worker, part_at, stripe_at, worker_at}
-use Rattle.strip_world.specs.Allowed.{MayEnlist}
+use Rattle.strip_world.specs.Allowed.{WorkerMayEnlist}
 use Rattle.strip_hand.specs.Hand.{Knows}
 use Rattle.strip_world.specs.Sound.{IsSound}
 use Rattle.strip_world.proofs.Lines.{is_candidate_of_start, part_within}
@@ -66,7 +66,7 @@ module _ (world : WorldData) (sound : IsSound world) where
       lines_ways (search_rules world.search) world.search.start (depth_of world.search) world.search.tasks sound.film (tasks_apart world.search sound.tasks) world.lines
       (λ part. (part_at world part).last) (λ part. (part_at world part).number) sound.counts
 
-  pub room_for_more : (who part : ℕ) (path : PathData) → who < length world.workers → MayEnlist world who part path
+  pub room_for_more : (who part : ℕ) (path : PathData) → who < length world.workers → WorkerMayEnlist world who part path
       → length world.lines + 1 ≤ candidate_count (search_rules world.search) world.search.start
   room_for_more who part path lt may =
       lines_room (search_rules world.search) world.search.start (depth_of world.search) world.search.tasks sound.film (tasks_apart world.search sound.tasks) world.lines
