@@ -18,7 +18,7 @@ use Rattle.strip_book.specs.View.{ViewData, new_entry}
 use Rattle.strip_book.specs.Rule.{IsEntry, draft_line}
 use Rattle.strip_book.specs.Steps.{HasCompared, HasLearnt, HasMade, HasRaised, HasSeen, HasSpent, OwnsAll, about, copied, drawn, half_written, heard_from, joined, knowing, with_part, written}
 use Rattle.strip_book.specs.Words.{bound_word}
-use Rattle.strip_book.specs.Pass.{Begins, Hears, IsCopyOf, IsPassOf, IsSpent, Joins, MakesLine, MayBegin, MayEnlist, Raises, Settles, Stays, TableData, known, table_of}
+use Rattle.strip_book.specs.Pass.{BeginsPart, Hears, IsCopyOf, IsPassOf, Joins, KeepsView, MakesLine, MayBegin, MayEnlistNext, Raises, Settles, TableData, ViewIsSpent, known, table_of}
 use Rattle.strip_book.proofs.Entries.{begun-here, begun-there, enlisted-here, enlisted-parts, enlisted-there}
 use Rattle.strip_book.proofs.Told.{new_is_entry}
 
@@ -148,8 +148,8 @@ heard_copy table copy after other u is words slots view compared =
 -- ---- what the calls make of what is known
 
 -- the view is the one before but for some of what a call doesn't show
-pub learns : (before after : ViewData) (lines : List Line) → HasLearnt before lines → after ≡ knowing before lines → Stays before after
-learns before after lines learnt view = subst (Stays before) (sym view) (record { weight = refl; search = refl; grow = learnt.knew })
+pub learns : (before after : ViewData) (lines : List Line) → HasLearnt before lines → after ≡ knowing before lines → KeepsView before after
+learns before after lines learnt view = subst (KeepsView before) (sym view) (record { weight = refl; search = refl; grow = learnt.knew })
 
 pub settles_so : (before after : ViewData) → HasSeen before after → Settles before after
 settles_so before after seen = record {
@@ -165,9 +165,9 @@ raises_so before after word line bound there raised = record {
   raised = subst (λ (u : ViewData). bound ≤ (line_at u.lines line).bound) (sym raised.only) (raised.raised_to line there);
 }
 
-pub begins_so : (before after : ViewData) (part : ℕ) → MayBegin before part → after ≡ with_part before part → Begins before part after
+pub begins_so : (before after : ViewData) (part : ℕ) → MayBegin before part → after ≡ with_part before part → BeginsPart before part after
 begins_so before after part may view =
-    subst (Begins before part) (sym view)
+    subst (BeginsPart before part) (sym view)
     (record {
       stays = record { weight = refl; search = refl; grow = grow_self before.lines };
       lines = refl;
@@ -176,7 +176,7 @@ begins_so before after part may view =
       others = λ other apart. begun-there part other before.entries apart;
     })
 
-pub makes_so : (before u after : ViewData) (part : ℕ) (path : PathData) (bound number : ℕ) → MayEnlist before part path bound → HasMade (about before part path) number u
+pub makes_so : (before u after : ViewData) (part : ℕ) (path : PathData) (bound number : ℕ) → MayEnlistNext before part path bound → HasMade (about before part path) number u
     → after ≡ written (half_written u) → MakesLine before part path bound number after
 makes_so before u after part path bound number may made view =
     let line : Line = draft_line (about before part path) in
@@ -203,9 +203,9 @@ makes_so before u after part path bound number may made view =
       };
     })
 
-pub spends_so : (before after : ViewData) (part : ℕ) (path : PathData) (count : ℕ) → count ≡ before.search.cap → HasSpent (about before part path) after → IsSpent before count after
+pub spends_so : (before after : ViewData) (part : ℕ) (path : PathData) (count : ℕ) → count ≡ before.search.cap → HasSpent (about before part path) after → ViewIsSpent before count after
 spends_so before after part path count full spent =
-    subst (IsSpent before count) (sym spent.only)
+    subst (ViewIsSpent before count) (sym spent.only)
     (record {
       stays = record { weight = refl; search = refl; grow = spent.learnt.knew };
       entries = refl;
@@ -213,9 +213,9 @@ spends_so before after part path count full spent =
       full = full;
     })
 
-pub spent_so : (before after : ViewData) (count : ℕ) → count ≡ before.search.cap → before.spent ≡ true → HasSeen before after → IsSpent before count after
+pub spent_so : (before after : ViewData) (count : ℕ) → count ≡ before.search.cap → before.spent ≡ true → HasSeen before after → ViewIsSpent before count after
 spent_so before after count full spent seen =
-    subst (IsSpent before count) (sym seen.only)
+    subst (ViewIsSpent before count) (sym seen.only)
     (record {
       stays = record { weight = refl; search = refl; grow = seen.learnt.knew };
       entries = refl;

@@ -16,7 +16,7 @@ use Rattle.strip_book.specs.View.{ViewData}
 use Rattle.strip_book.specs.Words.{bound_word, count_word, set_word}
 use Rattle.strip_book.specs.Rule.{Fits, IsBook, bound_due, lines_of, spent_weight}
 use Rattle.strip_book.specs.Steps.{HasLearnt, HasRaised, knowing}
-use Rattle.strip_book.specs.Pass.{MayRaise}
+use Rattle.strip_book.specs.Pass.{MayRaiseKnown}
 use Rattle.strip_book.proofs.Views.{total-put}
 use Rattle.strip_book.proofs.RuleKept.{Step, grow_none, learnt, mine_fits, never_writes, stays, stepped_by}
 
@@ -27,7 +27,7 @@ sets_stay lines place bound q lt =
     omega (arith, both)
 
 module _ (search : SearchData) (s : State Path ViewData) (k : IsBook search s) (id : ℕ) (me : ViewData) (at : get_elem? s.views id ≡ some me) (idle : me.writing ≡ false)
-    (heavy : 0 < me.weight) (n bound : ℕ) (may : MayRaise me n bound) where
+    (heavy : 0 < me.weight) (n bound : ℕ) (may : MayRaiseKnown me n bound) where
   fits : Fits search s.words k.lines me
   fits = mine_fits search s k id me at
 
@@ -160,7 +160,7 @@ module _ (search : SearchData) (s : State Path ViewData) (k : IsBook search s) (
         omega (arith, b));
   }
 
-raises_bare : (search : SearchData) (slots id : ℕ) (me : ViewData) → me.writing ≡ false → 0 < me.weight → (n bound : ℕ) → MayRaise me n bound
+raises_bare : (search : SearchData) (slots id : ℕ) (me : ViewData) → me.writing ≡ false → 0 < me.weight → (n bound : ℕ) → MayRaiseKnown me n bound
     → Allows (IsBook search) slots id (me, []) (bound_word n) (λ x. max x bound) (λ found after. HasRaised (bound_word n) bound me after.0 × (after.1 ≡ []))
 raises_bare search slots id me idle heavy n bound may s k homes at small = (
   mine search s k id me at idle heavy n bound may,
@@ -172,7 +172,7 @@ raises_bare search slots id me idle heavy n bound may s k homes at small = (
 )
 
 pub raises_at : (search : SearchData) (slots id : ℕ) (me : Me Path ViewData) → me.1 ≡ [] → me.0.writing ≡ false → 0 < me.0.weight → (n bound word : ℕ) → word ≡ bound_word n
-    → MayRaise me.0 n bound → Allows (IsBook search) slots id me word (λ x. max x bound) (λ found after. HasRaised word bound me.0 after.0 × (after.1 ≡ me.1))
+    → MayRaiseKnown me.0 n bound → Allows (IsBook search) slots id me word (λ x. max x bound) (λ found after. HasRaised word bound me.0 after.0 × (after.1 ≡ me.1))
 raises_at search slots id me none idle heavy n bound word there may =
     subst (λ (i : ℕ). Allows (IsBook search) slots id me i (λ x. max x bound) (λ found after. HasRaised i bound me.0 after.0 × (after.1 ≡ me.1))) (sym there)
     (subst (λ (held : List (ℕ × Path)). Allows (IsBook search) slots id (me.0, held) (bound_word n) (λ x. max x bound)

@@ -84,7 +84,7 @@ pub record IsFirst (search : SearchData) (book : Book) (pass : BookPass) : Type 
   pub knows : known pass ≡ first_view search
 
 -- weight and search stay, and what is known grows
-pub record Stays (before after : ViewData) : Type 0 where
+pub record KeepsView (before after : ViewData) : Type 0 where
   pub weight : after.weight ≡ before.weight
   pub search : after.search ≡ before.search
   pub grow : GrowTo before.lines after.lines
@@ -95,8 +95,8 @@ pub record MayBegin (view : ViewData) (part : ℕ) : Type 0 where
   pub fresh : record_at part view.entries ≡ None
 
 -- begin: the part is one more of the entries, without a path
-pub record Begins (before : ViewData) (part : ℕ) (after : ViewData) : Type 0 where
-  pub stays : Stays before after
+pub record BeginsPart (before : ViewData) (part : ℕ) (after : ViewData) : Type 0 where
+  pub stays : KeepsView before after
   pub lines : after.lines ≡ before.lines
   pub entries : after.entries ≡ before.entries ++ new_entry part ∷ []
   pub here : record_at part after.entries ≡ Some no_path_yet
@@ -114,7 +114,7 @@ pub record IsNext (search : SearchData) (entries : List EntryData) (part : ℕ) 
   pub below : path.paid + (search_rules search).bound path.rest < search.start
 
 -- a path may be enlisted that is the next one of its part, with the static bound of what remains
-pub record MayEnlist (view : ViewData) (part : ℕ) (path : PathData) (bound : ℕ) : Type 0 where
+pub record MayEnlistNext (view : ViewData) (part : ℕ) (path : PathData) (bound : ℕ) : Type 0 where
   pub next : IsNext view.search view.entries part path
   pub static_bound : bound ≡ (search_rules view.search).bound path.rest
 
@@ -128,15 +128,15 @@ pub record Counts (before : List EntryData) (part : ℕ) (path : PathData) (afte
 
 -- a line is made: it wasn't known before, and now it is, with what remains and this bound; and it is counted
 pub record MakesLine (before : ViewData) (part : ℕ) (path : PathData) (bound line : ℕ) (after : ViewData) : Type 0 where
-  pub stays : Stays before after
+  pub stays : KeepsView before after
   pub fresh : length before.lines ≤ line
   pub there : line < length after.lines
   pub made : line_at after.lines line ≡ record { set = path.rest; bound = bound }
   pub counted : Counts before.entries part path after.entries
 
 -- there are as many lines as there may be
-pub record IsSpent (before : ViewData) (count : ℕ) (after : ViewData) : Type 0 where
-  pub stays : Stays before after
+pub record ViewIsSpent (before : ViewData) (count : ℕ) (after : ViewData) : Type 0 where
+  pub stays : KeepsView before after
   pub entries : after.entries ≡ before.entries
   pub counted : length after.lines ≡ count
   pub full : count ≡ before.search.cap
@@ -144,16 +144,16 @@ pub record IsSpent (before : ViewData) (count : ℕ) (after : ViewData) : Type 0
 -- enlist
 abbrev pub Enlists : ViewData → ℕ → PathData → ℕ → Listed → ViewData → Type 0
 Enlists before part path bound (Line line) after = MakesLine before part path bound line after
-Enlists before part path bound (Spent count) after = IsSpent before count after
+Enlists before part path bound (Spent count) after = ViewIsSpent before count after
 
 -- raise asks for a known line, and a bound that what is known justifies for its set
-pub record MayRaise (view : ViewData) (line bound : ℕ) : Type 0 where
+pub record MayRaiseKnown (view : ViewData) (line bound : ℕ) : Type 0 where
   pub there : line < length view.lines
   pub justified : IsJustified (search_rules view.search) view.lines (record { set = (line_at view.lines line).set; bound = bound })
 
 -- raise: the line is known with at least this bound
 pub record Raises (before : ViewData) (line bound : ℕ) (after : ViewData) : Type 0 where
-  pub stays : Stays before after
+  pub stays : KeepsView before after
   pub entries : after.entries ≡ before.entries
   pub raised : bound ≤ (line_at after.lines line).bound
 
@@ -167,13 +167,13 @@ pub record Joins (before other after : ViewData) : Type 0 where
 
 -- settle: a pass of full weight knows all lines, which are all of its own entries
 pub record Settles (before after : ViewData) : Type 0 where
-  pub stays : Stays before after
+  pub stays : KeepsView before after
   pub entries : after.entries ≡ before.entries
   pub all : before.weight ≡ full_weight → OwnsAll after
 
 -- hear: the pass knows what was known to it and to another
 pub record Hears (before : ViewData) (others : List LineData) (after : ViewData) : Type 0 where
-  pub stays : Stays before after
+  pub stays : KeepsView before after
   pub entries : after.entries ≡ before.entries
   pub heard : GrowTo others after.lines
 

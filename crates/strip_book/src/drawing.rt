@@ -1,7 +1,7 @@
 // Beginning parts and making lines.
 ghost use Rattle.std.specs.Prelude.{◌≡◌, ◌<◌, false};
 ghost use Rattle.strip_film.specs.Shown.{path_data};
-ghost use Rattle.strip_book.specs.Pass.{Begins, Enlists, IsNext, IsPassOf, IsSeatOf, MayBegin, MayEnlist, Writes, known};
+ghost use Rattle.strip_book.specs.Pass.{BeginsPart, Enlists, IsNext, IsPassOf, IsSeatOf, MayBegin, MayEnlistNext, Writes, known};
 ghost use Rattle.strip_book.specs.Steps.{HasDrawn, about, half_written, written};
 
 use crate::book::Book;
@@ -18,7 +18,7 @@ impl BookPass {
         requires pass { IsPassOf book.now self.old }
         requires may { MayBegin (known self.old) part }
         ensures pass { IsPassOf book.now self.new }
-        ensures begun { Begins (known self.old) part (known self.new) }
+        ensures begun { BeginsPart (known self.old) part (known self.new) }
     {
         let desk = desk_word(self.desk);
         let part = u64::from(part);
@@ -32,7 +32,7 @@ impl BookPass {
     /// it returns `Spent`. After that the pass draws no further number.
     pub fn enlist(&mut self, book: &Book, part: u32, path: &Path, bound: u64) -> Listed
         requires pass { IsPassOf book.now self.old }
-        requires may { MayEnlist (known self.old) part (path_data path.now) bound }
+        requires may { MayEnlistNext (known self.old) part (path_data path.now) bound }
         ensures pass { IsPassOf book.now self.new }
         ensures listed { Enlists (known self.old) part (path_data path.now) bound result (known self.new) }
     {

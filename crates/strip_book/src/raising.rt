@@ -1,5 +1,5 @@
 // Raising lines.
-ghost use Rattle.strip_book.specs.Pass.{IsPassOf, MayRaise, Raises, known};
+ghost use Rattle.strip_book.specs.Pass.{IsPassOf, MayRaiseKnown, Raises, known};
 
 use crate::book::Book;
 use crate::pass::BookPass;
@@ -11,7 +11,7 @@ impl BookPass {
     /// may have made. The lines that it knows must justify the bound.
     pub fn raise(&mut self, book: &Book, line: u32, bound: u64)
         requires pass { IsPassOf book.now self.old }
-        requires may { MayRaise (known self.old) line bound }
+        requires may { MayRaiseKnown (known self.old) line bound }
         ensures pass { IsPassOf book.now self.new }
         ensures raised { Raises (known self.old) line bound (known self.new) }
     {

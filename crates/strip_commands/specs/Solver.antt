@@ -4,7 +4,7 @@ use Rattle.std.specs.Borrow.{Bor}
 use Rattle.strip_model.specs.Data.{InstanceData}
 use Rattle.strip_reduce.specs.declared.fault.ReduceFault.{ReduceFault}
 use Rattle.strip_proof.specs.declared.plan.Plan.{Plan}
-use Rattle.strip_solve.specs.declared.solve.SearchOptions.{SearchOptions}
+use Rattle.strip_solve.specs.declared.options.SearchOptions.{SearchOptions}
 use Rattle.strip_solve.specs.Answer.{IsAnswerFor, MayBe}
 
 -- a closure solves: it may be called for any instance, with all that a search may go by and with 1 to 64 workers or

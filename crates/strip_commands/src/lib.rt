@@ -1,7 +1,7 @@
-//! The program `stripboard` over any files and output sink: the commands, from words and files to the printed text and
-//! the exit status. The crate also makes the random instances of the command `gen` from a seed, so that anyone can try
-//! the solver on the same film. A law is a function that does nothing when it runs: its contract is a theorem that a
-//! caller obtains by calling it.
+//! The commands of the program `stripboard`, from words and files to the printed text and the exit status, over any
+//! files, output sink and solver. The crate also makes the random instances of the command `gen` from a seed, so that
+//! anyone can try the solver on the same film. A law is a function that does nothing when it runs: its contract is a
+//! theorem that a caller obtains by calling it.
 #![tactic(auto)]
 
 mod answer;
@@ -15,7 +15,6 @@ mod pricing;
 mod program;
 mod reports;
 mod solve;
-mod solver;
 
 pub use drawing::generate;
-pub use program::{report, run};
+pub use program::report_by;

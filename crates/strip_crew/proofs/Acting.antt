@@ -18,7 +18,7 @@ use Rattle.strip_least.specs.declared.view.View.{View as LeastView}
 use Rattle.strip_least.specs.Rule.{times}
 use Rattle.strip_least.specs.Steps.{AreOnce, HasLooked, HasOffered}
 use Rattle.strip_book.specs.View.{EntryData, ViewData, new_entry, parts_of, record_at}
-use Rattle.strip_book.specs.Pass.{Begins, Enlists as BookEnlists, MayBegin, MayEnlist as MayEnlistIn}
+use Rattle.strip_book.specs.Pass.{BeginsPart, Enlists as BookEnlists, MayBegin, MayEnlistNext}
 use Rattle.strip_crew.specs.declared.asked.Asked.{Asked}
 use Rattle.strip_crew.specs.declared.source.Source.{Source}
 use Rattle.strip_crew.specs.Source.{DrawsNone, DrawsPart, IsSource}
@@ -92,7 +92,7 @@ module _ (source : Source) (told : LeastView) (lines : ViewData) (asked : Option
       fresh = fresh lines.entries part unbegun;
     }
 
-    module _ (begun : ViewData) (begins : Begins lines part begun) where
+    module _ (begun : ViewData) (begins : BeginsPart lines part begun) where
       one_more : (other : ℕ) → times other (parts_of begun.entries) ≡ times other (parts_of lines.entries) + times other (part ∷ [])
       one_more other =
           ap (λ (entries : List EntryData). times other (parts_of entries)) begins.entries
@@ -161,7 +161,7 @@ module _ (source : Source) (told : LeastView) (lines : ViewData) (asked : Option
     no_dearer : told.told ≤ lines.search.start
     no_dearer = subst (λ (start : ℕ). told.told ≤ start) together.start together.no_dearer
 
-    pub may_enlist : MayEnlistIn lines cursor.task path bound
+    pub may_enlist : MayEnlistNext lines cursor.task path bound
     may_enlist = record {
       next = record {
         entry = record { last = cursor.last; number = may.stands.0 };

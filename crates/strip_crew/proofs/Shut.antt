@@ -10,9 +10,9 @@ use Rattle.strip_lines.proofs.Grown.{known-grows}
 use Rattle.strip_lines.specs.Paths.{candidate_count}
 use Rattle.strip_hand.specs.Hand.{HandData, IsHand}
 use Rattle.strip_hand.specs.Search.{GoesBy, SearchData, search_rules}
-use Rattle.strip_worker.specs.declared.ended.Ended.{Ended}
+use Rattle.strip_lines.specs.declared.ended.Ended.{Ended}
 use Rattle.strip_worker.specs.Closed.{IsClosed, known_of_all}
-use Rattle.strip_worker.specs.Ended.{EndedData, IsEnded}
+use Rattle.strip_lines.specs.Ended.{EndedData, IsEnded}
 use Rattle.strip_worker.specs.Team.{GoesOn}
 use Rattle.strip_worker.proofs.Moved.{cut_still}
 

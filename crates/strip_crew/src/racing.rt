@@ -6,13 +6,11 @@ ghost use Rattle.strip_film.specs.Shown.{path_data};
 ghost use Rattle.strip_lines.specs.Paths.{factorial};
 ghost use Rattle.strip_memo.specs.Memo.{IsMemo};
 ghost use Rattle.strip_front.specs.Shown.{front_data};
-ghost use Rattle.strip_world.specs.Opened.{AreLimits};
+ghost use Rattle.strip_hand.specs.Limits.{AreLimits};
 ghost use Rattle.strip_least.specs.Pass.{known as known_least};
 ghost use Rattle.strip_least.specs.Rule.{full_weight, once_below, times};
 ghost use Rattle.strip_book.specs.Pass.{table_of};
-ghost use Rattle.strip_worker.specs.Closed.{EndsFrom};
-ghost use Rattle.strip_worker.specs.Ended.{IsEnded};
-ghost use Rattle.strip_worker.specs.Shown.{ended_data};
+ghost use Rattle.strip_lines.specs.Ended.{EndsFrom, IsEnded, ended_data};
 ghost use Rattle.strip_worker.specs.Team.{HasWorkedOn};
 ghost use Rattle.strip_crew.specs.declared.source.Source.TheVariants.{Counter};
 ghost use Rattle.strip_crew.specs.declared.hub.HubParts.{HubParts};
@@ -35,14 +33,14 @@ use strip_bound::StoredBound;
 use strip_film::Path;
 use strip_front::laws::tasks_are_starts;
 use strip_front::{Front, make_front};
-use strip_hand::Hand;
+use strip_hand::{Gate, Hand, Limits};
 use strip_io::Memory;
 use strip_least::Least;
+use strip_lines::Ended;
 use strip_lines::laws::paths_are_few;
 use strip_memo::Memo;
 use strip_stripes::{Named, Stripes};
-use strip_worker::{Ended, Gate, Walked, Worker, asked_for, close, go_down_front, tell};
-use strip_world::Limits;
+use strip_worker::{Walked, Worker, asked_for, close, go_down_front, tell};
 
 /// The initial state of a race: its front (search frontier) without lines, the shared incumbent cost and next part, the
 /// book (list of lines), and the first passes of both.

@@ -21,10 +21,11 @@ use std::thread;
 use std::thread::Threads;
 use strip_bound::StoredBound;
 use strip_front::Front;
+use strip_hand::Gate;
 use strip_io::Memory;
 use strip_memo::Memo;
 use strip_stripes::Named;
-use strip_worker::{Gate, Walked, Worker, merge, work};
+use strip_worker::{Walked, Worker, merge, work};
 
 /// Makes a job for each worker, with passes of weight 1 that are split off these, if the front wasn't cut short. It
 /// takes a memo and a number for each task for each worker. The caller has a memo besides.

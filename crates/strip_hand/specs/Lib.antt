@@ -1,3 +1,4 @@
 pub mod Search
 pub mod Hand
 pub mod Calls
+pub mod Limits

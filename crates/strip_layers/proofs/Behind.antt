@@ -18,9 +18,9 @@ use Rattle.strip_lines.specs.Lines.{rules_of}
 use Rattle.strip_layers.specs.declared.layer.Layer.{Layer}
 use Rattle.strip_layers.specs.declared.layer.Standing.{Standing}
 use Rattle.strip_layers.specs.Layer.{standing_at, value_in}
-use Rattle.strip_layers.specs.Raised.{MayRaise}
+use Rattle.strip_layers.specs.Raised.{MayRaiseLayer}
 use Rattle.strip_layers.specs.Search.{Extends, IsSearch, Rises, SearchData}
-use Rattle.strip_layers.specs.Walked.{GoesOn, HasWalked, IsLayer, IsLevel, Pays, Reaches, Walks}
+use Rattle.strip_layers.specs.Walked.{GoesOn, HasWalked, IsLayer, IsLevel, Pays, Reaches, WalksLayer}
 use Rattle.strip_layers.proofs.Grown.{extends_trans}
 use Rattle.strip_layers.proofs.Looked.{standing_stays}
 
@@ -44,7 +44,7 @@ module _ (rules : Rules) (before now after : SearchData) (left limit : ℕ) (pat
       = All-contains (λ q. Reaches after q limit (value_in below values q.rest)) next pays.0 (layer.reaches unspent) pays.1 cost inside cheaper in
       omega (arith, reached, pays.3, ap (value_in below values) pays.2)
 
-  pub may_raise : MayRaise rules after limit paths sets standings below values
+  pub may_raise : MayRaiseLayer rules after limit paths sets standings below values
   may_raise = record {
     search = search;
     level = (suc left, omega arith, level);
@@ -59,7 +59,7 @@ module _ (rules : Rules) (before now after : SearchData) (left limit : ℕ) (pat
 
 -- a walk that was given up below
 pub given_up : (rules : Rules) (before now after : SearchData) (may_spend : Bool) (limit : ℕ) (paths next : List PathData) → Extends before now
-    → Walks rules now may_spend limit next None after → Walks rules before may_spend limit paths None after
+    → WalksLayer rules now may_spend limit next None after → WalksLayer rules before may_spend limit paths None after
 given_up rules before now after may_spend limit paths next extends (not, more) = (not, extends_trans before now after extends more)
 
 -- nothing remains after paths that leave no scenes
@@ -88,7 +88,7 @@ whole_level kind film left paths is_film left_is paths_are = subst (IsLevel (rul
 })
 
 pub walked_whole : (kind : Kind) (film : FilmData) (before after : SearchData) (may_spend : Bool) (limit : ℕ) (paths : List PathData) (walked : Option Layer)
-    → paths ≡ whole_path film ∷ [] → is_some walked ≡ true → Walks (rules_of kind film) before may_spend limit paths walked after
+    → paths ≡ whole_path film ∷ [] → is_some walked ≡ true → WalksLayer (rules_of kind film) before may_spend limit paths walked after
     → HasWalked (rules_of kind film) before may_spend limit true after
 walked_whole kind film before after may_spend limit paths None paths_are some walks = absurd (false≢true some)
 walked_whole kind film before after may_spend limit paths (Some layer) paths_are some walks = (
@@ -113,7 +113,7 @@ taken_back before now after count extends unspent count_is after_is = after_is �
 
 pub undone_whole : (rules : Rules) (before now after : SearchData) (may_spend : Bool) (limit count : ℕ) (paths : List PathData) (walked : Option Layer)
     → is_some walked ≡ false → before.spent ≡ false → count ≡ length before.lines → after ≡ record now { lines = take count now.lines; spent = false }
-    → Walks rules before may_spend limit paths walked now → HasWalked rules before may_spend limit false after
+    → WalksLayer rules before may_spend limit paths walked now → HasWalked rules before may_spend limit false after
 undone_whole rules before now after may_spend limit count paths None none unspent count_is after_is (not, extends) =
     (not, taken_back before now after count extends unspent count_is after_is)
 undone_whole rules before now after may_spend limit count paths (Some layer) none unspent count_is after_is walks =

@@ -16,7 +16,7 @@ use Rattle.strip_lines.proofs.Grown.{known-grows}
 use Rattle.strip_lines.specs.Parts.{no_task}
 use Rattle.strip_layers.specs.declared.layer.Standing.{Standing}
 use Rattle.strip_layers.specs.Layer.{no_standing, standing_at, value_in}
-use Rattle.strip_layers.specs.Raised.{IsLeastOver, IsRaised, MayRaise}
+use Rattle.strip_layers.specs.Raised.{IsLeastOver, IsRaised, MayRaiseLayer}
 use Rattle.strip_layers.specs.Search.{HasLine, IsSearch, Rises, SearchData}
 use Rattle.strip_layers.specs.Walked.{IsLayer, IsStanding, Reaches}
 use Rattle.strip_layers.proofs.Grown.{rises_self, rises_trans}
@@ -49,7 +49,7 @@ done_stays rules now after limit path value rises is = record {
 }
 
 module _ (kind : Kind) (film : FilmData) (before : SearchData) (limit : ℕ) (paths : List PathData) (sets : List ℕ) (standings : List Standing)
-    (below : List ℕ) (values : List Standing) (may : MayRaise (rules_of kind film) before limit paths sets standings below values) where
+    (below : List ℕ) (values : List Standing) (may : MayRaiseLayer (rules_of kind film) before limit paths sets standings below values) where
   abbrev rules : Rules
   rules = rules_of kind film
 

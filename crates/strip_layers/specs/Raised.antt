@@ -31,7 +31,7 @@ pub record IsRaised (film : FilmData) (sets : List ℕ) (standings : List Standi
 
 -- the sets of a layer stand, what stands in the layer below is known, and unless the search is spent, each open set's
 -- firsts lead on to values there that reach the limit or the best path
-pub record MayRaise (rules : Rules) (now : SearchData) (most_limit : ℕ) (paths : List PathData) (sets : List ℕ) (standings : List Standing)
+pub record MayRaiseLayer (rules : Rules) (now : SearchData) (most_limit : ℕ) (paths : List PathData) (sets : List ℕ) (standings : List Standing)
     (below : List ℕ) (values : List Standing) : Type 0 where
   pub search : IsSearch rules now
   pub level : (left : ℕ) × (0 < left) × IsLevel rules left paths

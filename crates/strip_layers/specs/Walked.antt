@@ -95,9 +95,9 @@ pub record IsLayer (rules : Rules) (search : SearchData) (limit : ℕ) (paths : 
   pub reaches : search.spent ≡ false → All (λ path. Reaches search path limit (value_in sets standings path.rest)) paths
 
 -- a walk from the paths of a layer: it is walked to its end, or it would have used up the lines and may not
-abbrev pub Walks : Rules → SearchData → Bool → ℕ → List PathData → Option Layer → SearchData → Type 0
-Walks rules before may_spend limit paths None after = (may_spend ≡ false) × Extends before after
-Walks rules before may_spend limit paths (Some layer) after =
+abbrev pub WalksLayer : Rules → SearchData → Bool → ℕ → List PathData → Option Layer → SearchData → Type 0
+WalksLayer rules before may_spend limit paths None after = (may_spend ≡ false) × Extends before after
+WalksLayer rules before may_spend limit paths (Some layer) after =
     IsSearch rules after × Rises before after × IsLayer rules after limit paths layer.sets.keys layer.standings.items
 
 -- a walk of the whole film: what is known of all scenes reaches the limit or the best path, unless the search is spent; or

@@ -7,7 +7,7 @@ ghost use Rattle.strip_film.specs.Shoot.{step_cost};
 ghost use Rattle.strip_lines.specs.Lines.{line_at, rules_of, with_raised};
 ghost use Rattle.strip_rule.specs.Rule.{open_firsts};
 ghost use Rattle.strip_layers.specs.Layer.{value_in};
-ghost use Rattle.strip_layers.specs.Raised.{IsLeastOver, IsRaised, MayRaise};
+ghost use Rattle.strip_layers.specs.Raised.{IsLeastOver, IsRaised, MayRaiseLayer};
 ghost use Rattle.strip_layers.specs.Search.{IsSearch, Rises};
 ghost use Rattle.strip_layers.specs.Shown.{search_data};
 ghost use Rattle.strip_layers.specs.Walked.{IsLayer};
@@ -28,10 +28,10 @@ pub(crate) fn raise_layer<A: Answers>(
     below: &Layer,
 ) -> Layer
     requires ready { A.is_ready answers.now }
-    requires may { (limit : ℕ) × (paths : List PathData) × MayRaise (rules_of (A.kind answers.now) (A.film answers.now)) (search_data search.old)
+    requires may { (limit : ℕ) × (paths : List PathData) × MayRaiseLayer (rules_of (A.kind answers.now) (A.film answers.now)) (search_data search.old)
         limit paths layer.sets.keys layer.standings.items below.now.sets.keys below.now.standings.items }
     ensures found { search.new.found.entries ≡ search.old.found.entries }
-    ensures raised { (limit : ℕ) (paths : List PathData) → MayRaise (rules_of (A.kind answers.now) (A.film answers.now))
+    ensures raised { (limit : ℕ) (paths : List PathData) → MayRaiseLayer (rules_of (A.kind answers.now) (A.film answers.now))
         (search_data search.old) limit paths layer.sets.keys layer.standings.items below.now.sets.keys below.now.standings.items
         → IsSearch (rules_of (A.kind answers.now) (A.film answers.now)) (search_data search.new)
         × Rises (search_data search.old) (search_data search.new)

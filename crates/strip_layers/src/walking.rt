@@ -6,7 +6,7 @@ ghost use Rattle.strip_lines.specs.Lines.{rules_of};
 ghost use Rattle.strip_paths.specs.Shown.{paths_of};
 ghost use Rattle.strip_layers.specs.Search.{AreTrue, IsSearch, Rises};
 ghost use Rattle.strip_layers.specs.Shown.{search_data};
-ghost use Rattle.strip_layers.specs.Walked.{HasWalked, IsLayer, IsLevel, Walks};
+ghost use Rattle.strip_layers.specs.Walked.{HasWalked, IsLayer, IsLevel, WalksLayer};
 
 use crate::ask::Answers;
 use crate::layer::Layer;
@@ -66,7 +66,7 @@ fn walk_layer<A: Answers>(
     requires level { IsLevel (rules_of (A.kind answers.now) (A.film answers.now)) left (paths_of paths) }
     requires limit { walk.limit ≤ (search_data search.old).goal }
     ensures found { AreTrue (A.kind answers.now) (A.film answers.now) search.new.found.entries }
-    ensures walked { IfOk result (λ layer. Walks (rules_of (A.kind answers.now) (A.film answers.now)) (search_data search.old)
+    ensures walked { IfOk result (λ layer. WalksLayer (rules_of (A.kind answers.now) (A.film answers.now)) (search_data search.old)
         walk.may_spend walk.limit (paths_of paths) layer (search_data search.new)) }
 {
     answers.film().keeps_limits();

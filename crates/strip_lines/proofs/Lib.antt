@@ -11,3 +11,4 @@ pub mod Shares
 pub mod CountExamples
 pub mod Lesser
 pub mod Apart
+pub mod Reached

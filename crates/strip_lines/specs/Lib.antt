@@ -2,3 +2,4 @@ pub mod Lines
 pub mod Paths
 pub mod Parts
 pub mod Apart
+pub mod Ended

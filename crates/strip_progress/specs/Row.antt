@@ -3,9 +3,9 @@ use Rattle.std.specs.Prelude.{ℕ, Option, Some, None, List, ◌++◌, ◌==◌,
 use Rattle.std.specs.Fmt.{decimal}
 use Rattle.strip_model.specs.declared.kind.Kind.{Kind}
 use Rattle.strip_model.specs.declared.kind.Kind.TheVariants.{Plain, Pairs, Groups, Arrivals}
-use Rattle.strip_worker.specs.declared.gate.Limit.{Limit}
-use Rattle.strip_worker.specs.declared.gate.Stage.{Stage}
-use Rattle.strip_worker.specs.declared.gate.Standing.{Standing}
+use Rattle.strip_hand.specs.declared.gate.Limit.{Limit}
+use Rattle.strip_hand.specs.declared.gate.Stage.{Stage}
+use Rattle.strip_hand.specs.declared.gate.Standing.{Standing}
 use Rattle.strip_progress.specs.declared.row.Row.{Row}
 
 -- the word behind so many

@@ -5,7 +5,7 @@ ghost use Rattle.strip_progress.specs.Due.{IsDue, IsLimitDue};
 use crate::due::{is_due, is_limit_due, reached};
 use crate::row::{LimitRow, Row};
 use std::sync::atomic::{AtomicU32, AtomicU64, Ordering};
-use strip_worker::{Limit, Standing};
+use strip_hand::{Limit, Standing};
 
 /// Counters that any worker may add to: tasks wanted, tasks begun, workers that began one, and the limits reached.
 #[derive(Drop)]

@@ -1,7 +1,7 @@
 // An observer that prints the progress of a search.
 use crate::counts::Counts;
 use crate::row::StageRow;
-use strip_worker::{Gate, Limit, Stage, Standing};
+use strip_hand::{Gate, Limit, Stage, Standing};
 
 /// An observer (gate) that prints the progress of a search on standard error, and delays no worker. It prints a row
 /// with each further fortieth of the wanted tasks: how many were begun and by how many workers. For a search by layers

@@ -3,8 +3,8 @@ ghost use Rattle.std.specs.Prelude.{◌≡◌};
 ghost use Rattle.strip_progress.specs.Row.{kind_word, workers_word};
 
 use std::fmt;
+use strip_hand::{Limit, Stage, Standing};
 use strip_model::Kind;
-use strip_worker::{Limit, Stage, Standing};
 
 /// A row for a task: the number of tasks begun, of tasks wanted, and of workers that began them, and the state of the
 /// search.

@@ -18,7 +18,7 @@ use Rattle.strip_reduce.specs.Law.{StandsFor}
 use Rattle.strip_reduce.specs.Oriented.{oriented}
 use Rattle.strip_reduce.specs.Reduction.{reduced}
 use Rattle.strip_reduce.specs.State.{State}
-use Rattle.strip_worker.specs.Ended.{EndedData, IsEnded}
+use Rattle.strip_lines.specs.Ended.{EndedData, IsEnded}
 use Rattle.strip_proof.specs.declared.plan.Status.{Status}
 use Rattle.strip_proof.specs.declared.plan.Status.TheVariants.{Optimal, Bounded}
 use Rattle.strip_proof.specs.Plan.{PlanData}

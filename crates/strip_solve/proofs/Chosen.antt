@@ -1,15 +1,10 @@
 -- Plans by bounds that were chosen.
-use Rattle.std.proofs.Common.{◌≡◌, ◌≤◌, ℕ, Bool, true, false, Option, None, Some, Vec, Global, Result, Ok, Err, IfOk, IsSome, min, inl, inr, true≢false, sym, subst, arith}
-use Rattle.strip_film.specs.declared.shared.Line.{Line}
+use Rattle.std.proofs.Common.{◌≤◌, ℕ, Bool, true, false, min, inl, inr, arith}
 use Rattle.strip_model.specs.declared.kind.Kind.{Kind}
 use Rattle.strip_model.specs.declared.kind.Kind.TheVariants.{Pairs, Arrivals}
 use Rattle.strip_model.specs.Film.{FilmData}
-use Rattle.strip_film.specs.Path.{PathData}
-use Rattle.strip_proof.specs.declared.plan.Plan.{Plan}
-use Rattle.strip_proof.specs.Plan.{PlanData, plan_data}
-use Rattle.strip_solve.specs.declared.solve.Searched.{Searched}
-use Rattle.strip_solve.specs.Searched.{GoesOnFrom, IsSearchedFrom, IsStatusOf}
-use Rattle.strip_solve.specs.Solved.{IsChosen, IsSolved, IsSolvedBy}
+use Rattle.strip_proof.specs.Plan.{PlanData}
+use Rattle.strip_solve.specs.Solved.{IsSolved, IsSolvedBy}
 
 -- a plan by bounds of some kind, and by as many lines at most or fewer
 abbrev pub SolvedSomehow : FilmData → ℕ → PlanData → Type 0
@@ -19,32 +14,3 @@ pub solved_somehow : (auto : Bool) (kind : Kind) (film : FilmData) (most : ℕ) 
 solved_somehow true kind film most plan (inl first) = (Pairs, min most 50000, omega arith, first.0)
 solved_somehow true kind film most plan (inr second) = (Arrivals, most, omega arith, second)
 solved_somehow false kind film most plan solved = (kind, most, omega arith, solved)
-
-module _ {E : Type 0} (film : FilmData) (most few : ℕ) (kind : Kind) where
-  -- the plan of a first search whose lines are trimmed
-  pub first_chosen : (trimmed : Option (Vec Line Global)) (r : Result Plan E) → kind ≡ Pairs → few ≡ min most 50000 → IsSome trimmed
-      → IfOk r (λ plan. IsSolved kind film few (plan_data plan)) → IfOk r (λ plan. IsStatusOf trimmed plan.status)
-      → IfOk r (λ plan. IsChosen film most (plan_data plan))
-  first_chosen (Some lines) (Ok plan) pairs same some solved status =
-      inl (subst (λ (k : Kind). IsSolved k film (min most 50000) (plan_data plan)) pairs (subst (λ (n : ℕ). IsSolved kind film n (plan_data plan)) same solved), status)
-  first_chosen None (Ok plan) pairs same some solved status = absurd (true≢false (sym some))
-  first_chosen trimmed (Err e) pairs same some solved status = tt
-
-  -- the plan of a second search
-  pub second_chosen : (r : Result Plan E) → kind ≡ Arrivals → few ≡ most → IfOk r (λ plan. IsSolved kind film few (plan_data plan))
-      → IfOk r (λ plan. IsChosen film most (plan_data plan))
-  second_chosen (Ok plan) arrivals lines solved =
-      inr (subst (λ (k : Kind). IsSolved k film most (plan_data plan)) arrivals (subst (λ (n : ℕ). IsSolved kind film n (plan_data plan)) lines solved))
-  second_chosen (Err e) arrivals lines solved = tt
-
--- a search that goes on from another one's best order is one from that one's start
-pub goes_on : (kind other : Kind) (film : FilmData) (start : PathData) (most few own : ℕ) (first next : Searched) → IsSearchedFrom other film start few own first
-    → GoesOnFrom kind film first.ended.cost most own next → IsSearchedFrom kind film start most own next
-goes_on kind other film start most few own first next is goes = record {
-  is_varied = record {
-    complete = goes.complete;
-    no_dearer = omega (arith, goes.no_dearer, is.ended.no_dearer, is.is_varied.no_dearer);
-  };
-  ended = goes.ended;
-  trimmed = goes.trimmed;
-}

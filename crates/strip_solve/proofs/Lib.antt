@@ -2,4 +2,4 @@ mod Back
 pub mod Chosen
 pub mod Priced
 mod Rows
-mod Readable
+pub mod Readable

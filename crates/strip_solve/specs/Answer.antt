@@ -8,7 +8,7 @@ use Rattle.strip_reduce.specs.Reduction.{class_count}
 use Rattle.strip_proof.specs.declared.plan.Plan.{Plan}
 use Rattle.strip_proof.specs.Plan.{plan_data}
 use Rattle.strip_proof.specs.Text.{IsReadablePlan}
-use Rattle.strip_solve.specs.declared.solve.SearchOptions.{SearchOptions}
+use Rattle.strip_solve.specs.declared.options.SearchOptions.{SearchOptions}
 use Rattle.strip_solve.specs.Solved.{IsSolvedBy}
 
 -- a search may go by so many lines and entries

@@ -6,19 +6,17 @@ use Rattle.strip_model.specs.Film.{FilmData}
 use Rattle.strip_model.specs.Order.{IsKeptOrder}
 use Rattle.strip_model.specs.Pay.{pay_of}
 use Rattle.strip_film.specs.declared.shared.Line.{Line}
-use Rattle.strip_film.specs.Path.{PathData, IsComplete}
+use Rattle.strip_film.specs.Path.{PathData}
 use Rattle.strip_film.specs.Shown.{path_data}
 use Rattle.strip_lines.specs.Lines.{rules_of}
 use Rattle.strip_trim.specs.Trimmed.{AreTrimmed}
-use Rattle.strip_worker.specs.Ended.{EndedData, IsEnded}
-use Rattle.strip_worker.specs.Shown.{ended_data}
+use Rattle.strip_lines.specs.Ended.{EndedData, IsEnded, ended_data}
 use Rattle.strip_proof.specs.declared.plan.Status.{Status}
 use Rattle.strip_proof.specs.declared.plan.Status.TheVariants.{Optimal, Bounded}
 use Rattle.strip_reduce.specs.Oriented.{oriented}
 use Rattle.strip_reduce.specs.State.{way_back}
-use Rattle.strip_solve.specs.declared.ending.Closed.{Closed}
 use Rattle.strip_solve.specs.declared.own.Own.{Own}
-use Rattle.strip_solve.specs.declared.solve.Searched.{Searched}
+use Rattle.strip_solve.specs.declared.plan.Searched.{Searched}
 use Rattle.strip_solve.specs.Solved.{IsVaried}
 
 -- lines are trimmed exactly where the bound is the lesser of the cost and of what the order of the rows costs
@@ -27,21 +25,9 @@ IsTrimmed kind film own ended (Some lines) = (ended.bound ≡ min ended.cost own
     × AreTrimmed (rules_of kind film) ended.lines lines.items
 IsTrimmed kind film own ended None = ended.bound ≢ min ended.cost own
 
--- a search that began with a path has ended so, and its lines are trimmed
-pub record IsClosed (kind : Kind) (film : FilmData) (begun : PathData) (most own : ℕ) (closed : Closed) : Type 0 where
-  pub ended : IsEnded kind film begun most (ended_data closed.ended)
-  pub trimmed : IsTrimmed kind film own (ended_data closed.ended) closed.trimmed
-
 -- the search of a film began with a path that varying the start gave, and ended as a search that begins with it
 pub record IsSearchedFrom (kind : Kind) (film : FilmData) (start : PathData) (most own : ℕ) (searched : Searched) : Type 0 where
   pub is_varied : IsVaried film start (path_data searched.begun)
-  pub ended : IsEnded kind film (path_data searched.begun) most (ended_data searched.ended)
-  pub trimmed : IsTrimmed kind film own (ended_data searched.ended) searched.trimmed
-
--- a further search of the film began with a path that costs no more than the best order of the one before, and ended so
-pub record GoesOnFrom (kind : Kind) (film : FilmData) (cost most own : ℕ) (searched : Searched) : Type 0 where
-  pub complete : IsComplete film (path_data searched.begun)
-  pub no_dearer : (path_data searched.begun).paid ≤ cost
   pub ended : IsEnded kind film (path_data searched.begun) most (ended_data searched.ended)
   pub trimmed : IsTrimmed kind film own (ended_data searched.ended) searched.trimmed
 

@@ -1,14 +1,16 @@
-//! The solver for a whole instance. It reduces the scenes to classes (groups of scenes with equal casts), and finds an
-//! initial order by a construction heuristic and local search. Then it searches, trims the lines, and expands the best
-//! order to scenes.
+//! Plans (certificates) of an instance from the result of any search of its classes (groups of scenes with equal
+//! casts): the cheaper of the found order and the rows' order, a proved bound, and the trimmed lines that prove it. The
+//! rows' order can be priced without a search.
 #![tactic(auto)]
 
-mod choosing;
-mod ending;
+mod options;
 mod own;
+mod plan;
 mod pricing;
-mod solve;
-mod told;
+mod trimming;
 
+pub use options::{SearchOptions, useful_tries};
+pub use own::{Own, own_cost, own_order};
+pub use plan::{Searched, plan_of};
 pub use pricing::price;
-pub use solve::{SearchOptions, solve_alone, solve_beside, solve_through};
+pub use trimming::trimmed;

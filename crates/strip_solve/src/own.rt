@@ -10,13 +10,13 @@ use strip_model::{Instance, keeps_pairs, pay};
 
 /// The order of an instance's scenes in its file, and its cost in units of money.
 #[derive(Debug, Drop)]
-pub(crate) struct Own {
+pub struct Own {
     pub order: Vec<u16>,
     pub cost: u64,
 }
 
 /// Returns the order of the instance's rows, or none if it breaks a pair.
-pub(crate) fn own_order(alloc: Global, inst: &Instance) -> Result<Option<Own>, Memory>
+pub fn own_order(alloc: Global, inst: &Instance) -> Result<Option<Own>, Memory>
     ensures { IfOk result (IsOwn (film_of inst.now)) }
 {
     inst.keeps_limits();
@@ -41,7 +41,7 @@ pub(crate) fn numbers(alloc: Global, count: u16) -> Result<Vec<u16>, Memory>
 
 /// Returns the cost of the rows' order without the cost `apart` set apart, in units of money. Without an order it is
 /// the greatest number, more than any order costs.
-pub(crate) fn own_cost(own: &Option<Own>, apart: u64) -> u64
+pub fn own_cost(own: &Option<Own>, apart: u64) -> u64
     ensures { result ≡ own_cost own.now apart }
 {
     match own {

@@ -9,7 +9,7 @@ use Rattle.strip_table.specs.Stripe.{bucket_at}
 use Rattle.strip_hand.specs.Hand.{Knows}
 use Rattle.strip_book.specs.declared.pass.BookCopy.{BookCopy}
 use Rattle.strip_book.specs.View.{ViewData}
-use Rattle.strip_book.specs.Pass.{IsCopyOf, Stays, TableData, known_lines}
+use Rattle.strip_book.specs.Pass.{IsCopyOf, KeepsView, TableData, known_lines}
 
 -- the line of each entry stands among these, with a bound at least as great
 abbrev pub AreKnown : List Line → List (List Known) → Type 0
@@ -43,6 +43,6 @@ IsTrueAnswer table set (Hit known) = IsAtMostFinish table.search.film set known.
 
 -- a probe: the pass may learn lines, and knows that of an entry that it is answered
 pub record IsProbed (before : ViewData) (set : ℕ) (answer : Probe) (after : ViewData) : Type 0 where
-  pub stays : Stays before after
+  pub stays : KeepsView before after
   pub entries : after.entries ≡ before.entries
   pub told : IsTold after.lines set answer

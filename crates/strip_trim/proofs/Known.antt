@@ -12,7 +12,7 @@ use Rattle.strip_lines.specs.Lines.{AreJustified, IsJustified, known, line_at, n
 use Rattle.strip_lines.proofs.Grown.{known-static}
 use Rattle.strip_trim.specs.Best.{best_bound}
 use Rattle.strip_trim.proofs.BestKnown.{bound_least, bound_line, bound_none, known_best}
-use Rattle.strip_trim.specs.Trimmed.{AreTrimmed, LeadsOn, Reached, Stays}
+use Rattle.strip_trim.specs.Trimmed.{AreTrimmed, LeadsOn, LineStays, Reached}
 use Rattle.strip_trim.proofs.Found.{best_or_none, bound_at}
 use Rattle.strip_trim.proofs.Reached.{reached_on}
 
@@ -24,12 +24,12 @@ module _ (rules : Rules) (lines trimmed : List Line) (are : AreTrimmed rules lin
   read k within = ap (λ (xs : List Line). line_at xs k) are.are ∙ get_or-map (line_at lines) are.places k 0 no_line within
 
   -- each of its lines stays, and each line that stays is one of them
-  line_of : (k : ℕ) → k < length trimmed → (place : ℕ) × Stays rules lines place × (line_at trimmed k ≡ line_at lines place)
+  line_of : (k : ℕ) → k < length trimmed → (place : ℕ) × LineStays rules lines place × (line_at trimmed k ≡ line_at lines place)
   line_of k lt =
       let within : k < length are.places = omega (arith, lt, count) in
       (get_or are.places k 0, (are.exact (get_or are.places k 0)).0 (Contains-get_or are.places k 0 within), read k within)
 
-  there : (place : ℕ) → Stays rules lines place → (k : ℕ) × (k < length trimmed) × (line_at trimmed k ≡ line_at lines place)
+  there : (place : ℕ) → LineStays rules lines place → (k : ℕ) × (k < length trimmed) × (line_at trimmed k ≡ line_at lines place)
   there place stay =
       let found = (are.exact place).1 stay in
       let at : get_or are.places found.0 0 ≡ place = get_or_default are.places found.0 0 place found.1 ∙ found.2 in
@@ -66,7 +66,7 @@ module _ (rules : Rules) (lines trimmed : List Line) (are : AreTrimmed rules lin
   known_whole = known_reached (all_scenes rules.film) ([], tt, refl)
 
   -- a line that stays is justified by the lines that stay
-  still_justified : (place : ℕ) → Stays rules lines place → IsJustified rules lines (line_at lines place) → IsJustified rules trimmed (line_at lines place)
+  still_justified : (place : ℕ) → LineStays rules lines place → IsJustified rules lines (line_at lines place) → IsJustified rules trimmed (line_at lines place)
   still_justified place stay (inl static) = inl static
   still_justified place stay (inr (some, steps)) = elim (cases_lt (rules.bound set) (line_at lines place).bound) [
     | inl above ↦ inr (some, λ scene first. step above scene first)

@@ -11,7 +11,7 @@ use Rattle.strip_film.specs.declared.shared.Line.{Line}
 use Rattle.strip_film.specs.Rules.{Rules}
 use Rattle.strip_lines.specs.Lines.{line_at}
 use Rattle.strip_trim.specs.Marks.{AreMarked, is_marked, marked_lines, marked_places}
-use Rattle.strip_trim.specs.Trimmed.{AreTrimmed, Stays}
+use Rattle.strip_trim.specs.Trimmed.{AreTrimmed, LineStays}
 
 -- the lines of the places below n that are marked
 abbrev pub marked_below : List Line → List Bool → ℕ → List Line
@@ -54,7 +54,7 @@ filter_there p (y ∷ ys) x there passes =
     ])
 
 module _ (rules : Rules) (lines : List Line) (marks : List Bool) (are : AreMarked rules lines marks) where
-  marked_there : (place : ℕ) → Stays rules lines place → Contains (marked_places marks) place
+  marked_there : (place : ℕ) → LineStays rules lines place → Contains (marked_places marks) place
   marked_there place stay =
       filter_there (is_marked marks) (numbers_below (length marks)) place
       (contains_number (length marks) place (omega (arith, stay.best.within, are.count))) ((are.exact place).1 stay)

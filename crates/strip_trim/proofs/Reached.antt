@@ -13,7 +13,7 @@ use Rattle.strip_lines.specs.Lines.{line_at}
 use Rattle.strip_trim.specs.declared.best.BestLine.{BestLine}
 use Rattle.strip_trim.specs.Best.{AreBestLines, IsBestLine, best_at, no_best, sets_of}
 use Rattle.strip_trim.specs.Marks.{AreMarked, Follows, IsBestOf, MarksMore, is_marked}
-use Rattle.strip_trim.specs.Trimmed.{Leads, LeadsOn, Reached, Stays}
+use Rattle.strip_trim.specs.Trimmed.{Leads, LeadsOn, LineStays, Reached}
 use Rattle.strip_trim.proofs.Found.{best_of_entry, best_of_some, entry_of}
 
 -- `rest` is what is still to come, from the last entry down: the marks are at lines that stay, that of the whole set among them, and
@@ -21,7 +21,7 @@ use Rattle.strip_trim.proofs.Found.{best_of_entry, best_of_some, entry_of}
 pub record IsUnderWay (rules : Rules) (lines : List Line) (entries rest : List BestLine) (marks : List Bool) : Type 0 where
   pub later : List BestLine
   pub all : rest ++ later ≡ entries
-  pub stays : (place : ℕ) → is_marked marks place ≡ true → Stays rules lines place
+  pub stays : (place : ℕ) → is_marked marks place ≡ true → LineStays rules lines place
   pub whole : (place : ℕ) → IsBestOf lines (all_scenes rules.film) place → is_marked marks place ≡ true
   pub closed : (k : ℕ) → length rest ≤ k → k < length entries → is_marked marks (best_at entries k).line ≡ true
       → (place : ℕ) → Follows rules lines (best_at entries k).set place → is_marked marks place ≡ true

@@ -4,7 +4,7 @@ use Rattle.strip_mask.specs.Set.{numbers_below, without}
 use Rattle.strip_film.specs.declared.shared.Line.{Line}
 use Rattle.strip_film.specs.Rules.{Rules}
 use Rattle.strip_lines.specs.Lines.{line_at}
-use Rattle.strip_trim.specs.Trimmed.{IsBestAt, LeadsOn, Stays}
+use Rattle.strip_trim.specs.Trimmed.{IsBestAt, LeadsOn, LineStays}
 
 abbrev pub is_marked : List Bool → ℕ → Bool
 is_marked marks place = slice_index_or marks place false
@@ -25,7 +25,7 @@ Follows rules lines set place = (scene : ℕ) × LeadsOn rules lines set scene �
 -- the marks are at the places of lines that stay
 pub record AreMarked (rules : Rules) (lines : List Line) (marks : List Bool) : Type 0 where
   pub count : length marks ≡ length lines
-  pub exact : (place : ℕ) → (is_marked marks place ≡ true) ↔ Stays rules lines place
+  pub exact : (place : ℕ) → (is_marked marks place ≡ true) ↔ LineStays rules lines place
 
 -- the places that are marked, rising, and their lines
 abbrev pub marked_places : List Bool → List ℕ

@@ -33,7 +33,7 @@ abbrev pub IsBestAt : List Line → ℕ → Type 0
 IsBestAt lines place = IsBestLine lines (record { line = place; set = (line_at lines place).set; bound = (line_at lines place).bound })
 
 -- the line at the place stays: it is the best one of its set, and the set is reached
-pub record Stays (rules : Rules) (lines : List Line) (place : ℕ) : Type 0 where
+pub record LineStays (rules : Rules) (lines : List Line) (place : ℕ) : Type 0 where
   pub best : IsBestAt lines place
   pub reached : Reached rules lines (line_at lines place).set
 
@@ -41,5 +41,5 @@ pub record Stays (rules : Rules) (lines : List Line) (place : ℕ) : Type 0 wher
 pub record AreTrimmed (rules : Rules) (lines trimmed : List Line) : Type 0 where
   pub places : List ℕ
   pub rising : IsStrictlyIncreasing places
-  pub exact : (place : ℕ) → Contains places place ↔ Stays rules lines place
+  pub exact : (place : ℕ) → Contains places place ↔ LineStays rules lines place
   pub are : trimmed ≡ map (line_at lines) places

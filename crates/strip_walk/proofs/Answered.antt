@@ -18,7 +18,7 @@ use Rattle.strip_walk.specs.declared.found.Opened.{Opened}
 use Rattle.strip_walk.specs.declared.found.Passed.{Passed}
 use Rattle.strip_walk.specs.Found.{IsCutShort, IsFound, MayExplore, Reaches, known_of}
 use Rattle.strip_walk.specs.Walked.{Walks}
-use Rattle.strip_walk.specs.Begun.{IsBest, IsCut, IsOpened, IsThrough, Stays}
+use Rattle.strip_walk.specs.Begun.{IsBest, IsCut, IsOpened, IsThrough, StaysInPart}
 use Rattle.strip_walk.proofs.Bounds.{bound_known, finish_below, known_finishes}
 use Rattle.strip_walk.proofs.Stayed.{begun_itself, knows_more, not_begun, walks_still}
 
@@ -49,7 +49,7 @@ found_cut after cursor path found is lies later cut =
 
 -- a path that is ruled out is answered where the cursor stands
 pub cut_explores : (before after : HandData) (cursor : CursorData) (path : PathData) (found : Found) → IsHand after → MayExplore before cursor path
-    → Stays before after × IsCut after path found → Walks before cursor path after cursor × IsFound after cursor path found
+    → StaysInPart before after × IsCut after path found → Walks before cursor path after cursor × IsFound after cursor path found
 cut_explores before after cursor path found is may (stays, cut) = (
   walks_still before after cursor path may.stands stays,
   found_cut after cursor path found is
@@ -89,7 +89,7 @@ made_opened before after cursor cursor_after path line passed opened is through 
 
 -- ---- no line can be made
 
-spent_stays : (before after : HandData) (count : ℕ) → IsSpent before count after → Stays before after
+spent_stays : (before after : HandData) (count : ℕ) → IsSpent before count after → StaysInPart before after
 spent_stays before after count spent = record {
   search = ap (λ (hand : HandData). hand.search) spent.only;
   ended = ap (λ (hand : HandData). hand.ended) spent.only;

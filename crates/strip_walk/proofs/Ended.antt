@@ -29,7 +29,7 @@ use Rattle.strip_hand.specs.Calls.{MayRaise}
 use Rattle.strip_walk.specs.declared.found.Found.{Found}
 use Rattle.strip_walk.specs.Found.{IsFound, MayExplore, known_of}
 use Rattle.strip_walk.specs.Walked.{Explores, Walks}
-use Rattle.strip_walk.specs.Begun.{Closes, IsFirst, Offers, Stays}
+use Rattle.strip_walk.specs.Begun.{Closes, IsFirst, Offers, StaysInPart}
 use Rattle.strip_walk.proofs.Answered.{found_still}
 use Rattle.strip_walk.proofs.Bounds.{finish_below, known_finishes, knows_known}
 use Rattle.strip_walk.proofs.Settled.{AreSettled}
@@ -120,10 +120,10 @@ module _ (before hand : HandData) (cursor cursor_now : CursorData) (path : PathD
       )
 
   module _ (after : HandData) (known : Known) (known_is : known ≡ known_of path line most) where
-    explores_after : Stays hand after → Walks before cursor path after cursor_now
+    explores_after : StaysInPart hand after → Walks before cursor path after cursor_now
     explores_after stays = walks_trans before hand after cursor cursor_now cursor_now path is.few walks (walks_still hand after cursor_now path walks.stands stays)
 
-    found_closed : Stays hand after → Knows after.lines (known_of path line most) → after.note ≡ Some (known_of path line most) → IsHand after
+    found_closed : StaysInPart hand after → Knows after.lines (known_of path line most) → after.note ≡ Some (known_of path line most) → IsHand after
         → IsFound after cursor_now path (record { bound = most; line = Some line; spent = spent })
     found_closed stays knows noted after_is =
         let same : after.search ≡ before.search = stays.search ∙ walks.search in

@@ -19,7 +19,7 @@ use Rattle.strip_hand.specs.Calls.{StandsAt}
 use Rattle.strip_walk.specs.declared.found.Found.{Found}
 use Rattle.strip_walk.specs.Found.{BegunBy, IsCutShort, MayExplore}
 use Rattle.strip_walk.specs.Walked.{Explores, Walks}
-use Rattle.strip_walk.specs.Begun.{Stays}
+use Rattle.strip_walk.specs.Begun.{StaysInPart}
 use Rattle.strip_walk.proofs.Lists.{begun_not_earlier, starts_itself, starts_shorter}
 
 -- ---- lines that grow
@@ -39,7 +39,7 @@ rose_around before low high after first rose second = omega (arith, first, rose,
 
 -- ---- calls that move no cursor
 
-pub stays_trans : (before mid after : HandData) → Stays before mid → Stays mid after → Stays before after
+pub stays_trans : (before mid after : HandData) → StaysInPart before mid → StaysInPart mid after → StaysInPart before after
 stays_trans before mid after first second = record {
   search = second.search ∙ first.search;
   ended = second.ended ∙ first.ended;
@@ -50,10 +50,10 @@ stays_trans before mid after first second = record {
 }
 
 -- the hand stands where it stood
-pub stands_still : (before after : HandData) (cursor : CursorData) → StandsAt before cursor → Stays before after → StandsAt after cursor
+pub stands_still : (before after : HandData) (cursor : CursorData) → StandsAt before cursor → StaysInPart before after → StandsAt after cursor
 stands_still before after cursor (number, stands) stays = (number, ap (λ (records : ℕ → Option RecordData). records cursor.task) stays.records ∙ stands)
 
-pub walks_still : (before after : HandData) (cursor : CursorData) (path : PathData) → StandsAt before cursor → Stays before after
+pub walks_still : (before after : HandData) (cursor : CursorData) (path : PathData) → StandsAt before cursor → StaysInPart before after
     → Walks before cursor path after cursor
 walks_still before after cursor path stands stays = record {
   search = stays.search;
@@ -150,7 +150,7 @@ cut_stays now after cursor cursor_after path few walks cut =
 
 -- ---- calls before a walk
 
-pub may_still : (before after : HandData) (cursor : CursorData) (path : PathData) → Stays before after → MayExplore before cursor path
+pub may_still : (before after : HandData) (cursor : CursorData) (path : PathData) → StaysInPart before after → MayExplore before cursor path
     → MayExplore after cursor path
 may_still before after cursor path stays may = record {
   stands = stands_still before after cursor may.stands stays;
@@ -161,7 +161,7 @@ may_still before after cursor path stays may = record {
 }
 
 module _ (before mid after : HandData) (cursor cursor_after : CursorData) (path : PathData) (few : length mid.lines ≤ mid.search.cap)
-    (stands : StandsAt before cursor) (stays : Stays before mid) where
+    (stands : StandsAt before cursor) (stays : StaysInPart before mid) where
   walks_after : Walks mid cursor path after cursor_after → Walks before cursor path after cursor_after
   walks_after walks = walks_trans before mid after cursor cursor cursor_after path few (walks_still before mid cursor path stands stays) walks
 

@@ -37,7 +37,7 @@ abbrev pub IsFirst : SearchData → PathData → ℕ → Type 0
 IsFirst search path scene = has (open_firsts search.film path.rest) scene ≡ true
 
 -- no part was claimed and no path enlisted; the least cost told falls, and lines and refusals grow
-pub record Stays (before after : HandData) : Type 0 where
+pub record StaysInPart (before after : HandData) : Type 0 where
   pub search : after.search ≡ before.search
   pub ended : after.ended ≡ before.ended
   pub told : after.told ≤ before.told
@@ -64,7 +64,7 @@ pub record IsThrough (after : HandData) (path : PathData) (passed : Passed) : Ty
 
 -- a probe of a set: the answer is the last probe, and true
 pub record Asks (before : HandData) (set : ℕ) (answer : Probe) (after : HandData) : Type 0 where
-  pub stays : Stays before after
+  pub stays : StaysInPart before after
   pub told : after.told ≡ before.told
   pub asked : after.probe ≡ Some (record { set = set; answer = answer })
   pub true_answer : IsTold after set answer
@@ -78,8 +78,8 @@ IsWeighed passed room (Through same) = (same ≡ passed) × ((known : Known) →
     → known.bound < room)
 
 abbrev pub Meets : HandData → PathData → Met → HandData → Type 0
-Meets before path (Cut found) after = Stays before after × IsCut after path found
-Meets before path (Through passed) after = Stays before after × IsThrough after path passed
+Meets before path (Cut found) after = StaysInPart before after × IsCut after path found
+Meets before path (Through passed) after = StaysInPart before after × IsThrough after path passed
 
 -- the path was enlisted: it is the cursor's last, and the line has what remains after it
 pub record IsOpened (after : HandData) (cursor_after : CursorData) (path : PathData) (opened : Opened) : Type 0 where
@@ -89,12 +89,12 @@ pub record IsOpened (after : HandData) (cursor_after : CursorData) (path : PathD
   pub set : (line_at after.lines opened.line).set ≡ path.rest
   pub last : cursor_after.last ≡ Some path
 
-abbrev pub Begins : HandData → CursorData → PathData → Result Begun Memory → HandData → CursorData → Type 0
-Begins before cursor path (Ok (Answered found)) after cursor_after =
+abbrev pub BeginsWalk : HandData → CursorData → PathData → Result Begun Memory → HandData → CursorData → Type 0
+BeginsWalk before cursor path (Ok (Answered found)) after cursor_after =
     Walks before cursor path after cursor_after × IsFound after cursor_after path found
-Begins before cursor path (Ok (Enlisted opened)) after cursor_after =
+BeginsWalk before cursor path (Ok (Enlisted opened)) after cursor_after =
     Walks before cursor path after cursor_after × IsOpened after cursor_after path opened
-Begins before cursor path (Err _) after cursor_after =
+BeginsWalk before cursor path (Err _) after cursor_after =
     Walks before cursor path after cursor_after × Rose before.refusals after.refusals
 
 -- the greater of the static bound and that of a line that was found, which is named where it is greater
@@ -107,7 +107,7 @@ IsBest passed found =
 
 -- a complete path was offered; and the hand keeps what every hand does
 pub record Offers (before : HandData) (path : PathData) (found : Found) (after : HandData) : Type 0 where
-  pub stays : Stays before after
+  pub stays : StaysInPart before after
   pub nothing : found ≡ record { bound = 0; line = None; spent = false }
   pub offered : after.told ≤ path.paid
   pub limits : IsHand after
@@ -115,6 +115,6 @@ pub record Offers (before : HandData) (path : PathData) (found : Found) (after :
 -- the line has the bound, and was noted with it; and the hand keeps what every hand does
 abbrev pub Closes : HandData → Known → Bool → Result Found Memory → HandData → Type 0
 Closes before known spent (Ok found) after =
-    Stays before after × (found ≡ record { bound = known.bound; line = Some known.line; spent = spent })
+    StaysInPart before after × (found ≡ record { bound = known.bound; line = Some known.line; spent = spent })
     × Knows after.lines known × (after.note ≡ Some known) × IsHand after
-Closes before known spent (Err _) after = Stays before after × Rose before.refusals after.refusals
+Closes before known spent (Err _) after = StaysInPart before after × Rose before.refusals after.refusals

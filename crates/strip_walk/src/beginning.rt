@@ -6,7 +6,7 @@ ghost use Rattle.strip_film.specs.Shown.{cursor_data, path_data};
 ghost use Rattle.strip_bound.specs.StoredBound.{Keeps};
 ghost use Rattle.strip_hand.specs.Hand.{IsSearchOf};
 ghost use Rattle.strip_walk.specs.Found.{MayExplore};
-ghost use Rattle.strip_walk.specs.Begun.{Asks, Begins, IsBest, IsThrough, IsWeighed, Meets, Offers};
+ghost use Rattle.strip_walk.specs.Begun.{Asks, BeginsWalk, IsBest, IsThrough, IsWeighed, Meets, Offers};
 ghost use Rattle.strip_memo.specs.Memo.{IsMemo};
 
 use crate::found::{Begun, Found, Met, Opened, Passed};
@@ -115,7 +115,7 @@ pub(crate) fn list<H: Hand>(
     requires through { IsThrough (H.shows hand.old) (path_data path.now) passed.now }
     ensures sound { H.is_sound hand.new }
     ensures home { H.home hand.new ≡ H.home hand.old }
-    ensures begun { Begins (H.shows hand.old) (cursor_data cursor.old) (path_data path.now) result
+    ensures begun { BeginsWalk (H.shows hand.old) (cursor_data cursor.old) (path_data path.now) result
         (H.shows hand.new) (cursor_data cursor.new) }
 {
     let listed = hand.enlist(cursor, path, passed.bound)?;

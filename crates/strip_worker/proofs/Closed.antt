@@ -22,13 +22,12 @@ use Rattle.strip_lines.specs.Paths.{candidate_count, leaving_count}
 use Rattle.strip_lines.proofs.Shares.{lines_few, lines_ways}
 use Rattle.strip_hand.specs.Hand.{HandData, IsHand, IsSearchOf}
 use Rattle.strip_hand.specs.Search.{GoesBy, SearchData, depth_of, search_rules}
-use Rattle.strip_world.proofs.True.{tasks_apart}
+use Rattle.strip_hand.proofs.Starts.{tasks_apart}
 use Rattle.strip_front.specs.Calls.{AllReach, GoesDown, IsClosedUp, Learns}
 use Rattle.strip_front.specs.Front.{FrontData, root_of}
-use Rattle.strip_worker.specs.Closed.{EndsFrom, HasAll, IsClosed, IsSettled, known_of_all, record_in}
-use Rattle.strip_worker.specs.declared.ended.Ended.{Ended}
-use Rattle.strip_worker.specs.Ended.{EndedData, IsEnded}
-use Rattle.strip_worker.specs.Shown.{ended_data}
+use Rattle.strip_worker.specs.Closed.{HasAll, IsClosed, IsSettled, known_of_all, record_in}
+use Rattle.strip_lines.specs.declared.ended.Ended.{Ended}
+use Rattle.strip_lines.specs.Ended.{EndedData, EndsFrom, IsEnded, ended_data}
 use Rattle.strip_worker.specs.Team.{GoesOn, HasWorked}
 use Rattle.strip_worker.proofs.Counted.{cut_has_more}
 use Rattle.strip_worker.proofs.Moved.{moved_same}

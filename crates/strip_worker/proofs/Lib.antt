@@ -7,4 +7,3 @@ pub mod Unclaimed
 pub mod Merged
 pub mod Counted
 pub mod Closed
-pub mod OneWorker

@@ -10,7 +10,6 @@ use Rattle.strip_lines.specs.Lines.{AreJustified, GrowTo, ahead, known}
 use Rattle.strip_lines.specs.Parts.{AreCounted}
 use Rattle.strip_hand.specs.Hand.{HandData, IsHand, IsSearchOf, RecordData, no_path_yet}
 use Rattle.strip_hand.specs.Search.{depth_of, search_rules}
-use Rattle.strip_worker.specs.Ended.{EndedData, IsEnded}
 use Rattle.strip_worker.specs.Team.{IsCut}
 
 -- the hand's record of a part, or that of a part in which nothing was enlisted
@@ -51,7 +50,3 @@ pub record IsSettled (hand : HandData) (best : PathData) (lines : List Line) : T
   pub justified : AreJustified (search_rules hand.search) lines
   pub few : length lines ≤ hand.search.cap
   pub counts : AreCountedBy hand lines
-
--- it ended so, where the search began with a path that paid this much
-abbrev pub EndsFrom : Kind → FilmData → ℕ → ℕ → EndedData → Type 0
-EndsFrom kind film paid cap ended = (start : PathData) → start.paid ≡ paid → IsEnded kind film start cap ended

@@ -1,4 +1,2 @@
-pub mod Ended
-pub mod Shown
 pub mod Team
 pub mod Closed

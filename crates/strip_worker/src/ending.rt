@@ -8,11 +8,10 @@ ghost use Rattle.strip_lines.specs.Lines.{known, rules_of};
 ghost use Rattle.strip_hand.specs.Hand.{HandData};
 ghost use Rattle.strip_front.specs.Calls.{Learns};
 ghost use Rattle.strip_front.specs.Shown.{front_data};
-ghost use Rattle.strip_worker.specs.Closed.{EndsFrom, HasAll, IsClosed, IsSettled};
-ghost use Rattle.strip_worker.specs.Shown.{ended_data};
+ghost use Rattle.strip_worker.specs.Closed.{HasAll, IsClosed, IsSettled};
+ghost use Rattle.strip_lines.specs.Ended.{EndsFrom, ended_data};
 ghost use Rattle.strip_worker.specs.Team.{HasWorkedOn};
 
-use crate::ended::Ended;
 use crate::walked::Walked;
 use std::alloc::Global;
 use strip_bound::StoredBound;
@@ -20,6 +19,7 @@ use strip_film::{Line, Path};
 use strip_front::{Front, close_up};
 use strip_hand::Hand;
 use strip_io::Memory;
+use strip_lines::Ended;
 use strip_lines::laws::the_rules_are_true;
 
 /// Raises the lines of the front (search frontier), after each part was claimed and worked on. It returns the bound to

@@ -1,17 +1,13 @@
-//! The whole branch-and-bound search of a film: a worker's steps through any hand (a worker's view of the shared
-//! state), and the search by one worker. It ends with a proved lower bound of the cost of every order.
+//! A worker's steps of a branch-and-bound search through any hand (a worker's view of the shared state): down the
+//! front, through the tasks, and to the end. The end has a proved lower bound of the cost of every order.
 #![tactic(auto)]
 
-mod ended;
 mod ending;
-mod gate;
-mod search;
 mod walked;
+mod worker;
 mod working;
 
-pub use ended::Ended;
 pub use ending::{close, tell};
-pub use gate::{Gate, Limit, OpenGate, Stage, Standing, Worker};
-pub use search::{alone, alone_through, asked_for};
 pub use walked::{Walked, merge};
-pub use working::{go_down_front, work};
+pub use worker::Worker;
+pub use working::{asked_for, go_down_front, work};

@@ -11,13 +11,13 @@ ghost use Rattle.strip_walk.specs.Found.{MayExplore};
 ghost use Rattle.strip_worker.specs.Team.{HasClaimed, HasEnded, HasWorked, HasWorkedOn, MayStart, OwnsFront, WorksOn};
 ghost use Rattle.strip_worker.specs.Team.{WalksPart, WalksTask, beginning};
 
-use crate::gate::{Gate, Worker};
 use crate::walked::Walked;
+use crate::worker::Worker;
 use std::alloc::Global;
 use strip_bound::StoredBound;
 use strip_film::{Cursor, Path, Running};
 use strip_front::{Front, go_down};
-use strip_hand::Hand;
+use strip_hand::{Gate, Hand};
 use strip_io::Memory;
 use strip_memo::Memo;
 use strip_walk::{Found, explore};
@@ -46,6 +46,12 @@ pub fn go_down_front<H: Hand, F: Fn(u64, u64) -> u64>(
     let spent = go_down(kept, hand, &mut Cursor::of(0), front)?;
     walked.spent = spent;
     Ok(walked)
+}
+
+/// Returns the number of tasks that are to be walked.
+pub fn asked_for(front: &Front) -> u32 {
+    let wanted = front.wanted.iter().filter(|wanted| **wanted);
+    u32::try_from(wanted.count()).unwrap_or(u32::MAX)
 }
 
 /// Claims parts until none is left, and walks each wanted task, after a report to the worker's gate. It skips the

@@ -19,10 +19,10 @@ use Rattle.strip_lines.specs.Lines.{GrowTo, line_at, no_line}
 use Rattle.strip_lines.proofs.Grown.{added-grows, grow_self, raised-grows}
 use Rattle.strip_lines.specs.Paths.{ComesAfter}
 use Rattle.strip_hand.specs.Hand.{HandData, IsHand, IsRecord, Knows, RecordData}
-use Rattle.strip_hand.specs.Calls.{Claims, Enlists, IsFound, MakesLine, MayEnlist as HandMayEnlist, MayRaise as HandMayRaise, Notes, Probes, Raises, Tells}
+use Rattle.strip_hand.specs.Calls.{Claims, Enlists, IsFound, MakesLine, MayEnlist, MayRaise, Notes, Probes, Raises, Tells}
 use Rattle.strip_hand.specs.Search.{search_rules}
 use Rattle.strip_world.specs.World.{PartData, WorkerData, WorldData, no_part, no_worker, home_stripe, part_at, worker_at}
-use Rattle.strip_world.specs.Allowed.{MayEnlist}
+use Rattle.strip_world.specs.Allowed.{WorkerMayEnlist}
 use Rattle.strip_world.specs.Hand.{IsOwned, hand_data, own_record, record_by}
 use Rattle.strip_world.specs.Sound.{IsSound}
 use Rattle.strip_world.specs.Steps.{IsNoted, answer_of, claim_reply, claimed, enlist_reply, enlisted, found, looked, new_line, offered, probed, raised_in, with_worker}
@@ -107,7 +107,7 @@ module _ (world : WorldData) (owned : IsOwned world) where
       owned_by (claimed world 0) (sound_claimed world 0 owned.one sound)
       (cond_both (ltb world.next (length world.parts)) _ world (λ (w : WorldData). length w.workers ≡ length world.workers) (λ left. refl) (λ none. refl))
 
-  pub owned_raised : (line bound : ℕ) → HandMayRaise (hand_data world) line bound → IsOwned (raised_in world line bound)
+  pub owned_raised : (line bound : ℕ) → MayRaise (hand_data world) line bound → IsOwned (raised_in world line bound)
   owned_raised line bound may =
       owned_by (raised_in world line bound) (sound_raised world line bound sound (record { known = may.there; justified = may.justified })) refl
 
@@ -195,7 +195,7 @@ module _ (world : WorldData) (owned : IsOwned world) where
 
   -- ---- lines
 
-  module _ (cursor : CursorData) (path : PathData) (bound : ℕ) (may : HandMayEnlist (hand_data world) cursor path bound) where
+  module _ (cursor : CursorData) (path : PathData) (bound : ℕ) (may : MayEnlist (hand_data world) cursor path bound) where
     abbrev was : RecordData
     was = record { last = cursor.last; number = may.stands.0 }
 
@@ -208,7 +208,7 @@ module _ (world : WorldData) (owned : IsOwned world) where
     pub same_last : cursor.last ≡ (part_at world cursor.task).last
     same_last = ap (λ (r : RecordData). r.last) tells.1
 
-    pub may_enlist : MayEnlist world 0 cursor.task path
+    pub may_enlist : WorkerMayEnlist world 0 cursor.task path
     may_enlist = record {
       known = part_known world cursor.task tells.0;
       claimed = tells.0;
@@ -276,7 +276,7 @@ module _ (world : WorldData) (owned : IsOwned world) where
           makes_line))
     ]
 
-  pub raises : (line bound : ℕ) → HandMayRaise (hand_data world) line bound
+  pub raises : (line bound : ℕ) → MayRaise (hand_data world) line bound
       → Raises (hand_data world) line bound (Ok (record {})) (hand_data (raised_in world line bound))
   raises line bound may =
       let here : line_at (raised_in world line bound).lines line ≡ record { set = (line_at world.lines line).set; bound = max (line_at world.lines line).bound bound }

@@ -19,11 +19,11 @@ use Rattle.strip_lines.specs.Parts.{lies_in}
 use Rattle.strip_table.specs.Home.{hash, bucket_of, stripe_of}
 use Rattle.strip_world.specs.declared.event.Event.TheVariants.{Claim, Look}
 use Rattle.strip_world.specs.declared.event.Reply.TheVariants.{Least, Task}
-use Rattle.strip_world.specs.declared.event.Limits.{Limits}
+use Rattle.strip_hand.specs.declared.limits.Limits.{Limits}
 use Rattle.strip_hand.specs.Search.{AreStarts, depth_of}
 use Rattle.strip_world.specs.World.{WorldData, part_at, worker_at}
 use Rattle.strip_hand.specs.Hand.{Knows, LetsThrough}
-use Rattle.strip_world.specs.Allowed.{IsAllowed, MayEnlist, MayRaise}
+use Rattle.strip_world.specs.Allowed.{IsAllowed, WorkerMayEnlist, WorkerMayRaise}
 use Rattle.strip_world.specs.Opened.{opened}
 use Rattle.strip_world.specs.Steps.{IsNoted, Runs, claim_reply, claimed, enlist_reply, enlisted, found, looked, offered, probed, raised_in}
 use Rattle.strip_world.specs.Sound.{IsSound}
@@ -146,7 +146,7 @@ probes = refl
 -- ---- what may come
 
 -- the first path may be enlisted in the front by the worker who claimed it
-may_enlist : MayEnlist first 1 0 root
+may_enlist : WorkerMayEnlist first 1 0 root
 unfolding has union meet minus with without full members numbers_below sum_over
 may_enlist = record {
   known = omega arith;
@@ -167,7 +167,7 @@ may_note = record { there = omega arith; set = refl; as_great = omega arith }
 lets : (LetsThrough (Some (record { set = 7; answer = Hit entry })) root 13) × ¬ LetsThrough (Some (record { set = 7; answer = Hit entry })) root 12
 lets = ((refl, omega arith), λ through. omega (arith, through.1))
 
-may_raise : MayRaise one_line 0 12
+may_raise : WorkerMayRaise one_line 0 12
 unfolding has members numbers_below sum_over
 may_raise = record { known = omega arith; justified = inl (omega arith) }
 

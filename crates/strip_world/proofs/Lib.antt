@@ -12,5 +12,4 @@ pub mod True
 pub mod Examples
 pub mod Runs
 pub mod Walked
-pub mod Reached
 pub mod Acting

@@ -15,14 +15,14 @@ use Rattle.strip_lines.specs.Parts.{AreCounted, Enlists, lies_in}
 use Rattle.strip_lines.proofs.Shares.{counted_then, is_candidate_from}
 use Rattle.strip_hand.specs.Search.{depth_of, search_rules}
 use Rattle.strip_world.specs.World.{PartData, WorldData, no_part, no_worker, part_at, stripe_at, worker_at}
-use Rattle.strip_world.specs.Allowed.{MayEnlist, MayRaise}
+use Rattle.strip_world.specs.Allowed.{WorkerMayEnlist, WorkerMayRaise}
 use Rattle.strip_world.specs.Sound.{IsClaimed, IsSound}
 use Rattle.strip_world.specs.Steps.{enlisted, new_line, raised_in}
 use Rattle.strip_world.proofs.Stays.{claim_stays, stripe_grows}
 
 -- ---- a path that is enlisted
 
-module _ (world : WorldData) (who part : ℕ) (path : PathData) (lt : who < length world.workers) (sound : IsSound world) (may : MayEnlist world who part path) where
+module _ (world : WorldData) (who part : ℕ) (path : PathData) (lt : who < length world.workers) (sound : IsSound world) (may : WorkerMayEnlist world who part path) where
   -- it is a candidate of the start, since no worker was told more than that costs
   pub is_candidate_of_start : is_candidate (search_rules world.search) world.search.start path ≡ true
   is_candidate_of_start =
@@ -117,7 +117,7 @@ sets_stay lines place bound set lt =
     let both = sum_by-set (λ (line : Line). cond {A = ℕ} (eqb line.set set) 1 0) lines place (raised (line_at lines place) bound) no_line lt in
     omega (arith, both)
 
-module _ (world : WorldData) (line bound : ℕ) (sound : IsSound world) (may : MayRaise world line bound) where
+module _ (world : WorldData) (line bound : ℕ) (sound : IsSound world) (may : WorkerMayRaise world line bound) where
   pub sound_raised : IsSound (raised_in world line bound)
   sound_raised = record {
     film = sound.film;

@@ -15,10 +15,11 @@ use Rattle.strip_lines.proofs.Shares.{counted_none}
 use Rattle.strip_table.specs.Home.{bucket_of, stripe_of}
 use Rattle.strip_table.specs.Bucket.{IsBucket}
 use Rattle.strip_table.specs.Stripe.{IsStripe, bucket_at}
-use Rattle.strip_world.specs.declared.event.Limits.{Limits}
+use Rattle.strip_hand.specs.declared.limits.Limits.{Limits}
 use Rattle.strip_hand.specs.Search.{AreStarts, depth_of, search_rules}
 use Rattle.strip_world.specs.World.{PartData, WorkerData, WorldData, no_part, no_worker, part_at, stripe_at}
-use Rattle.strip_world.specs.Opened.{AreLimits, opened, search_of}
+use Rattle.strip_world.specs.Opened.{opened, search_of}
+use Rattle.strip_hand.specs.Limits.{AreLimits}
 use Rattle.strip_hand.specs.Hand.{Knows}
 use Rattle.strip_world.specs.Sound.{HasLeast, IsClaimed, IsSound, IsStripeOf, IsWorker}
 

@@ -5,19 +5,19 @@ use Rattle.strip_model.specs.Pay.{IsOptimum}
 use Rattle.strip_film.specs.declared.shared.Known.{Known}
 use Rattle.strip_film.specs.declared.shared.Line.{Line}
 use Rattle.strip_film.specs.Film.{all_scenes}
-use Rattle.strip_film.specs.Finish.{EachOnce, IsAtMostFinish, IsFinish, rest_after, steps_cost}
+use Rattle.strip_film.specs.Finish.{EachOnce, IsAtMostFinish, IsFinish, steps_cost}
 use Rattle.strip_film.specs.Path.{PathData, IsComplete}
 use Rattle.strip_film.specs.Rules.{BeginLeast, BoundsFinish}
 use Rattle.strip_film.proofs.Optimum.{finish_from_optimum}
 use Rattle.strip_lines.specs.Lines.{line_at, no_line}
 use Rattle.strip_lines.proofs.Justified.{lines_are_true}
 use Rattle.strip_lines.specs.Paths.{candidate_count, leaving_count}
-use Rattle.strip_lines.specs.Parts.{AreTasks}
 use Rattle.strip_lines.proofs.Shares.{lines_few, lines_room, lines_ways}
 use Rattle.strip_table.specs.Stripe.{bucket_at}
-use Rattle.strip_hand.specs.Search.{AreStarts, SearchData, depth_of, search_rules}
+use Rattle.strip_hand.specs.Search.{depth_of, search_rules}
+use Rattle.strip_hand.proofs.Starts.{tasks_apart}
 use Rattle.strip_world.specs.World.{WorldData, no_worker, part_at, stripe_at, worker_at}
-use Rattle.strip_world.specs.Allowed.{MayEnlist}
+use Rattle.strip_world.specs.Allowed.{WorkerMayEnlist}
 use Rattle.strip_hand.specs.Hand.{Knows}
 use Rattle.strip_world.specs.Sound.{IsSound}
 use Rattle.strip_world.proofs.Lines.{is_candidate_of_start, part_within}
@@ -55,15 +55,6 @@ module _ (world : WorldData) (sound : IsSound world) where
 
 -- ---- counts
 
--- tasks of which different sets remain are along different scenes
-pub tasks_apart : (search : SearchData) → AreStarts search → AreTasks (depth_of search) search.tasks
-tasks_apart search starts = record {
-  long = starts.long;
-  apart = λ i j d rising within same.
-      starts.apart i j d rising within
-      ((starts.paths i d (omega (arith, rising, within))).left ∙ ap (rest_after (all_scenes search.film)) same ∙ sym (starts.paths j d within).left);
-}
-
 module _ (world : WorldData) (sound : IsSound world) where
   pub most_lines : length world.lines ≤ candidate_count (search_rules world.search) world.search.start
   most_lines =
@@ -75,7 +66,7 @@ module _ (world : WorldData) (sound : IsSound world) where
       lines_ways (search_rules world.search) world.search.start (depth_of world.search) world.search.tasks sound.film (tasks_apart world.search sound.tasks) world.lines
       (λ part. (part_at world part).last) (λ part. (part_at world part).number) sound.counts
 
-  pub room_for_more : (who part : ℕ) (path : PathData) → who < length world.workers → MayEnlist world who part path
+  pub room_for_more : (who part : ℕ) (path : PathData) → who < length world.workers → WorkerMayEnlist world who part path
       → length world.lines + 1 ≤ candidate_count (search_rules world.search) world.search.start
   room_for_more who part path lt may =
       lines_room (search_rules world.search) world.search.start (depth_of world.search) world.search.tasks sound.film (tasks_apart world.search sound.tasks) world.lines

@@ -16,7 +16,7 @@ use Rattle.strip_world.specs.World.{WorldData, part_at, worker_at}
 
 -- the worker claimed the part, and the path is an open one of the part that comes after its last, with something
 -- remaining, and which neither the static bound nor, outside the front, the last probe rules out
-pub record MayEnlist (world : WorldData) (who part : ℕ) (path : PathData) : Type 0 where
+pub record WorkerMayEnlist (world : WorldData) (who part : ℕ) (path : PathData) : Type 0 where
   pub known : part < length world.parts
   pub claimed : (part_at world part).claimer ≡ Some who
   pub is_open : IsOpen (search_rules world.search) path
@@ -27,7 +27,7 @@ pub record MayEnlist (world : WorldData) (who part : ℕ) (path : PathData) : Ty
   pub through : part ≢ 0 → LetsThrough (worker_at world who).probe path (worker_at world who).told
 
 -- the line is there, and the bound is justified for its set by the lines
-pub record MayRaise (world : WorldData) (line bound : ℕ) : Type 0 where
+pub record WorkerMayRaise (world : WorldData) (line bound : ℕ) : Type 0 where
   pub known : line < length world.lines
   pub justified : IsJustified (search_rules world.search) world.lines (record { set = (line_at world.lines line).set; bound = bound })
 
@@ -36,8 +36,8 @@ abbrev pub IsFitting : WorldData → Event → Type 0
 IsFitting world (Look who) = ⊤
 IsFitting world (Offer who path) = IsComplete world.search.film (path_data path)
 IsFitting world (Claim who) = ⊤
-IsFitting world (Enlist who task path) = MayEnlist world who task (path_data path)
-IsFitting world (Raise who line bound) = MayRaise world line bound
+IsFitting world (Enlist who task path) = WorkerMayEnlist world who task (path_data path)
+IsFitting world (Raise who line bound) = WorkerMayRaise world line bound
 IsFitting world (Ask who set) = LiesIn world.search.film set
 IsFitting world (Note who known) = Knows world.lines known
 

@@ -1,19 +1,11 @@
--- The world that a search opens with, and its limits.
+-- The world that a search opens with.
 use Rattle.std.specs.Prelude.{suc, ◌/◌, ◌≤◌, None, List, [], length, replicate}
 use Rattle.strip_model.specs.declared.kind.Kind.{Kind}
 use Rattle.strip_model.specs.Film.{FilmData}
 use Rattle.strip_film.specs.Path.{PathData}
-use Rattle.strip_world.specs.declared.event.Limits.{Limits}
+use Rattle.strip_hand.specs.declared.limits.Limits.{Limits}
 use Rattle.strip_hand.specs.Search.{SearchData}
 use Rattle.strip_world.specs.World.{WorldData, no_part, WorkerData}
-
-pub record AreLimits (limits : Limits) : Type 0 where
-  pub some_workers : 1 ≤ limits.workers
-  pub few_workers : limits.workers ≤ 64
-  pub some_lines : 1 ≤ limits.cap
-  pub few_lines : limits.cap ≤ 16777216
-  pub some_entries : 64 ≤ limits.entries
-  pub few_entries : limits.entries ≤ 4194304
 
 -- what a search goes by that starts with this path
 abbrev pub search_of : FilmData → Kind → PathData → List PathData → Limits → SearchData

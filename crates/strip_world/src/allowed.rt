@@ -16,7 +16,7 @@ ghost use Rattle.strip_world.specs.Shown.{probe_data};
 ghost use Rattle.strip_hand.specs.Search.{GoesBy, depth_of, search_rules};
 ghost use Rattle.strip_world.specs.World.{part_at};
 ghost use Rattle.strip_hand.specs.Hand.{Knows, Lets, LetsThrough};
-ghost use Rattle.strip_world.specs.Allowed.{IsAllowed, IsFitting, MayEnlist, MayRaise, actor_of};
+ghost use Rattle.strip_world.specs.Allowed.{IsAllowed, IsFitting, WorkerMayEnlist, WorkerMayRaise, actor_of};
 ghost use Rattle.strip_world.specs.Sound.{IsSound};
 
 use crate::event::Event;
@@ -77,7 +77,7 @@ impl World {
         requires keeps { Keeps (F.pre kept.now.f) (F.post kept.now.f) kept.now.kind kept.now.film.now }
         requires search { GoesBy kept.now.kind kept.now.film.now self.now.search }
         requires worker { who < length self.now.workers }
-        ensures { IsTrue result ↔ MayEnlist self.now who part (path_data path.now) }
+        ensures { IsTrue result ↔ WorkerMayEnlist self.now who part (path_data path.now) }
     {
         let worker = &self.workers[who as usize];
         self.is_in_part_of(who, part, path)
@@ -151,7 +151,7 @@ impl World {
         requires sound { IsSound self.now }
         requires keeps { Keeps (F.pre kept.now.f) (F.post kept.now.f) kept.now.kind kept.now.film.now }
         requires search { GoesBy kept.now.kind kept.now.film.now self.now.search }
-        ensures { IsTrue result ↔ MayRaise self.now line bound }
+        ensures { IsTrue result ↔ WorkerMayRaise self.now line bound }
     {
         match self.lines.get(line as usize) {
             Some(line) => self.is_justified(kept, Mask(line.set), bound),

@@ -1,4 +1,4 @@
-// Events, replies and limits.
+// Events and replies.
 
 use strip_film::{Known, Listed, Noted, Path, Probe};
 
@@ -32,13 +32,4 @@ pub enum Reply {
     Raised,
     Probed(Probe),
     Noted(Noted),
-}
-
-/// The limits of a world: the number of workers, at most 64, the line budget `cap`, at most 16,777,216, and the number
-/// of table entries, 64 to 4,194,304.
-#[derive(Clone, Copy, Debug, PartialEq, Eq)]
-pub struct Limits {
-    pub workers: u32,
-    pub cap: u32,
-    pub entries: u32,
 }

@@ -6,7 +6,7 @@ ghost use Rattle.strip_film.specs.declared.shared.Probe.{Probe};
 ghost use Rattle.strip_film.specs.Film.{LiesIn};
 ghost use Rattle.strip_film.specs.Path.{IsComplete};
 ghost use Rattle.strip_film.specs.Shown.{cursor_data, path_data};
-ghost use Rattle.strip_hand.specs.Calls.{Claims, Enlists, MayEnlist, MayRaise as HandMayRaise, Notes, Probes, Raises, Tells};
+ghost use Rattle.strip_hand.specs.Calls.{Claims, Enlists, MayEnlist, MayRaise, Notes, Probes, Raises, Tells};
 ghost use Rattle.strip_hand.specs.Hand.{IsHand, Knows};
 ghost use Rattle.strip_world.specs.declared.event.Event.TheVariants.{Claim, Enlist, Look, Note, Offer, Probe as Ask, Raise};
 ghost use Rattle.strip_world.specs.declared.event.Reply.TheVariants.{Least, Listed as HasListed, Noted as HasNoted, Probed, Raised, Task};
@@ -100,7 +100,7 @@ impl Hand for World {
 
     fn raise(&mut self, line: u32, bound: u64) -> Result<(), Memory>
         requires sound { IsOwned self.old }
-        requires may { HandMayRaise (hand_data self.old) line bound }
+        requires may { MayRaise (hand_data self.old) line bound }
         ensures sound { IsOwned self.new }
         ensures home { length self.new.workers ≡ length self.old.workers }
         ensures raised { Raises (hand_data self.old) line bound result (hand_data self.new) }

@@ -11,10 +11,11 @@ ghost use Rattle.strip_lines.specs.Lines.{GrowTo};
 ghost use Rattle.strip_lines.specs.Paths.{candidate_count, leaving_count};
 ghost use Rattle.strip_table.specs.Stripe.{bucket_at};
 ghost use Rattle.strip_world.specs.declared.event.Event.{Event};
-ghost use Rattle.strip_world.specs.declared.event.Limits.{Limits};
+ghost use Rattle.strip_hand.specs.declared.limits.Limits.{Limits};
 ghost use Rattle.strip_world.specs.declared.event.Reply.{Reply};
-ghost use Rattle.strip_world.specs.Allowed.{IsAllowed, MayEnlist};
-ghost use Rattle.strip_world.specs.Opened.{AreLimits, opened, search_of};
+ghost use Rattle.strip_world.specs.Allowed.{IsAllowed, WorkerMayEnlist};
+ghost use Rattle.strip_world.specs.Opened.{opened, search_of};
+ghost use Rattle.strip_hand.specs.Limits.{AreLimits};
 ghost use Rattle.strip_world.specs.Sound.{IsSound};
 ghost use Rattle.strip_world.specs.Steps.{Steps};
 ghost use Rattle.strip_hand.specs.Search.{AreStarts, search_rules};
@@ -55,7 +56,7 @@ pub fn sound_worlds_have_few_lines()
         → count_by (λ line. line.set == set) world.lines
         ≤ leaving_count (search_rules world.search) world.search.start set }
     ensures room { (world : WorldData) (who part : ℕ) (path : PathData) → IsSound world → who < length world.workers
-        → MayEnlist world who part path → length world.lines + 1
+        → WorkerMayEnlist world who part path → length world.lines + 1
         ≤ candidate_count (search_rules world.search) world.search.start }
 {}
 

@@ -17,5 +17,5 @@ mod state;
 mod step;
 mod world;
 
-pub use event::{Event, Limits, Reply};
+pub use event::{Event, Reply};
 pub use world::World;

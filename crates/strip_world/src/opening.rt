@@ -2,18 +2,19 @@
 ghost use Rattle.std.specs.Prelude.{◌≡◌, ◌<◌, IfOk, [], map, replicate};
 ghost use Rattle.strip_film.specs.Path.{IsComplete};
 ghost use Rattle.strip_film.specs.Shown.{path_data};
-ghost use Rattle.strip_world.specs.Opened.{AreLimits, idle_worker, opened, search_of};
+ghost use Rattle.strip_world.specs.Opened.{idle_worker, opened, search_of};
+ghost use Rattle.strip_hand.specs.Limits.{AreLimits};
 ghost use Rattle.strip_world.specs.Sound.{IsSound};
 ghost use Rattle.strip_world.specs.Shown.{part_data, worker_data};
 ghost use Rattle.strip_hand.specs.Search.{AreStarts};
 ghost use Rattle.strip_world.specs.World.{no_part};
 
-use crate::event::Limits;
 use crate::laws::steps_keep_worlds_sound;
 use crate::state::{Part, Worker};
 use crate::world::World;
 use std::alloc::{AllocError, Global};
 use strip_film::{Film, Path};
+use strip_hand::Limits;
 use strip_io::Memory;
 use strip_model::Kind;
 use strip_table::{STRIPES, Stripe};

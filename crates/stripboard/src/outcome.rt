@@ -11,10 +11,10 @@ use std::process::ExitCode;
 use std::rt;
 use std::sync::Wait;
 use std::thread::Threads;
+use strip_hand::{Gate, OpenGate};
 use strip_host::{Host, exit_code};
 use strip_io::Memory;
 use strip_progress::Progress;
-use strip_worker::{Gate, OpenGate};
 
 /// Runs the program `stripboard` with the words, files and output of this host, and returns its exit code. It prints
 /// progress rows on standard error only if the words ask for them.
@@ -55,5 +55,5 @@ fn run_through<R: rt::Files + Input + Print + AllocGlobal + Threads + Wait + Syn
         host.new.files.held host.old.out.faults host.new.out.faults) result }
 {
     let Host { words, files, out } = host;
-    strip_commands::run(rt, rt.alloc(), words, files, out, gate)
+    strip_top::run(rt, rt.alloc(), words, files, out, gate)
 }

@@ -13,8 +13,8 @@ use crate::files::{give, hold, source};
 use std::alloc::Global;
 use std::sync::Wait;
 use std::thread::Threads;
+use strip_hand::OpenGate;
 use strip_io::{MemFiles, MemSink, Memory};
-use strip_worker::OpenGate;
 
 /// Runs a case with the shared files, and returns how its first differing step differs.
 pub(crate) fn run_case<R: Threads + Wait + Sync>(
@@ -127,7 +127,7 @@ fn run_program<R: Threads + Wait + Sync>(
         (memory_sink_data out.new)) result }
 {
     match program {
-        Program::Stripboard => strip_commands::run(rt, alloc, words, files, out, &OpenGate),
+        Program::Stripboard => strip_top::run(rt, alloc, words, files, out, &OpenGate),
         Program::Stripcheck => strip_check_command::report(alloc, words, files, out),
     }
 }

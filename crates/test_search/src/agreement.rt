@@ -8,10 +8,10 @@ use std::alloc::Global;
 use std::test::Fail;
 use strip_exhaustive::cheapest_order;
 use strip_film::{Film as Classes, Line};
+use strip_lines::Ended;
 use strip_model::Kind;
 use strip_reduce::reduce;
 use strip_start::{greedy, improve};
-use strip_worker::Ended;
 
 /// Tells whether the result of a search with at most `nodes` lines is true of a film with cheapest orders of cost
 /// `least`.

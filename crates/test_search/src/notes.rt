@@ -13,10 +13,11 @@ use strip_bound::{BoundTables, StoredBound, static_reach};
 use strip_film::{Film, Path};
 use strip_front::laws::tasks_are_starts;
 use strip_front::make_front;
+use strip_hand::Limits;
 use strip_mask::Mask;
 use strip_model::Kind;
 use strip_start::{greedy, improve};
-use strip_world::{Limits, World};
+use strip_world::World;
 
 /// The result of a search: the cost of its best order and its bound, in units of money, and its number of lines.
 #[derive(Clone, Copy, Debug)]

@@ -5,13 +5,14 @@ ghost use Rattle.strip_film.specs.Path.{IsComplete};
 ghost use Rattle.strip_film.specs.Shown.{path_data};
 
 use std::alloc::Global;
+use strip_alone::alone;
 use strip_bound::{BoundTables, StoredBound, static_reach};
 use strip_film::{Film, Path};
 use strip_io::Memory;
+use strip_lines::Ended;
 use strip_mask::Mask;
 use strip_memo::Memo;
 use strip_model::Kind;
-use strip_worker::{Ended, alone};
 
 /// Runs a search of the film with static bounds of this kind, from this path.
 pub(crate) fn searched(

@@ -16,11 +16,12 @@ use strip_bound::{BoundTables, StoredBound, static_reach};
 use strip_film::{Film, Known, Line, Listed, Noted, Path, Probe};
 use strip_front::laws::tasks_are_starts;
 use strip_front::make_front;
+use strip_hand::Limits;
 use strip_mask::Mask;
 use strip_model::Kind;
 use strip_start::greedy;
 use strip_world::laws::what_was_seen_stays_true;
-use strip_world::{Event, Limits, Reply, World};
+use strip_world::{Event, Reply, World};
 
 fn world<F: Fn(u64, u64) -> u64>(
     alloc: Global,

@@ -1,8 +1,8 @@
 // The whole program over files that never fail.
 use std::alloc::{AllocError, Global};
 use std::test::Fail;
-use strip_commands::report;
 use strip_io::{MemSink, NoFaultFiles};
+use strip_top::report;
 
 const TRIANGLE: &str = "scene,days,a,b,c\nrate,,1,2,3\n\
     s1,1,x,x,.\ns2,1,.,x,x\ns3,1,x,.,x\n";

@@ -12,9 +12,9 @@ use std::sync::Wait;
 use std::sync::atomic::{AtomicBool, AtomicU32, Ordering};
 use std::test::Fail;
 use std::thread::Threads;
-use strip_commands::run;
+use strip_hand::{Gate, Limit, Stage, Standing};
 use strip_io::{MemFiles, MemSink};
-use strip_worker::{Gate, Limit, Stage, Standing};
+use strip_top::run;
 
 const RING: &str = "scene,days,a,b,c,d\nrate,,1,2,3,4\n\
     s1,1,x,.,.,x\ns2,1,x,x,.,.\ns3,1,.,x,x,.\ns4,1,.,.,x,x\n";

@@ -29,7 +29,7 @@ use Rattle.strip_hand.specs.Hand.{no_path_yet}
 use Rattle.strip_hand.specs.Search.{AreStarts, GoesBy, SearchData, search_rules}
 use Rattle.strip_book.specs.View.{ViewData, record_at}
 use Rattle.strip_book.specs.Rule.{first_view}
-use Rattle.strip_book.specs.Pass.{MayEnlist, MayRaise}
+use Rattle.strip_book.specs.Pass.{MayEnlistNext, MayRaiseKnown}
 
 rules_are : (kind : Kind) (film : FilmData) (search : SearchData) → GoesBy kind film search → rules_of kind film ≡ search_rules search
 rules_are kind film search by = λ i. rules_of (sym by.1 i) (sym by.0 i)
@@ -60,7 +60,7 @@ module _ (kind : Kind) (film : FilmData) (view : ViewData) (by : GoesBy kind fil
     static_there = static ∙ ap (λ (r : Rules). r.bound path.rest) same_rules
 
     -- the path without a scene
-    pub may_enlist_whole : record_at 0 view.entries ≡ Some no_path_yet → path.scenes ≡ [] → 2 ≤ depth_of view.search → MayEnlist view 0 path number
+    pub may_enlist_whole : record_at 0 view.entries ≡ Some no_path_yet → path.scenes ≡ [] → 2 ≤ depth_of view.search → MayEnlistNext view 0 path number
     may_enlist_whole stands scenes deep = record {
       next = record {
         entry = no_path_yet;
@@ -76,7 +76,7 @@ module _ (kind : Kind) (film : FilmData) (view : ViewData) (by : GoesBy kind fil
 
     -- the path of one scene, behind that without one
     pub may_enlist_one : (whole : PathData) (count first : ℕ) → record_at 0 view.entries ≡ Some (record { last = Some whole; number = count }) → whole.scenes ≡ [] → path.scenes ≡ first ∷ []
-        → has (open_firsts film (all_scenes film)) first ≡ true → 2 ≤ depth_of view.search → MayEnlist view 0 path number
+        → has (open_firsts film (all_scenes film)) first ≡ true → 2 ≤ depth_of view.search → MayEnlistNext view 0 path number
     may_enlist_one whole count first stands none scenes opens deep = record {
       next = record {
         entry = record { last = Some whole; number = count };
@@ -95,7 +95,7 @@ module _ (kind : Kind) (film : FilmData) (view : ViewData) (by : GoesBy kind fil
   pub may_raise_whole : (line number : ℕ) → line < length view.lines → (line_at view.lines line).set ≡ all_scenes film → all_scenes film ≢ 0
       → ((scene : ℕ) → has (open_firsts film (all_scenes film)) scene ≡ true
       → number ≤ step_cost film (all_scenes film) scene + bound kind film (without (all_scenes film) scene))
-      → MayRaise view line number
+      → MayRaiseKnown view line number
   may_raise_whole line number there made some_ each = record {
     there = there;
     justified = whole_justified kind film view.search view.lines by line number made some_ each;
@@ -136,7 +136,7 @@ lies_in_each depth tasks (suc task) path some_ wholes = subst (λ (xs : List ℕ
 
 pub may_enlist_in : (kind : Kind) (film : FilmData) (count part number : ℕ) (view : ViewData) (path : PathData) → IsOfWholes kind film count view.search → 0 < part
     → record_at part view.entries ≡ Some no_path_yet → IsPath film path → path.scenes ≡ [] → path.paid ≡ 0 → path.rest ≢ 0 → number ≡ bound kind film path.rest → number < 14
-    → MayEnlist view part path number
+    → MayEnlistNext view part path number
 may_enlist_in kind film count part number view path of some_part stands is scenes paid some_ static below =
     let there : number ≡ (search_rules view.search).bound path.rest = static_there kind film view of.goes_by path number of.start is some_ static (omega (arith, paid, below)) in
     record {

@@ -7,9 +7,9 @@ use std::sync::atomic::{AtomicU32, Ordering};
 use std::test::Fail;
 use std::thread;
 use std::thread::Threads;
+use strip_hand::{Gate, Limit, Stage, Standing};
 use strip_model::Kind;
 use strip_progress::Progress;
-use strip_worker::{Gate, Limit, Stage, Standing};
 
 /// A standard error that counts its rows, keeps the first, and reports a failure each time.
 #[derive(Drop)]

@@ -8,7 +8,7 @@ ghost use Rattle.std.specs.Prelude.{◌≤◌};
 ghost use Rattle.strip_bound.specs.StoredBound.{Keeps};
 ghost use Rattle.strip_film.specs.Path.{IsComplete};
 ghost use Rattle.strip_film.specs.Shown.{path_data};
-ghost use Rattle.strip_world.specs.Opened.{AreLimits};
+ghost use Rattle.strip_hand.specs.Limits.{AreLimits};
 
 use crate::least::{film_of, path};
 use std::alloc::Global;
@@ -18,11 +18,11 @@ use std::thread::Threads;
 use strip_bound::{BoundTables, StoredBound, static_reach};
 use strip_crew::race;
 use strip_film::{Film, Path};
+use strip_hand::{Limits, OpenGate};
+use strip_lines::Ended;
 use strip_mask::Mask;
 use strip_memo::Memo;
 use strip_model::Kind;
-use strip_worker::{Ended, OpenGate};
-use strip_world::Limits;
 
 fn ring(alloc: Global) -> Result<Film, Fail> {
     film_of(

@@ -1,7 +1,7 @@
 use Rattle.std.proofs.Common.{subst}
 use Rattle.strip_model.specs.FilmOf.{film_of}
 use Rattle.strip_proof.specs.Plan.{plan_data}
-use Rattle.strip_solve.specs.declared.solve.SearchOptions.{SearchOptions}
+use Rattle.strip_solve.specs.declared.options.SearchOptions.{SearchOptions}
 use Rattle.strip_solve.specs.Solved.{IsSolvedBy}
 use Rattle.strip_words.specs.Shown.{solve_data}
 use Rattle.strip_commands.proofs.Printed.{plan_answer}

@@ -1,8 +1,7 @@
 use Rattle.std.proofs.Common.{◌≡◌, ◌∙◌, ℕ, IfOk, ap, subst}
 use Rattle.strip_hand.specs.Search.{SearchData}
 use Rattle.strip_book.specs.View.{ViewData}
-use Rattle.strip_worker.specs.Closed.{EndsFrom}
-use Rattle.strip_worker.specs.Shown.{ended_data}
+use Rattle.strip_lines.specs.Ended.{EndsFrom, ended_data}
 use Rattle.strip_crew.specs.Crew.{shown}
 use Rattle.strip_crew.proofs.racing.in_race.Goals as goal
 

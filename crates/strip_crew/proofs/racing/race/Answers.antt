@@ -6,7 +6,7 @@ use Rattle.strip_film.specs.Path.{PathData}
 use Rattle.strip_film.specs.Shown.{path_data}
 use Rattle.strip_lines.specs.Lines.{rules_of}
 use Rattle.strip_lines.specs.Paths.{factorial, candidate_count, is_candidate}
-use Rattle.strip_worker.specs.Shown.{ended_data}
+use Rattle.strip_lines.specs.Ended.{ended_data}
 use Rattle.strip_crew.proofs.Shut.{ended_within, where_ended}
 use Rattle.strip_crew.proofs.racing.race.Goals as goal
 

@@ -9,10 +9,10 @@ use Rattle.strip_lines.specs.Lines.{rules_of}
 use Rattle.strip_paths.specs.Shown.{paths_of}
 use Rattle.strip_layers.specs.declared.ask.Ask.{Ask}
 use Rattle.strip_layers.specs.declared.layer.Layer.{Layer}
-use Rattle.strip_layers.specs.Raised.{MayRaise}
+use Rattle.strip_layers.specs.Raised.{MayRaiseLayer}
 use Rattle.strip_layers.specs.Search.{AreTrue, SearchData}
 use Rattle.strip_layers.specs.Shown.{search_data}
-use Rattle.strip_layers.specs.Walked.{AreLooked, GoesOn, IsLevel, Walks}
+use Rattle.strip_layers.specs.Walked.{AreLooked, GoesOn, IsLevel, WalksLayer}
 use Rattle.strip_layers.proofs.Behind.{all_complete, given_up, may_raise}
 use Rattle.strip_layers.proofs.Grown.{extends_rises, rises_trans}
 use Rattle.strip_layers.proofs.walking.+walk_layer.Goals as goal
@@ -106,16 +106,16 @@ module _ (g : Over) (t : ℕ) (c : goal.In-Some g t) where
   abbrev film : FilmData
   film = g.A.Answers.film c.args.answers.now
 
-  walked : Walks (rules_of kind film) (search_data c.go_on.new.search) c.args.walk.may_spend c.args.walk.limit (paths_of c.in_ok-layer.next) (Some c.in-Some.below)
+  walked : WalksLayer (rules_of kind film) (search_data c.go_on.new.search) c.args.walk.may_spend c.args.walk.limit (paths_of c.in_ok-layer.next) (Some c.in-Some.below)
       (search_data c.walk_layer.new.search)
-  walked = subst (λ (layer : Option Layer). Walks (rules_of kind film) (search_data c.go_on.new.search) c.args.walk.may_spend c.args.walk.limit
+  walked = subst (λ (layer : Option Layer). WalksLayer (rules_of kind film) (search_data c.go_on.new.search) c.args.walk.may_spend c.args.walk.limit
       (paths_of c.in_ok-layer.next) layer (search_data c.walk_layer.new.search)) c.in-Some.is c.in_ok-walk_layer.ensures.walked
 
   gone : GoesOn (rules_of kind film) (search_data c.args.search.now) (c.args.left - 1) c.args.walk.limit (paths_of c.args.paths)
       c.in_ok-layer.layer.sets.keys c.in_ok-layer.layer.standings.items (paths_of c.in_ok-layer.next) (search_data c.go_on.new.search)
   gone = gone_of g t (goal.at.In-Some g t c).In_ok-layer
 
-  may : MayRaise (rules_of kind film) (search_data c.walk_layer.new.search) c.args.walk.limit (paths_of c.args.paths) c.in_ok-layer.layer.sets.keys
+  may : MayRaiseLayer (rules_of kind film) (search_data c.walk_layer.new.search) c.args.walk.limit (paths_of c.args.paths) c.in_ok-layer.layer.sets.keys
       c.in_ok-layer.layer.standings.items c.in-Some.below.sets.keys c.in-Some.below.standings.items
   may = may_raise (rules_of kind film) (search_data c.args.search.now) (search_data c.go_on.new.search) (search_data c.walk_layer.new.search) (c.args.left - 1)
       c.args.walk.limit (paths_of c.args.paths) c.in_ok-layer.layer.sets.keys c.in_ok-layer.layer.standings.items (paths_of c.in_ok-layer.next)
@@ -128,7 +128,7 @@ returns-in-None-clause-walked g t c =
     let rules : Rules = rules_of (g.A.Answers.kind c.args.answers.now) (g.A.Answers.film c.args.answers.now) in
     given_up rules (search_data c.args.search.now) (search_data c.go_on.new.search) (search_data c.walk_layer.new.search) c.args.walk.may_spend c.args.walk.limit
     (paths_of c.args.paths) (paths_of c.in_ok-layer.next) (gone_of g t (goal.at.returns-in-None-clause-walked g t c).In_ok-layer).extends
-    (subst (λ (layer : Option Layer). Walks rules (search_data c.go_on.new.search) c.args.walk.may_spend c.args.walk.limit (paths_of c.in_ok-layer.next) layer
+    (subst (λ (layer : Option Layer). WalksLayer rules (search_data c.go_on.new.search) c.args.walk.may_spend c.args.walk.limit (paths_of c.in_ok-layer.next) layer
     (search_data c.walk_layer.new.search)) c.in-None.is c.in_ok-walk_layer.ensures.walked)
 
 pub raise_layer-requires-clause-may : goal.raise_layer-requires-clause-may

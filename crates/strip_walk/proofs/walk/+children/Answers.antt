@@ -16,7 +16,7 @@ use Rattle.strip_rule.proofs.Open.{open_is}
 use Rattle.strip_hand.specs.Search.{SearchData, search_rules}
 use Rattle.strip_walk.specs.Found.{IsFound, MayExplore}
 use Rattle.strip_walk.specs.Walked.{Explores, Walks}
-use Rattle.strip_walk.specs.Begun.{Begins, IsFirst, IsThrough, Offers, shot}
+use Rattle.strip_walk.specs.Begun.{BeginsWalk, IsFirst, IsThrough, Offers, shot}
 use Rattle.strip_walk.specs.Sifted.{to_walk}
 use Rattle.strip_walk.specs.declared.found.Begun.{Begun}
 use Rattle.strip_walk.specs.declared.found.Begun.TheVariants.{Enlisted}
@@ -30,11 +30,11 @@ use Rattle.strip_walk.proofs.walk.+children.Goals as goal
 pub walk_on-loop-s-init : goal.walk_on-loop-s-init
 walk_on-loop-s-init g t c =
     let path : PathData = path_data c.args.running.now.path in
-    let begun : Begins (g.H.Hand.shows c.args.hand.now) (cursor_data c.args.cursor.now) path (Ok c.in_ok-found.field-0) (g.H.Hand.shows c.list.new.hand) (cursor_data c.list.new.cursor)
-    = subst (λ (p : PathData). Begins (g.H.Hand.shows c.args.hand.now) (cursor_data c.args.cursor.now) p (Ok c.in_ok-found.field-0) (g.H.Hand.shows c.list.new.hand) (cursor_data c.list.new.cursor))
+    let begun : BeginsWalk (g.H.Hand.shows c.args.hand.now) (cursor_data c.args.cursor.now) path (Ok c.in_ok-found.field-0) (g.H.Hand.shows c.list.new.hand) (cursor_data c.list.new.cursor)
+    = subst (λ (p : PathData). BeginsWalk (g.H.Hand.shows c.args.hand.now) (cursor_data c.args.cursor.now) p (Ok c.in_ok-found.field-0) (g.H.Hand.shows c.list.new.hand) (cursor_data c.list.new.cursor))
     c.path.ensures c.in_ok-found.ensures.begun in
-    let opened : Begins (g.H.Hand.shows c.args.hand.now) (cursor_data c.args.cursor.now) path (Ok (Enlisted c.in-Enlisted.opened)) (g.H.Hand.shows c.list.new.hand) (cursor_data c.list.new.cursor)
-    = subst (λ (b : Begun). Begins (g.H.Hand.shows c.args.hand.now) (cursor_data c.args.cursor.now) path (Ok b) (g.H.Hand.shows c.list.new.hand) (cursor_data c.list.new.cursor))
+    let opened : BeginsWalk (g.H.Hand.shows c.args.hand.now) (cursor_data c.args.cursor.now) path (Ok (Enlisted c.in-Enlisted.opened)) (g.H.Hand.shows c.list.new.hand) (cursor_data c.list.new.cursor)
+    = subst (λ (b : Begun). BeginsWalk (g.H.Hand.shows c.args.hand.now) (cursor_data c.args.cursor.now) path (Ok b) (g.H.Hand.shows c.list.new.hand) (cursor_data c.list.new.cursor))
     c.in-Enlisted.is begun in
     record {
       sound = c.in_ok-found.ensures.sound;
@@ -208,9 +208,9 @@ walk_on-close-requires-clause-may g t c =
     let settled : AreSettled (g.H.Hand.shows c.args.hand.now).search (g.H.Hand.shows c.loop-s.hand) (cursor_data c.loop-s.cursor) path 0 c.loop-s.sifted.least c.loop-s.spent
     = subst (λ (left : ℕ). AreSettled (g.H.Hand.shows c.args.hand.now).search (g.H.Hand.shows c.loop-s.hand) (cursor_data c.loop-s.cursor) path left c.loop-s.sifted.least c.loop-s.spent)
     (subst (TakesNext (turns_data c.loop-s.sifted.visit) (turns_data c.take_next.new.self)) c.in_default.is c.take_next.ensures) c.loop-s.invariant.settled in
-    let opened : Begins (g.H.Hand.shows c.args.hand.now) (cursor_data c.args.cursor.now) path (Ok (Enlisted c.in-Enlisted.opened)) (g.H.Hand.shows c.list.new.hand) (cursor_data c.list.new.cursor)
-    = subst (λ (b : Begun). Begins (g.H.Hand.shows c.args.hand.now) (cursor_data c.args.cursor.now) path (Ok b) (g.H.Hand.shows c.list.new.hand) (cursor_data c.list.new.cursor))
-    c.in-Enlisted.is (subst (λ (p : PathData). Begins (g.H.Hand.shows c.args.hand.now) (cursor_data c.args.cursor.now) p (Ok c.in_ok-found.field-0) (g.H.Hand.shows c.list.new.hand) (cursor_data c.list.new.cursor))
+    let opened : BeginsWalk (g.H.Hand.shows c.args.hand.now) (cursor_data c.args.cursor.now) path (Ok (Enlisted c.in-Enlisted.opened)) (g.H.Hand.shows c.list.new.hand) (cursor_data c.list.new.cursor)
+    = subst (λ (b : Begun). BeginsWalk (g.H.Hand.shows c.args.hand.now) (cursor_data c.args.cursor.now) path (Ok b) (g.H.Hand.shows c.list.new.hand) (cursor_data c.list.new.cursor))
+    c.in-Enlisted.is (subst (λ (p : PathData). BeginsWalk (g.H.Hand.shows c.args.hand.now) (cursor_data c.args.cursor.now) p (Ok c.in_ok-found.field-0) (g.H.Hand.shows c.list.new.hand) (cursor_data c.list.new.cursor))
     c.path.ensures c.in_ok-found.ensures.begun) in
     let static_is : c.in-Enlisted.opened.bound ≡ (search_rules (g.H.Hand.shows c.args.hand.now).search).bound path.rest
     = opened.1.static_bound ∙ ap (λ (of : SearchData). (search_rules of).bound path.rest) opened.0.search in
@@ -236,9 +236,9 @@ walk_on-returns-clause-explored g t c =
     let settled : AreSettled (g.H.Hand.shows c.args.hand.now).search (g.H.Hand.shows c.loop-s.hand) (cursor_data c.loop-s.cursor) path 0 c.loop-s.sifted.least c.loop-s.spent
     = subst (λ (left : ℕ). AreSettled (g.H.Hand.shows c.args.hand.now).search (g.H.Hand.shows c.loop-s.hand) (cursor_data c.loop-s.cursor) path left c.loop-s.sifted.least c.loop-s.spent)
     (subst (TakesNext (turns_data c.loop-s.sifted.visit) (turns_data c.take_next.new.self)) c.in_default.is c.take_next.ensures) c.loop-s.invariant.settled in
-    let opened : Begins (g.H.Hand.shows c.args.hand.now) (cursor_data c.args.cursor.now) path (Ok (Enlisted c.in-Enlisted.opened)) (g.H.Hand.shows c.list.new.hand) (cursor_data c.list.new.cursor)
-    = subst (λ (b : Begun). Begins (g.H.Hand.shows c.args.hand.now) (cursor_data c.args.cursor.now) path (Ok b) (g.H.Hand.shows c.list.new.hand) (cursor_data c.list.new.cursor))
-    c.in-Enlisted.is (subst (λ (p : PathData). Begins (g.H.Hand.shows c.args.hand.now) (cursor_data c.args.cursor.now) p (Ok c.in_ok-found.field-0) (g.H.Hand.shows c.list.new.hand) (cursor_data c.list.new.cursor))
+    let opened : BeginsWalk (g.H.Hand.shows c.args.hand.now) (cursor_data c.args.cursor.now) path (Ok (Enlisted c.in-Enlisted.opened)) (g.H.Hand.shows c.list.new.hand) (cursor_data c.list.new.cursor)
+    = subst (λ (b : Begun). BeginsWalk (g.H.Hand.shows c.args.hand.now) (cursor_data c.args.cursor.now) path (Ok b) (g.H.Hand.shows c.list.new.hand) (cursor_data c.list.new.cursor))
+    c.in-Enlisted.is (subst (λ (p : PathData). BeginsWalk (g.H.Hand.shows c.args.hand.now) (cursor_data c.args.cursor.now) p (Ok c.in_ok-found.field-0) (g.H.Hand.shows c.list.new.hand) (cursor_data c.list.new.cursor))
     c.path.ensures c.in_ok-found.ensures.begun) in
     let static_is : c.in-Enlisted.opened.bound ≡ (search_rules (g.H.Hand.shows c.args.hand.now).search).bound path.rest
     = opened.1.static_bound ∙ ap (λ (of : SearchData). (search_rules of).bound path.rest) opened.0.search in

@@ -2,7 +2,7 @@ use Rattle.std.proofs.Common.{length, ◌∙◌, ap, subst, sym}
 use Rattle.strip_mask.proofs.Below.{LiesBelow-full}
 use Rattle.strip_film.specs.Film.{LiesIn, all_scenes}
 use Rattle.strip_lines.specs.Lines.{rules_of}
-use Rattle.strip_world.proofs.Reached.{known-with, known-without}
+use Rattle.strip_lines.proofs.Reached.{known-with, known-without}
 use Rattle.strip_worker.proofs.ending.known_of_all.Goals as goal
 use Rattle.strip_worker.proofs.ending.known_of_all.Goals.{then-line-all, else-line-all}
 

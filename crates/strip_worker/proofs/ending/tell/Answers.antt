@@ -1,6 +1,6 @@
 use Rattle.std.proofs.Common.{rules, ◌∙◌, subst, sym, arith}
 use Rattle.strip_film.specs.Shown.{path_data}
-use Rattle.strip_worker.specs.Closed.{EndsFrom}
+use Rattle.strip_lines.specs.Ended.{EndsFrom}
 use Rattle.strip_worker.proofs.Closed.{tells}
 use Rattle.strip_worker.proofs.ending.tell.Goals as goal
 

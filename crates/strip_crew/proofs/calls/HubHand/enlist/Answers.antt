@@ -7,14 +7,14 @@ use Rattle.strip_hand.specs.Calls.{Enlists}
 use Rattle.strip_hand.specs.Hand.{HandData}
 use Rattle.strip_least.specs.Pass.{known as known_least}
 use Rattle.strip_book.specs.View.{ViewData, parts_of}
-use Rattle.strip_book.specs.Pass.{Enlists as BookEnlists, MayEnlist, known}
+use Rattle.strip_book.specs.Pass.{Enlists as BookEnlists, MayEnlistNext, known}
 use Rattle.strip_crew.specs.Hub.{hand_of}
 use Rattle.strip_crew.proofs.Acting.{lines_together, makes, may_enlist, search_still}
 use Rattle.strip_crew.proofs.calls.HubHand.enlist.Goals as goal
 
 pub enlist-listed-requires-clause-may : goal.enlist-listed-requires-clause-may
 enlist-listed-requires-clause-may g c =
-    subst (λ (task : ℕ). MayEnlist (known c.args.self.now.lines) task (path_data c.args.path.now) c.args.bound) (sym c.task.ensures)
+    subst (λ (task : ℕ). MayEnlistNext (known c.args.self.now.lines) task (path_data c.args.path.now) c.args.bound) (sym c.task.ensures)
     (may_enlist c.args.self.now.source (known_least c.args.self.now.told) (known c.args.self.now.lines) c.args.self.now.asked c.args.self.now.noted c.requires.sound.together
     (cursor_data c.args.cursor.now) (path_data c.args.path.now) c.args.bound c.requires.may)
 

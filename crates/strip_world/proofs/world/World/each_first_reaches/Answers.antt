@@ -11,7 +11,7 @@ use Rattle.strip_rule.proofs.Firsts.{first_there, firsts_set}
 use Rattle.strip_lines.specs.Lines.{known}
 use Rattle.strip_hand.specs.Search.{search_rules}
 use Rattle.strip_world.specs.World.{WorldData}
-use Rattle.strip_world.proofs.Reached.{each_more}
+use Rattle.strip_lines.proofs.Reached.{each_more}
 use Rattle.strip_world.proofs.world.World.each_first_reaches.Given.{Over}
 use Rattle.strip_world.proofs.world.World.each_first_reaches.Goals as goal
 use Rattle.strip_world.proofs.world.World.each_first_reaches.Goals.{After-saturating_sub, In-Some}

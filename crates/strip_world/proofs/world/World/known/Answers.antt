@@ -3,7 +3,7 @@ use Rattle.strip_film.specs.declared.shared.Line.{Line}
 use Rattle.strip_lines.specs.Lines.{line_at}
 use Rattle.strip_hand.specs.Search.{search_rules}
 use Rattle.strip_world.specs.World.{WorldData}
-use Rattle.strip_world.proofs.Reached.{known-with, known-without}
+use Rattle.strip_lines.proofs.Reached.{known-with, known-without}
 use Rattle.strip_world.proofs.world.World.known.Goals as goal
 use Rattle.strip_world.proofs.world.World.known.Goals.{then-line-set, else-line-set}
 

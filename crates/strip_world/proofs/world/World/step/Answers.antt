@@ -5,7 +5,7 @@ use Rattle.strip_film.proofs.Paths.{rest_lies}
 use Rattle.strip_world.specs.declared.event.Event.{Event}
 use Rattle.strip_world.specs.declared.event.Event.TheVariants.{Look, Offer, Claim, Enlist, Raise, Probe as Ask, Note}
 use Rattle.strip_world.specs.declared.event.Reply.TheVariants.{Least, Task, Listed as HasListed, Raised as HasRaised, Probed, Noted as HasNoted}
-use Rattle.strip_world.specs.Allowed.{IsAllowed, MayEnlist}
+use Rattle.strip_world.specs.Allowed.{IsAllowed, WorkerMayEnlist}
 use Rattle.strip_world.specs.World.{WorldData}
 use Rattle.strip_world.proofs.world.World.step.Goals as goal
 
@@ -16,7 +16,7 @@ pub bound-bound-requires-clause-lies : goal.bound-bound-requires-clause-lies
 bound-bound-requires-clause-lies g c =
     let world : WorldData = c.args.self.now in
     let path : PathData = path_data c.in-Enlist.path in
-    let may : MayEnlist world c.in-Enlist.who c.in-Enlist.task path = (subst (λ (e : Event). IsAllowed world e) c.in-Enlist.is c.requires.allowed).fitting in
+    let may : WorkerMayEnlist world c.in-Enlist.who c.in-Enlist.task path = (subst (λ (e : Event). IsAllowed world e) c.in-Enlist.is c.requires.allowed).fitting in
     rw c.rest.ensures (rest_lies world.search.film path may.is_open.0)
 
 pub returns-in-Look-clause-sound : goal.returns-in-Look-clause-sound
