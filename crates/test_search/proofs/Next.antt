@@ -21,7 +21,7 @@ use Rattle.strip_film.proofs.Lists.{AllOnce-from_ready, ready_there}
 use Rattle.strip_film.proofs.Orders.{kept_from_ready, ready_from_order}
 use Rattle.strip_film.proofs.Paths.{rest_lies}
 use Rattle.strip_film.proofs.StepSum.{steps_are_pay}
-use Rattle.strip_exhaustive.specs.Beginning.{BeginsWith, IsFirstCheapestFrom}
+use Rattle.test_search.specs.Beginning.{BeginsWith, IsFirstCheapestFrom}
 
 -- the scenes behind the first ones of a list, by what the first ones leave
 AreFirsts-behind : (firsts : ℕ → ℕ) (set : ℕ) (scenes later : List ℕ) → AreFirsts firsts set (scenes ++ later) → AreFirsts firsts (rest_after set scenes) later

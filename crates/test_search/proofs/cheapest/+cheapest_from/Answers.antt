@@ -10,9 +10,9 @@ use Rattle.strip_film.specs.Path.{IsPath, PathData}
 use Rattle.strip_film.specs.Shoot.{ready}
 use Rattle.strip_film.specs.Shown.{path_data}
 use Rattle.strip_film.proofs.Paths.{rest_lies, there}
-use Rattle.strip_exhaustive.specs.Beginning.{IsFirstCheapestFrom}
-use Rattle.strip_exhaustive.proofs.Search.{best_all, best_pay, best_tries, first_at_end, none_left, pay_at_end}
-use Rattle.strip_exhaustive.proofs.cheapest.+cheapest_from.Goals as goal
+use Rattle.test_search.specs.Beginning.{IsFirstCheapestFrom}
+use Rattle.test_search.proofs.Search.{best_all, best_pay, best_tries, first_at_end, none_left, pay_at_end}
+use Rattle.test_search.proofs.cheapest.+cheapest_from.Goals as goal
 
 pub ready-requires : goal.ready-requires
 ready-requires t c = rw c.rest.ensures (rest_lies c.args.film.now (path_data c.args.path.now) c.requires)
