@@ -35,23 +35,31 @@ module _ (film : FilmData) (path : PathData) (is : IsPath film path) where
       steps = paid;
     }
 
-  module _ (limits : IsFilm film) (s : ℕ) (is_ready : has (ready film path.rest) s ≡ true) where
+  module _ (limits : IsFilm film) where
     all_set : IsSet (all_scenes film)
     all_set = IsSet-full (length film.casts) limits.scene_count.1
 
-    pub there : has path.rest s ≡ true
-    there = ready_there film path.rest s is_ready
+    -- what remains is a set
+    pub rest_set : IsSet path.rest
+    rest_set = is_set_below (length film.casts) path.rest limits.scene_count.1 rest_lies
 
-    -- while a scene remains, fewer than 64 were shot
-    pub few_scenes : length path.scenes < 64
-    few_scenes =
-        let rest : IsSet path.rest = is_set_below (length film.casts) path.rest limits.scene_count.1 rest_lies in
-        let count : length path.scenes + size path.rest ≡ size (all_scenes film)
-        = ap (λ (q : ℕ). length path.scenes + size q) is.left ∙ size-rest_after (all_scenes film) path.scenes all_set (AllRemained-from_ready film (all_scenes film) path.scenes is.remained) in
-        omega (arith, count, size-le (all_scenes film), size-without path.rest s rest there)
+    module _ (s : ℕ) (is_ready : has (ready film path.rest) s ≡ true) where
+      pub there : has path.rest s ≡ true
+      there = ready_there film path.rest s is_ready
 
-    pub paid_limit : path.paid + step_cost film path.rest s ≤ MAX_DAY_SUM * most_a_day
-    paid_limit = omega (arith, (IsPath-extended s is_ready).steps, steps_limit film (all_scenes film) (path.scenes ++ s ∷ []) limits all_set (AllRemained-from_ready film (all_scenes film) (path.scenes ++ s ∷ []) (IsPath-extended s is_ready).remained))
+      -- with one scene more one fewer remains
+      pub one_fewer : size (without path.rest s) + 1 ≡ size path.rest
+      one_fewer = size-without path.rest s rest_set there
+
+      -- while a scene remains, fewer than 64 were shot
+      pub few_scenes : length path.scenes < 64
+      few_scenes =
+          let count : length path.scenes + size path.rest ≡ size (all_scenes film)
+          = ap (λ (q : ℕ). length path.scenes + size q) is.left ∙ size-rest_after (all_scenes film) path.scenes all_set (AllRemained-from_ready film (all_scenes film) path.scenes is.remained) in
+          omega (arith, count, size-le (all_scenes film), one_fewer)
+
+      pub paid_limit : path.paid + step_cost film path.rest s ≤ MAX_DAY_SUM * most_a_day
+      paid_limit = omega (arith, (IsPath-extended s is_ready).steps, steps_limit film (all_scenes film) (path.scenes ++ s ∷ []) limits all_set (AllRemained-from_ready film (all_scenes film) (path.scenes ++ s ∷ []) (IsPath-extended s is_ready).remained))
 
 -- an open path stays open with a ready scene that is one of the firsts
 pub IsOpen-extended : (rules : Rules) (path : PathData) (s : ℕ) → IsOpen rules path → has (ready rules.film path.rest) s ≡ true

@@ -19,7 +19,7 @@ use Rattle.strip_film.specs.Shoot.{behind, ready}
 use Rattle.strip_film.proofs.ByPairs.{some_ready}
 use Rattle.strip_film.proofs.Lists.{AllOnce-from_ready, ready_there}
 use Rattle.strip_film.proofs.Orders.{kept_from_ready, ready_from_order}
-use Rattle.strip_film.proofs.Paths.{rest_lies}
+use Rattle.strip_film.proofs.Paths.{rest_lies, rest_set}
 use Rattle.strip_film.proofs.StepSum.{steps_are_pay}
 use Rattle.test_search.specs.Beginning.{BeginsWith, IsFirstCheapestFrom}
 
@@ -30,7 +30,7 @@ AreFirsts-behind firsts set (s ∷ scenes) later are = AreFirsts-behind firsts (
 
 module _ (film : FilmData) (limits : IsFilm film) (path : PathData) (is : IsPath film path) where
   ready_set : IsSet (ready film path.rest)
-  ready_set = IsSet-minus path.rest (behind film.pairs path.rest) (is_set_below (length film.casts) path.rest limits.scene_count.1 (rest_lies film path is))
+  ready_set = IsSet-minus path.rest (behind film.pairs path.rest) (rest_set film path is limits)
 
   -- a ready scene is among the ready ones
   pub among_ready : (scene : ℕ) → has (ready film path.rest) scene ≡ true → Contains (members (ready film path.rest)) scene
@@ -40,7 +40,7 @@ module _ (film : FilmData) (limits : IsFilm film) (path : PathData) (is : IsPath
   pub nothing_remains : members (ready film path.rest) ≡ [] → path.rest ≡ 0
   nothing_remains none = elim (cases_eq path.rest 0) [
     | inl empty ↦ empty
-    | inr some ↦ absurd (let one = some_ready film path.rest limits (is_set_below (length film.casts) path.rest limits.scene_count.1 (rest_lies film path is)) some in
+    | inr some ↦ absurd (let one = some_ready film path.rest limits (rest_set film path is limits) some in
         contains_none one.0 (subst (λ (xs : List ℕ). Contains xs one.0) none (among_ready one.0 one.1)))
   ]
 

@@ -9,7 +9,7 @@ use Rattle.strip_film.specs.Film.{IsFilm}
 use Rattle.strip_film.specs.Path.{IsPath, PathData}
 use Rattle.strip_film.specs.Shoot.{ready}
 use Rattle.strip_film.specs.Shown.{path_data}
-use Rattle.strip_film.proofs.Paths.{rest_lies, there}
+use Rattle.strip_film.proofs.Paths.{rest_lies, there, one_fewer}
 use Rattle.test_search.specs.Beginning.{IsFirstCheapestFrom}
 use Rattle.test_search.proofs.Search.{best_all, best_pay, best_tries, first_at_end, none_left, pay_at_end}
 use Rattle.test_search.proofs.cheapest.+cheapest_from.Goals as goal
@@ -26,8 +26,7 @@ extend-requires-clause-ready t c =
 fewer : (film : FilmData) (limits : IsFilm film) (path longer : PathData) (scene : ℕ) → IsPath film path → has (ready film path.rest) scene ≡ true
     → longer.rest ≡ without path.rest scene → size longer.rest < size path.rest
 fewer film limits path longer scene is is_ready rest =
-    let set : IsSet path.rest = is_set_below (length film.casts) path.rest limits.scene_count.1 (rest_lies film path is) in
-    omega (arith, ap size rest, size-without path.rest scene set (there film path is limits scene is_ready))
+    omega (arith, ap size rest, one_fewer film path is limits scene is_ready)
 
 pub cheapest_from-requires : goal.cheapest_from-requires
 cheapest_from-requires t c =
