@@ -1,6 +1,7 @@
 -- What a sound world says is true, and its lines are few.
 use Rattle.std.proofs.Common.{◌≡◌, ℕ, ◌+◌, ◌<◌, ◌≤◌, eqb, length, count_by, Contains, All, sym, ap, ◌∙◌, subst, arith}
 use Rattle.std.proofs.lemmas.List.Elements.{All-contains}
+use Rattle.strip_hand.proofs.Apart.{tasks_apart}
 use Rattle.strip_model.specs.Pay.{IsOptimum}
 use Rattle.strip_film.specs.declared.shared.Known.{Known}
 use Rattle.strip_film.specs.declared.shared.Line.{Line}
@@ -54,15 +55,6 @@ module _ (world : WorldData) (sound : IsSound world) where
       omega (arith, most, complete.0.steps, sound.least.best)
 
 -- ---- counts
-
--- tasks of which different sets remain are along different scenes
-pub tasks_apart : (search : SearchData) → AreStarts search → AreTasks (depth_of search) search.tasks
-tasks_apart search starts = record {
-  long = starts.long;
-  apart = λ i j d rising within same.
-      starts.apart i j d rising within
-      ((starts.paths i d (omega (arith, rising, within))).left ∙ ap (rest_after (all_scenes search.film)) same ∙ sym (starts.paths j d within).left);
-}
 
 module _ (world : WorldData) (sound : IsSound world) where
   pub most_lines : length world.lines ≤ candidate_count (search_rules world.search) world.search.start
