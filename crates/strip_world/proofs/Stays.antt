@@ -2,7 +2,6 @@
 use Rattle.std.proofs.Common.{◌≡◌, ℕ, ◌<◌, ◌≤◌, true, List, length, sym, ap, ◌∙◌, subst, arith}
 use Rattle.std.proofs.lemmas.List.Elements.{All-weaker}
 use Rattle.strip_film.specs.declared.shared.Known.{Known}
-use Rattle.strip_film.specs.declared.shared.Line.{Line}
 use Rattle.strip_film.specs.Path.{IsPath}
 use Rattle.strip_lines.specs.Lines.{GrowTo}
 use Rattle.strip_lines.specs.Parts.{lies_in}

@@ -6,17 +6,16 @@ use Rattle.strip_model.specs.Pay.{IsOptimum}
 use Rattle.strip_film.specs.declared.shared.Known.{Known}
 use Rattle.strip_film.specs.declared.shared.Line.{Line}
 use Rattle.strip_film.specs.Film.{all_scenes}
-use Rattle.strip_film.specs.Finish.{EachOnce, IsAtMostFinish, IsFinish, rest_after, steps_cost}
+use Rattle.strip_film.specs.Finish.{EachOnce, IsAtMostFinish, IsFinish, steps_cost}
 use Rattle.strip_film.specs.Path.{PathData, IsComplete}
 use Rattle.strip_film.specs.Rules.{BeginLeast, BoundsFinish}
 use Rattle.strip_film.proofs.Optimum.{finish_from_optimum}
 use Rattle.strip_lines.specs.Lines.{line_at, no_line}
 use Rattle.strip_lines.proofs.Justified.{lines_are_true}
 use Rattle.strip_lines.specs.Paths.{candidate_count, leaving_count}
-use Rattle.strip_lines.specs.Parts.{AreTasks}
 use Rattle.strip_lines.proofs.Shares.{lines_few, lines_room, lines_ways}
 use Rattle.strip_table.specs.Stripe.{bucket_at}
-use Rattle.strip_hand.specs.Search.{AreStarts, SearchData, depth_of, search_rules}
+use Rattle.strip_hand.specs.Search.{depth_of, search_rules}
 use Rattle.strip_world.specs.World.{WorldData, no_worker, part_at, stripe_at, worker_at}
 use Rattle.strip_world.specs.Allowed.{MayEnlist}
 use Rattle.strip_hand.specs.Hand.{Knows}

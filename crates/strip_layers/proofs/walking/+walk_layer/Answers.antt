@@ -1,5 +1,5 @@
-use Rattle.std.proofs.Common.{◌≡◌, ◌-◌, ◌≤◌, ℕ, suc, Bool, List, Option, Some, false, not, true, ap, arith, get_or, refl, subst, sym}
-use Rattle.std.proofs.lemmas.Bool.{false≢true, not-true}
+use Rattle.std.proofs.Common.{◌-◌, ◌≤◌, ℕ, suc, List, Option, Some, ap, arith, get_or, subst, sym}
+use Rattle.std.proofs.lemmas.Bool.{not-true}
 use Rattle.strip_model.specs.declared.kind.Kind.{Kind}
 use Rattle.strip_model.specs.Film.{FilmData}
 use Rattle.strip_film.specs.Film.{IsFilm}

@@ -1,4 +1,4 @@
-use Rattle.std.proofs.Common.{◌≡◌, ◌∙◌, true, false, Result, Ok, Err, ap, arith, nat_eq, sym}
+use Rattle.std.proofs.Common.{◌≡◌, ◌∙◌, ap, arith, nat_eq, sym}
 use Rattle.indexmap.specs.IndexSet.{insert_key}
 use Rattle.strip_paths.proofs.Results.{on_ok}
 use Rattle.strip_layers.proofs.Sets.{sets, sets_pushed}
