@@ -1,10 +1,9 @@
 -- What follows a path in the orders that begin with it.
-use Rattle.std.proofs.Common.{◌≡◌, ℕ, true, false, List, [], ◌∷◌, ◌++◌, length, Contains, ◌⊎◌, inl, inr, sym, ap, ◌∙◌, subst, append_assoc}
+use Rattle.std.proofs.Common.{◌≡◌, ℕ, true, false, List, [], ◌∷◌, ◌++◌, Contains, ◌⊎◌, inl, inr, sym, ap, ◌∙◌, subst, append_assoc}
 use Rattle.std.proofs.Math.Nat.{le_of_eq}
 use Rattle.std.proofs.lemmas.Bool.{cases_eq}
 use Rattle.std.proofs.lemmas.List.{append-nil}
 use Rattle.strip_mask.specs.Set.{IsSet, has, members, without}
-use Rattle.strip_mask.proofs.Below.{is_set_below}
 use Rattle.strip_mask.proofs.ByMembers.{IsSet-minus, has-empty}
 use Rattle.strip_mask.proofs.Members.{Contains-members}
 use Rattle.strip_model.specs.Film.{FilmData}
@@ -19,7 +18,7 @@ use Rattle.strip_film.specs.Shoot.{behind, ready}
 use Rattle.strip_film.proofs.ByPairs.{some_ready}
 use Rattle.strip_film.proofs.Lists.{AllOnce-from_ready, ready_there}
 use Rattle.strip_film.proofs.Orders.{kept_from_ready, ready_from_order}
-use Rattle.strip_film.proofs.Paths.{rest_lies, rest_set}
+use Rattle.strip_film.proofs.Paths.{rest_set}
 use Rattle.strip_film.proofs.StepSum.{steps_are_pay}
 use Rattle.test_search.specs.Beginning.{BeginsWith, IsFirstCheapestFrom}
 

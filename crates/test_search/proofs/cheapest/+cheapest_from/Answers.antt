@@ -1,15 +1,13 @@
-use Rattle.std.proofs.Common.{◌≡◌, ℕ, ◌<◌, true, length, ap, subst, append_assoc, arith}
+use Rattle.std.proofs.Common.{◌≡◌, ℕ, ◌<◌, true, ap, subst, append_assoc, arith}
 use Rattle.strip_mask.specs.Iter.{rest_of}
-use Rattle.strip_mask.specs.Set.{IsSet, has, size, without}
-use Rattle.strip_mask.proofs.Below.{is_set_below}
-use Rattle.strip_mask.proofs.Sizes.{size-without}
+use Rattle.strip_mask.specs.Set.{has, size, without}
 use Rattle.strip_mask.proofs.Turns.{lesser_before, turn_member, turns_all}
 use Rattle.strip_model.specs.Film.{FilmData}
 use Rattle.strip_film.specs.Film.{IsFilm}
 use Rattle.strip_film.specs.Path.{IsPath, PathData}
 use Rattle.strip_film.specs.Shoot.{ready}
 use Rattle.strip_film.specs.Shown.{path_data}
-use Rattle.strip_film.proofs.Paths.{rest_lies, there, one_fewer}
+use Rattle.strip_film.proofs.Paths.{rest_lies, one_fewer}
 use Rattle.test_search.specs.Beginning.{IsFirstCheapestFrom}
 use Rattle.test_search.proofs.Search.{best_all, best_pay, best_tries, first_at_end, none_left, pay_at_end}
 use Rattle.test_search.proofs.cheapest.+cheapest_from.Goals as goal
