@@ -10,9 +10,9 @@ use Rattle.strip_mask.proofs.Below.{LiesBelow-full, LiesBelow-without}
 use Rattle.strip_model.specs.Film.{FilmData}
 use Rattle.strip_model.specs.Pay.{works}
 use Rattle.strip_film.specs.Film.{IsFilm, LiesIn, all_scenes}
-use Rattle.strip_film.specs.Shoot.{ready, step_cost, on_location}
+use Rattle.strip_film.specs.Shoot.{ready, on_location}
 use Rattle.strip_film.specs.Finish.{AreFirsts, Remained, rest_after, steps_cost}
-use Rattle.strip_film.specs.Path.{PathData, IsPath}
+use Rattle.strip_film.specs.Path.{PathData, IsPath, extended}
 use Rattle.strip_film.specs.Running.{RunningData, IsRunning, scenes_with}
 use Rattle.strip_film.proofs.Lists.{AllRemained, AllRemained-from_ready, ready_there, rest_after-append}
 use Rattle.strip_film.proofs.Casts.{cast_lies}
@@ -82,7 +82,7 @@ module _ (film : FilmData) (is : IsFilm film) (state : RunningData) (running : I
         → ((actor : ℕ) → slice_index done actor ≡ slice_index state.done actor + mark (works film actor s))
         → ((actor : ℕ) → has found actor ≡ (works film actor s && eqb (slice_index left actor) 0))
         → IsRunning film (record {
-          path = record { scenes = state.path.scenes ++ s ∷ []; rest = without state.path.rest s; paid = state.path.paid + step_cost film state.path.rest s };
+          path = extended film state.path s;
           done = done;
           left = left;
           on = minus (union state.on (slice_index film.casts s)) found;
@@ -92,7 +92,7 @@ module _ (film : FilmData) (is : IsFilm film) (state : RunningData) (running : I
         let left_is : (actor : ℕ) → actor < length film.rates → slice_index left actor ≡ scenes_with film (without state.path.rest s) actor
         = λ actor of_film. omega (arith, down actor, running.left actor of_film, left_moves film state.path.rest s is lies member actor) in
         record {
-          path = IsPath-extended film state.path running.path is s is_ready;
+          path = IsPath-extended film state.path running.path s is_ready;
           done = λ actor of_film. omega (arith, up actor, running.done actor of_film, done_moves film state.path.rest s is lies member actor);
           left = left_is;
           on = ap (λ (on : ℕ). minus (union on (slice_index film.casts s)) found) running.on

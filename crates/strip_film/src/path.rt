@@ -4,7 +4,7 @@ ghost use Rattle.strip_mask.specs.Set.{has, with, without};
 ghost use Rattle.strip_film.specs.declared.limits.TheConstants.{MAX_COUNT};
 ghost use Rattle.strip_film.specs.Film.{all_scenes};
 ghost use Rattle.strip_film.specs.Shoot.{ready, step_cost};
-ghost use Rattle.strip_film.specs.Path.{PathData, IsPath};
+ghost use Rattle.strip_film.specs.Path.{PathData, IsPath, extended};
 
 use crate::film::Film;
 use crate::limits::MAX_COUNT;
@@ -64,11 +64,7 @@ impl Path {
     pub fn extend(&self, film: &Film, s: u32) -> Path
         requires path { IsPath film.now (path_data self.now) }
         requires ready { has (ready film.now (path_data self.now).rest) s ≡ true }
-        ensures extended { path_data result ≡ record {
-          scenes = (path_data self.now).scenes ++ s ∷ [];
-          rest = without (path_data self.now).rest s;
-          paid = (path_data self.now).paid + step_cost film.now (path_data self.now).rest s;
-        } }
+        ensures extended { path_data result ≡ extended film.now (path_data self.now) s }
         ensures path { IsPath film.now (path_data result) }
     {
         film.keeps_limits();
@@ -80,11 +76,7 @@ impl Path {
         requires path { IsPath film.now (path_data self.now) }
         requires ready { has (ready film.now (path_data self.now).rest) s ≡ true }
         requires step { step ≡ step_cost film.now (path_data self.now).rest s }
-        ensures extended { path_data result ≡ record {
-          scenes = (path_data self.now).scenes ++ s ∷ [];
-          rest = without (path_data self.now).rest s;
-          paid = (path_data self.now).paid + step_cost film.now (path_data self.now).rest s;
-        } }
+        ensures extended { path_data result ≡ extended film.now (path_data self.now) s }
         ensures path { IsPath film.now (path_data result) }
     {
         film.keeps_limits();

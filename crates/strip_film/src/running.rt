@@ -4,7 +4,7 @@ ghost use Rattle.strip_mask.specs.Set.{LiesBelow, has, without};
 ghost use Rattle.strip_film.specs.declared.limits.TheConstants.{MAX_COUNT};
 ghost use Rattle.strip_film.specs.Film.{LiesIn, all_scenes};
 ghost use Rattle.strip_film.specs.Shoot.{ready, step_cost};
-ghost use Rattle.strip_film.specs.Path.{IsPath};
+ghost use Rattle.strip_film.specs.Path.{IsPath, extended};
 ghost use Rattle.strip_film.specs.Running.{IsRunning, scenes_with};
 ghost use Rattle.strip_film.specs.Shown.{path_data};
 
@@ -118,11 +118,7 @@ impl Running {
         requires running { IsRunning film.now (running_data self.old) }
         requires ready { has (ready film.now (running_data self.old).path.rest) s ≡ true }
         ensures running { IsRunning film.now (running_data self.new) }
-        ensures path { (running_data self.new).path ≡ record {
-          scenes = (running_data self.old).path.scenes ++ s ∷ [];
-          rest = without (running_data self.old).path.rest s;
-          paid = (running_data self.old).path.paid + step_cost film.now (running_data self.old).path.rest s;
-        } }
+        ensures path { (running_data self.new).path ≡ extended film.now (running_data self.old).path s }
     {
         film.keeps_limits();
         let step = self.step(film, s);
@@ -136,11 +132,7 @@ impl Running {
         requires ready { has (ready film.now (running_data self.old).path.rest) s ≡ true }
         requires step { step ≡ step_cost film.now (running_data self.old).path.rest s }
         ensures running { IsRunning film.now (running_data self.new) }
-        ensures path { (running_data self.new).path ≡ record {
-          scenes = (running_data self.old).path.scenes ++ s ∷ [];
-          rest = without (running_data self.old).path.rest s;
-          paid = (running_data self.old).path.paid + step_cost film.now (running_data self.old).path.rest s;
-        } }
+        ensures path { (running_data self.new).path ≡ extended film.now (running_data self.old).path s }
     {
         film.keeps_limits();
         let cast = Mask(film.casts()[s as usize]);

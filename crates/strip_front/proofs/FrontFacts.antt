@@ -9,7 +9,7 @@ use Rattle.strip_mask.specs.Set.{has, size, without}
 use Rattle.strip_model.specs.declared.kind.Kind.{Kind}
 use Rattle.strip_model.specs.Film.{FilmData}
 use Rattle.strip_film.specs.Film.{IsFilm, all_scenes}
-use Rattle.strip_film.specs.Path.{PathData}
+use Rattle.strip_film.specs.Path.{PathData, extended}
 use Rattle.strip_film.specs.Ranks.{IsEarlier}
 use Rattle.strip_film.specs.Rules.{IsOpen}
 use Rattle.strip_film.specs.Shoot.{step_cost}
@@ -18,7 +18,7 @@ use Rattle.strip_lines.specs.Lines.{rules_of}
 use Rattle.strip_lines.specs.Paths.{path_along}
 use Rattle.strip_hand.specs.Search.{SearchData, depth_of}
 use Rattle.strip_lines.specs.Parts.{no_task}
-use Rattle.strip_paths.proofs.After.{more_leaves, more_open, more_pays, one_more}
+use Rattle.strip_paths.proofs.After.{more_open}
 use Rattle.strip_paths.proofs.Rests.{others_permuted}
 use Rattle.strip_front.specs.Layers.{layer}
 use Rattle.strip_front.proofs.Facts.{LayerFacts}
@@ -102,7 +102,7 @@ module _ (kind : Kind) (film : FilmData) (front : FrontData) (is : IsFilm film) 
     path = path_at front place
 
     abbrev longer : PathData
-    longer = one_more film path scene
+    longer = extended film path scene
 
     long_by_one : length longer.scenes ≡ suc (length path.scenes)
     long_by_one = omega (arith, length_push path.scenes scene)
@@ -110,27 +110,21 @@ module _ (kind : Kind) (film : FilmData) (front : FrontData) (is : IsFilm film) 
     open_longer : IsOpen (rules_of kind film) longer
     open_longer = more_open kind film path scene (open_path place within) member
 
-    leaves : longer.rest ≡ without path.rest scene
-    leaves = more_leaves film path scene (open_path place within).0
-
-    pays : longer.paid ≡ path.paid + step_cost film path.rest scene
-    pays = more_pays film path scene (open_path place within).0
-
     goes_on : suc (length path.scenes) < front.depth → (other : ℕ) × IsPathAfter film front place scene other
     goes_on short =
         let found = shorter_least kind film front.depth layers front.paths front_of.paths longer open_longer (omega (arith, short, long_by_one)) in
         let at : get_or front.paths found.1.0 no_task ≡ found.0 = get_or_default front.paths found.1.0 no_task found.0 found.1.1 ∙ found.1.2 in
-        let rest : (path_at front found.1.0).rest ≡ without path.rest scene = ap (λ (p : PathData). p.rest) at ∙ found.2 ∙ leaves in (
+        let rest : (path_at front found.1.0).rest ≡ without path.rest scene = ap (λ (p : PathData). p.rest) at ∙ found.2 in (
           found.1.0,
           (
             found.1.1,
             rest,
-            omega (arith, ap (λ (p : PathData). p.paid) at, found.3, pays),
+            omega (arith, ap (λ (p : PathData). p.paid) at, found.3),
             omega (
               arith,
               counted film (path_at front found.1.0) is (open_path found.1.0 found.1.1).0,
               counted film longer is open_longer.0,
-              ap size (rest ∙ sym leaves),
+              ap size rest,
               long_by_one,
             ),
           ),
@@ -144,8 +138,8 @@ module _ (kind : Kind) (film : FilmData) (front : FrontData) (is : IsFilm film) 
           among.0,
           (
             among.1,
-            ap (λ (p : PathData). p.rest) at ∙ found.2 ∙ leaves,
-            omega (arith, ap (λ (p : PathData). p.paid) at, found.3, pays),
+            ap (λ (p : PathData). p.rest) at ∙ found.2,
+            omega (arith, ap (λ (p : PathData). p.paid) at, found.3),
             sym deep,
           ),
         )

@@ -15,11 +15,12 @@ use Rattle.strip_model.specs.Film.{FilmData}
 use Rattle.strip_model.proofs.Blocks.{All-from_contains}
 use Rattle.strip_model.proofs.Lists.{contains_here}
 use Rattle.strip_film.specs.Film.{IsFilm, LiesIn, all_scenes}
-use Rattle.strip_film.specs.Finish.{AreFirsts, rest_after}
-use Rattle.strip_film.specs.Path.{IsPath, PathData}
+use Rattle.strip_film.specs.Finish.{AreFirsts, rest_after, steps_cost}
+use Rattle.strip_film.specs.Path.{IsPath, PathData, extended}
 use Rattle.strip_film.specs.Rules.{IsOpen}
 use Rattle.strip_film.specs.Shoot.{ready, step_cost}
-use Rattle.strip_film.proofs.Lists.{AllRemained-from_ready, size-rest_after}
+use Rattle.strip_film.proofs.Lists.{AllRemained-from_ready, rest_after-append, size-rest_after, steps_cost-append}
+use Rattle.strip_film.proofs.Moves.{AreFirsts-split}
 use Rattle.strip_film.proofs.Paths.{rest_lies}
 use Rattle.strip_rule.specs.Rule.{open_firsts}
 use Rattle.strip_rule.proofs.Open.{open_begins_least}
@@ -29,7 +30,7 @@ use Rattle.strip_lines.specs.Paths.{path_along}
 use Rattle.strip_lines.specs.Parts.{no_task}
 use Rattle.strip_paths.specs.Paths.{paths_after}
 use Rattle.strip_paths.proofs.Added.{Differs, Pays, apart_of, each_of, more_of, pairs_of, pays_of}
-use Rattle.strip_paths.proofs.After.{each_after, more_leaves, more_open, more_pays, one_more, path_is}
+use Rattle.strip_paths.proofs.After.{each_after, more_open}
 use Rattle.strip_paths.proofs.Lists.{All-flat_map, Contains-flat_map, Contains-map}
 use Rattle.strip_front.specs.Layers.{layer}
 use Rattle.strip_front.proofs.Facts.{LayerFacts}
@@ -41,14 +42,6 @@ last_of : {X : Type 0} (x : X) (xs : List X) → (before : List X) × (last : X)
 last_of x [] = ([], x, refl)
 last_of x (y ∷ ys) = let later = last_of y ys in (x ∷ later.0, later.1, ap (λ zs. x ∷ zs) later.2)
 
--- what was among the firsts each in its turn, by the last one
-firsts_parts : (firsts : ℕ → ℕ) (set scene : ℕ) (scenes : List ℕ) → AreFirsts firsts set (scenes ++ scene ∷ [])
-    → AreFirsts firsts set scenes × (has (firsts (rest_after set scenes)) scene ≡ true)
-firsts_parts firsts set scene [] are = (tt, are.0)
-firsts_parts firsts set scene (other ∷ scenes) are =
-    let later = firsts_parts firsts (without set other) scene scenes are.1 in
-    ((are.0, later.0), later.1)
-
 -- ---- the paths of a layer
 
 module _ (kind : Kind) (film : FilmData) where
@@ -57,7 +50,7 @@ module _ (kind : Kind) (film : FilmData) where
 
   -- what holds of each path of a layer, by the path of the layer before that it goes on from
   each_later : (P : PathData → Type 0) (depth : ℕ)
-      → ((path : PathData) → Contains (layer film depth) path → (scene : ℕ) → has (open_firsts film path.rest) scene ≡ true → P (one_more film path scene))
+      → ((path : PathData) → Contains (layer film depth) path → (scene : ℕ) → has (open_firsts film path.rest) scene ≡ true → P (extended film path scene))
       → All P (layer film (suc depth))
   each_later P depth holds = each_of P [] (flat_map (paths_after film) (layer film depth)) (All-nil P)
       (All-flat_map P (paths_after film) (layer film depth)
@@ -88,7 +81,7 @@ module _ (kind : Kind) (film : FilmData) where
   few_after : (path : PathData) → length (paths_after film path) ≤ 64
   few_after path =
       let count : length (paths_after film path) ≡ size (open_firsts film path.rest)
-      = length-map (members (open_firsts film path.rest)) (one_more film path) ∙ length-members (open_firsts film path.rest) in
+      = length-map (members (open_firsts film path.rest)) (extended film path) ∙ length-members (open_firsts film path.rest) in
       omega (arith, count, size-le (open_firsts film path.rest))
 
   layer_few : (depth : ℕ) → length (layer film depth) ≤ 64 ^ depth
@@ -106,7 +99,7 @@ module _ (kind : Kind) (film : FilmData) where
   abbrev GoesOn : ℕ → PathData → Type 0
   GoesOn before path =
       (shorter : PathData) × Contains (layer film before) shorter × (scene : ℕ) × (has (open_firsts film shorter.rest) scene ≡ true)
-      × (path ≡ path_along film (shorter.scenes ++ scene ∷ []))
+      × (path ≡ extended film shorter scene)
 
   layer_goes_on : (before : ℕ) → All (GoesOn before) (layer film (suc before))
   layer_goes_on before = each_later (GoesOn before) before (λ path there scene member. (path, there, scene, member, refl))
@@ -119,12 +112,12 @@ module _ (kind : Kind) (film : FilmData) where
   module _ (is : IsFilm film) where
     -- a path that goes on from one of a layer has its like in the next one
     pays_after : (depth : ℕ) (path : PathData) (scene : ℕ) → Contains (layer film depth) path → has (open_firsts film path.rest) scene ≡ true
-        → Pays (layer film (suc depth)) (one_more film path scene).rest (one_more film path scene).paid
+        → Pays (layer film (suc depth)) (extended film path scene).rest (extended film path scene).paid
     pays_after depth path scene there member =
         let lies : LiesIn film path.rest = rest_lies film path (All-contains IsOne (layer film depth) path (layer_open depth) there).0 in
-        pays_of [] (flat_map (paths_after film) (layer film depth)) (one_more film path scene)
-        (Contains-flat_map (paths_after film) (layer film depth) path (one_more film path scene) there
-        (Contains-map (one_more film path) (members (open_firsts film path.rest)) scene
+        pays_of [] (flat_map (paths_after film) (layer film depth)) (extended film path scene)
+        (Contains-flat_map (paths_after film) (layer film depth) path (extended film path scene) there
+        (Contains-map (extended film path) (members (open_firsts film path.rest)) scene
         (Contains-members (open_firsts film path.rest) scene (firsts_set film path.rest is lies) member)))
 
     -- while a path is shorter than the film something remains
@@ -166,23 +159,21 @@ module _ (kind : Kind) (film : FilmData) where
             → Pays (layer film (suc depth)) path.rest path.paid
         by_last scenes last are shorter =
             let before : PathData = path_along film scenes in
-            let firsts = firsts_parts (open_firsts film) (all_scenes film) last scenes (subst (AreFirsts (open_firsts film) (all_scenes film)) are is_open.1) in
-            let readies = firsts_parts (ready film) (all_scenes film) last scenes (subst (AreFirsts (ready film) (all_scenes film)) are is_open.0.remained) in
+            let firsts = AreFirsts-split (open_firsts film) (all_scenes film) last scenes (subst (AreFirsts (open_firsts film) (all_scenes film)) are is_open.1) in
+            let readies = AreFirsts-split (ready film) (all_scenes film) last scenes (subst (AreFirsts (ready film) (all_scenes film)) are is_open.0.remained) in
             let before_open : IsOne before = (record { remained = readies.0; left = refl; steps = refl }, firsts.0) in
             let found = shorter before before_open (omega (arith, long, ap length are, length_push scenes last)) in
             let other : PathData = found.0 in
-            let other_path : IsPath film other = (All-contains IsOne (layer film depth) other (layer_open depth) found.1).0 in
             let pays = pays_after depth other last found.1 (subst (λ (q : ℕ). has (open_firsts film q) last ≡ true) (sym found.2) firsts.1) in
-            let whole : path ≡ one_more film before last = path_is film path is_open.0 ∙ ap (path_along film) are in
-            let same : (one_more film other last).rest ≡ path.rest
-            = more_leaves film other last other_path ∙ ap (λ (q : ℕ). without q last) found.2 ∙ sym (more_leaves film before last before_open.0)
-            ∙ ap (λ (p : PathData). p.rest) (sym whole) in
-            let step : step_cost film other.rest last ≡ step_cost film before.rest last = ap (λ (q : ℕ). step_cost film q last) found.2 in
-            let paid : path.paid ≡ before.paid + step_cost film before.rest last = ap (λ (p : PathData). p.paid) whole ∙ more_pays film before last before_open.0 in (
+            let left : path.rest ≡ without before.rest last
+            = is_open.0.left ∙ ap (rest_after (all_scenes film)) are ∙ rest_after-append (all_scenes film) last scenes in
+            let paid : path.paid ≡ before.paid + step_cost film before.rest last
+            = is_open.0.steps ∙ ap (steps_cost film (all_scenes film)) are ∙ steps_cost-append film (all_scenes film) last scenes in
+            let step : step_cost film other.rest last ≡ step_cost film before.rest last = ap (λ (q : ℕ). step_cost film q last) found.2 in (
               pays.0,
               pays.1,
-              pays.2 ∙ same,
-              omega (arith, pays.3, more_pays film other last other_path, step, paid, found.3),
+              pays.2 ∙ ap (λ (q : ℕ). without q last) found.2 ∙ sym left,
+              omega (arith, pays.3, step, paid, found.3),
             )
 
         by_scenes : (scenes : List ℕ) → path.scenes ≡ scenes

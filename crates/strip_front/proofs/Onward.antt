@@ -11,12 +11,11 @@ use Rattle.strip_mask.proofs.ByMembers.{empty_has, has_from_without, has-without
 use Rattle.strip_mask.proofs.Lists.{contains_here, contains_later, contains_none}
 use Rattle.strip_film.specs.Film.{all_scenes}
 use Rattle.strip_film.specs.Finish.{rest_after}
-use Rattle.strip_film.specs.Path.{PathData}
+use Rattle.strip_film.specs.Path.{PathData, extended}
 use Rattle.strip_film.specs.Ranks.{IsEarlier, IsSooner}
 use Rattle.strip_film.specs.Rules.{Rules, rank}
 use Rattle.strip_film.specs.Turns.{GoBy, TakesNext, TurnsData}
 use Rattle.strip_film.proofs.Ranks.{earlier_longer, earlier_parted, earlier_trans}
-use Rattle.strip_lines.specs.Paths.{path_along}
 use Rattle.strip_front.specs.Onward.{AreOnward, GoesOn}
 
 -- ---- lists
@@ -69,16 +68,12 @@ module _ (rules : Rules) where
   -- ---- the paths that go on from one
 
   module _ (layer : List PathData) (shorter : PathData) where
-    -- the path with this scene more
-    abbrev pub longer : ℕ → PathData
-    longer scene = path_along rules.film (shorter.scenes ++ scene ∷ [])
-
     -- these go on from the path, with the scenes that have had their turn, and come before those with the others
     pub record AreFound (left : ℕ) (found : List PathData) : Type 0 where
       pub each : (path : PathData) → Contains found path → GoesOn rules layer shorter path
-      pub all : (path : PathData) → GoesOn rules layer shorter path → Contains found path ⊎ ((scene : ℕ) × (has left scene ≡ true) × (path ≡ longer scene))
+      pub all : (path : PathData) → GoesOn rules layer shorter path → Contains found path ⊎ ((scene : ℕ) × (has left scene ≡ true) × (path ≡ extended rules.film shorter scene))
       pub rise : AllPairs Earlier found
-      pub before : (path : PathData) (scene : ℕ) → Contains found path → has left scene ≡ true → Earlier path (longer scene)
+      pub before : (path : PathData) (scene : ℕ) → Contains found path → has left scene ≡ true → Earlier path (extended rules.film shorter scene)
 
     pub found_none : AreFound (rules.firsts shorter.rest) []
     found_none = record {
@@ -131,13 +126,13 @@ module _ (rules : Rules) where
       }
 
       -- a scene whose path isn't one of the layer
-      pub found_past : (Contains layer (longer scene) → ⊥) → AreFound next.left found
+      pub found_past : (Contains layer (extended rules.film shorter scene) → ⊥) → AreFound next.left found
       found_past none = record {
         each = are.each;
         all = λ path on. elim (are.all path on) [
           | inl there ↦ inl there
           | inr (other, waits, is) ↦ elim (eqb_tells scene other) [
-            | inl same ↦ absurd (none (subst (Contains layer) (is ∙ ap longer (sym same.1)) on.among))
+            | inl same ↦ absurd (none (subst (Contains layer) (is ∙ ap (extended rules.film shorter) (sym same.1)) on.among))
             | inr apart ↦ inr (other, still other apart.1 waits, is)
           ]
         ];
@@ -146,25 +141,25 @@ module _ (rules : Rules) where
       }
 
       -- one whose path is
-      pub found_one : shorter.rest ≡ rest_after (all_scenes rules.film) shorter.scenes → Contains layer (longer scene)
-          → AreFound next.left (found ++ longer scene ∷ [])
+      pub found_one : shorter.rest ≡ rest_after (all_scenes rules.film) shorter.scenes → Contains layer (extended rules.film shorter scene)
+          → AreFound next.left (found ++ extended rules.film shorter scene ∷ [])
       found_one left some = record {
-        each = λ path there. elim (Contains-push_cases found (longer scene) path there) [
+        each = λ path there. elim (Contains-push_cases found (extended rules.film shorter scene) path there) [
           | inl earlier ↦ are.each path earlier
           | inr same ↦ subst (GoesOn rules layer shorter) same (record { among = some; by_first = (scene, wait.among scene takes.0.waits, refl) })
         ];
         all = λ path on. elim (are.all path on) [
-          | inl there ↦ inl (Contains-append_left found (longer scene ∷ []) path there)
+          | inl there ↦ inl (Contains-append_left found (extended rules.film shorter scene ∷ []) path there)
           | inr (other, waits, is) ↦ elim (eqb_tells scene other) [
-            | inl same ↦ inl (subst (Contains (found ++ longer scene ∷ [])) (ap longer same.1 ∙ sym is) (Contains-push found (longer scene)))
+            | inl same ↦ inl (subst (Contains (found ++ extended rules.film shorter scene ∷ [])) (ap (extended rules.film shorter) same.1 ∙ sym is) (Contains-push found (extended rules.film shorter scene)))
             | inr apart ↦ inr (other, still other apart.1 waits, is)
           ]
         ];
-        rise = all_pairs_push Earlier found (longer scene) are.rise
+        rise = all_pairs_push Earlier found (extended rules.film shorter scene) are.rise
             (λ k d within. are.before (get_or found k d) scene (Contains-get_or found k d within) takes.0.waits);
-        before = λ path other there waits. elim (Contains-push_cases found (longer scene) path there) [
+        before = λ path other there waits. elim (Contains-push_cases found (extended rules.film shorter scene) path there) [
           | inl earlier ↦ are.before path other earlier (waited other waits).1
-          | inr same ↦ subst (λ (p : PathData). Earlier p (longer other)) same
+          | inr same ↦ subst (λ (p : PathData). Earlier p (extended rules.film shorter other)) same
               (earlier_parted rules (all_scenes rules.film) shorter.scenes scene [] other [] (sooner other waits))
         ];
       }

@@ -3,6 +3,7 @@ use Rattle.std.proofs.Common.{◌≡◌, ◌≢◌, ℕ, zero, suc, ◌+◌, ◌
 use Rattle.std.specs.Option.{is_some, unwrap_or}
 use Rattle.std.proofs.lemmas.Bool.{cases_eq, lt-ltb}
 use Rattle.std.proofs.lemmas.List.{get_or-map}
+use Rattle.std.proofs.Math.Bool.{or-false, or-true}
 use Rattle.strip_film.specs.declared.path.Path.{Path}
 use Rattle.strip_film.specs.declared.shared.Line.{Line as TheLine}
 use Rattle.strip_film.specs.Film.{all_scenes}
@@ -22,14 +23,6 @@ use Rattle.strip_front.specs.Front.{FrontData, line_of, path_at, root_of}
 use Rattle.strip_front.specs.Tried.{AreTried, IsEnlisted, MayTry, Tries, has_spent, line_from, reach}
 use Rattle.strip_front.proofs.FrontFacts.{FrontFacts}
 use Rattle.strip_front.proofs.Grown.{line_grows}
-
-or_false : (b : Bool) → (b || false) ≡ b
-or_false true = refl
-or_false false = refl
-
-or_true : (b : Bool) → (b || true) ≡ true
-or_true true = refl
-or_true false = refl
 
 same_line : (o : Option ℕ) (a b : ℕ) → o ≡ Some a → o ≡ Some b → a ≡ b
 same_line o a b one two = ap (λ (x : Option ℕ). unwrap_or x 0) (sym one ∙ two)
@@ -178,9 +171,9 @@ module _ (before : HandData) (cursor : CursorData) (after : HandData) (cursor_af
   -- whatever came of it
   pub tried_more : (t : Tried) → Tries before cursor (path_at front place) (Ok t) after cursor_after → slice_index_or lines place None ≡ line_from t → 0 < place → IsHand after
       → MayTry before.search cursor (path_at front place) → AreTried after cursor_after new (suc place) (spent || has_spent t)
-  tried_more Passed tries here some is may = subst (AreTried after cursor_after new (suc place)) (sym (or_false spent)) (passed here tries)
-  tried_more Spent tries here some is may = subst (AreTried after cursor_after new (suc place)) (sym (or_true spent)) (spent_here here is may tries)
-  tried_more (Line line) tries here some is may = subst (AreTried after cursor_after new (suc place)) (sym (or_false spent)) (enlisted line is some here tries)
+  tried_more Passed tries here some is may = subst (AreTried after cursor_after new (suc place)) (sym (or-false spent)) (passed here tries)
+  tried_more Spent tries here some is may = subst (AreTried after cursor_after new (suc place)) (sym (or-true spent)) (spent_here here is may tries)
+  tried_more (Line line) tries here some is may = subst (AreTried after cursor_after new (suc place)) (sym (or-false spent)) (enlisted line is some here tries)
 
 -- by the count that a loop has
 pub tried_at : (hand : HandData) (cursor : CursorData) (front : FrontData) (place : ℕ) (spent short cut : Bool) → short ≡ cut

@@ -1,9 +1,10 @@
 -- What the scenes of an arranged instance pay in the order of their numbers.
-use Rattle.std.proofs.Common.{◌≡◌, ℕ, ◌<◌, ◌*◌, ◌||◌, Bool, true, false, cond, List, [], ◌∷◌, length, get_or, map, All, slice_index, sum_by, refl, sym, subst, ap, ◌∙◌, arith}
+use Rattle.std.proofs.Common.{◌≡◌, ℕ, ◌<◌, ◌*◌, ◌||◌, Bool, true, false, cond, List, [], ◌∷◌, length, get_or, map, All, slice_index, sum_by, refl, sym, ap, ◌∙◌, arith}
 use Rattle.std.specs.List.{list_any}
 use Rattle.std.proofs.lemmas.List.{ext_get_or, get_or_default, get_or-map, length-map}
-use Rattle.std.proofs.lemmas.List.Elements.{All-cons, All-head, All-nil, All-tail}
+use Rattle.std.proofs.lemmas.List.Elements.{All-head, All-tail}
 use Rattle.std.proofs.lemmas.List.Sums.{sum_by-cons}
+use Rattle.strip_model.proofs.Blocks.{All-to_last}
 use Rattle.strip_mask.specs.Set.{has, numbers_below}
 use Rattle.strip_mask.proofs.Members.{length-numbers_below, number_at}
 use Rattle.strip_mask.proofs.Sums.{sum_below-ext}
@@ -50,14 +51,6 @@ module _ (put : ℕ → ℕ) (p q : ℕ → Bool) where
         | false ↦ refl
       ]
       ∙ ap (map put) (sym (to_last-cons q x xs))
-
-all_to_last : (p : ℕ → Bool) (P : ℕ → Type 0) (xs : List ℕ) → All P xs → All P (to_last p xs)
-all_to_last p P [] all = All-nil P
-all_to_last p P (x ∷ xs) all =
-    subst (All P) (sym (to_last-cons p x xs)) (elim (p x || list_any p xs) as (λ b. All P (cond b (x ∷ to_last p xs) [])) [
-      | true ↦ All-cons P x (to_last p xs) (All-head P x xs all) (all_to_last p P xs (All-tail P x xs all))
-      | false ↦ All-nil P
-    ])
 
 sum_by-map : (put f h : ℕ → ℕ) (xs : List ℕ) → All (λ x. h x ≡ f (put x)) xs → sum_by f (map put xs) ≡ sum_by h xs
 sum_by-map put f h [] same = refl
@@ -128,7 +121,7 @@ module _ (inst : InstanceData) (order : List ℕ) where
         let from_within : All Inside from = All-from_first q Inside own own_within in
         let from_agree : All (λ place. q place ≡ p (scene_at place)) from = λ k d within. works-at actor (get_or from k d) (from_within k d within) in
         let part = to_last q from in
-        let part_within : All Inside part = all_to_last q Inside from from_within in
+        let part_within : All Inside part = All-to_last q Inside from from_within in
         sym (ap (λ (list : List ℕ). sum_by (day_pay film actor) (to_last p (from_first p list))) order_is
         ∙ ap (λ (list : List ℕ). sum_by (day_pay film actor) (to_last p list)) (from_first-map scene_at p q own agree)
         ∙ ap (sum_by (day_pay film actor)) (to_last-map scene_at p q from from_agree)

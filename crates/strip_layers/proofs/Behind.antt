@@ -5,13 +5,13 @@ use Rattle.std.specs.Option.{is_some}
 use Rattle.std.proofs.Math.Seq.{take-append_seam}
 use Rattle.std.proofs.lemmas.List.Elements.{All-cons, All-contains, All-nil}
 use Rattle.strip_mask.specs.Set.{has, size, without}
-use Rattle.strip_mask.proofs.Below.{is_set_below, size-full}
+use Rattle.strip_mask.proofs.Below.{size-full}
 use Rattle.strip_mask.proofs.Sizes.{empty_from_size}
 use Rattle.strip_model.specs.declared.kind.Kind.{Kind}
 use Rattle.strip_model.specs.Film.{FilmData}
 use Rattle.strip_film.specs.Film.{IsFilm, all_scenes}
 use Rattle.strip_film.specs.Path.{IsComplete, PathData}
-use Rattle.strip_film.proofs.Paths.{rest_lies}
+use Rattle.strip_film.proofs.Paths.{rest_set}
 use Rattle.strip_film.specs.Rules.{IsOpen, Rules}
 use Rattle.strip_film.specs.Shoot.{step_cost}
 use Rattle.strip_lines.specs.Lines.{rules_of}
@@ -69,7 +69,7 @@ all_complete kind film left paths is_film none level place d within =
     let path : PathData = get_or paths place d in
     let along = (level.is_open place d within).0 in (
       along,
-      empty_from_size path.rest (is_set_below (length film.casts) path.rest is_film.scene_count.1 (rest_lies film path along))
+      empty_from_size path.rest (rest_set film path along is_film)
           (level.sizes place d within ∙ none),
     )
 

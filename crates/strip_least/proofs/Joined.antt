@@ -1,7 +1,7 @@
 -- A pass takes in another.
-use Rattle.std.proofs.Common.{◌≡◌, ◌≢◌, ℕ, ◌<◌, ◌≤◌, Bool, true, false, ◌||◌, List, [], set, inl, inr, refl, sym, ap, ◌∙◌, arith}
+use Rattle.std.proofs.Common.{◌≡◌, ◌≢◌, ℕ, ◌<◌, ◌≤◌, List, [], set, inl, inr, refl, sym, ap, ◌∙◌, arith}
 use Rattle.std.specs.Prelude.{⊤}
-use Rattle.std.proofs.lemmas.Bool.{cases_eq}
+use Rattle.std.proofs.lemmas.Bool.{cases_eq, or_cases}
 use mathlib.Core.Option.{some, some-injective}
 use lib.ListN.{get_elem?}
 use Rattle.atomic_table.specs.Table.{Joins}
@@ -38,10 +38,6 @@ best_joined views least id other me w at there apart heavy mine theirs was =
       ]
     ]
 
-one_ended : (a b : Bool) (P : Type 0) → (a || b) ≡ true → (a ≡ true → P) → (b ≡ true → P) → P
-one_ended true b P is first second = first refl
-one_ended false b P is first second = second is
-
 fits_joined : (course : Course) (least next : ℕ) (me w : View) → Fits course least next me → Fits course least next w → Fits course least next (joined me w)
 fits_joined course least next me w mine theirs = record {
   film = mine.film;
@@ -50,7 +46,10 @@ fits_joined course least next me w mine theirs = record {
   told = omega (arith, mine.told, theirs.told);
   no_dearer = omega (arith, mine.no_dearer);
   best = omega (arith, mine.best, theirs.best);
-  ended = λ is. one_ended me.ended w.ended (course.parts ≤ next) is mine.ended theirs.ended;
+  ended = λ is. elim (or_cases me.ended w.ended is) [
+    | inl one ↦ mine.ended one
+    | inr other ↦ theirs.ended other
+  ];
 }
 
 pub joins : (course : Course) (id : ℕ) (me : View) (other : ℕ) (w : View) → 0 < me.weight → 0 < w.weight

@@ -1,5 +1,5 @@
 -- Lists of views, and what a number of each view adds up to.
-use Rattle.std.proofs.Common.{◌≡◌, ◌≢◌, ℕ, zero, suc, ◌+◌, ◌-◌, ◌<◌, ◌≤◌, Bool, true, false, ◌||◌, cond, List, [], ◌∷◌, ◌++◌, set, inl, inr, refl, sym, ap, ◌∙◌, subst, arith}
+use Rattle.std.proofs.Common.{◌≡◌, ◌≢◌, ℕ, zero, suc, ◌+◌, ◌-◌, ◌<◌, ◌≤◌, true, false, ◌||◌, cond, List, [], ◌∷◌, ◌++◌, set, inl, inr, refl, sym, ap, ◌∙◌, subst, arith}
 use Rattle.std.proofs.lemmas.Bool.{cases_eq, cond-true, cond-false}
 use mathlib.Core.Option.{some, some-ne-none, some-injective}
 use lib.ListN.{get_elem?}
@@ -54,15 +54,14 @@ total-two f (x ∷ xs) zero (suc j) v w apart at there = (let same : f x ≡ f v
 total-two f (x ∷ xs) (suc i) zero v w apart at there = (let same : f x ≡ f w = ap f (some-injective x w there) in let rest = total-one f xs i v at in omega (arith, same, rest))
 total-two f (x ∷ xs) (suc i) (suc j) v w apart at there = (let rest = total-two f xs i j v w (λ same. apart (ap suc same)) at there in omega (arith, rest))
 
-pub by_bool : (b : Bool) (P : Bool → Type 0) → P true → P false → P b
-by_bool true P yes_ no_ = yes_
-by_bool false P yes_ no_ = no_
-
 -- the weight of those who have ended is part of the weight
 pub ended_weight-most : (views : List View) → total ended_weight views ≤ total weight_of views
 ended_weight-most [] = omega arith
 ended_weight-most (view ∷ views) = (let rest = ended_weight-most views in
-    let one : ended_weight view ≤ view.weight = by_bool view.ended (λ b. cond {A = ℕ} b view.weight 0 ≤ view.weight) (omega arith) (omega arith) in omega (arith, rest, one))
+    let one : ended_weight view ≤ view.weight = elim view.ended as (λ b. cond {A = ℕ} b view.weight 0 ≤ view.weight) [
+      | true ↦ omega arith
+      | false ↦ omega arith
+    ] in omega (arith, rest, one))
 
 -- ---- a view with all the weight
 
@@ -123,15 +122,24 @@ pub ended_weight-all : (view : View) → view.ended ≡ true → ended_weight vi
 ended_weight-all view ended = cond-true view.ended view.weight 0 ended
 
 pub ended_weight-spent : (view : View) → view.weight ≡ 0 → ended_weight view ≡ 0
-ended_weight-spent view spent = by_bool view.ended (λ b. cond {A = ℕ} b view.weight 0 ≡ 0) spent refl
+ended_weight-spent view spent = elim view.ended as (λ b. cond {A = ℕ} b view.weight 0 ≡ 0) [ true ↦ spent | false ↦ refl ]
 
 pub ended_weight-parted : (view : View) → 0 < view.weight → ended_weight (lightened view) + ended_weight (split_off view) ≡ ended_weight view
 ended_weight-parted view heavy =
-    by_bool view.ended (λ b. cond {A = ℕ} b (view.weight - 1) 0 + cond {A = ℕ} b 1 0 ≡ cond {A = ℕ} b view.weight 0) (omega (arith, heavy)) (omega arith)
+    elim view.ended as (λ b. cond {A = ℕ} b (view.weight - 1) 0 + cond {A = ℕ} b 1 0 ≡ cond {A = ℕ} b view.weight 0) [
+      | true ↦ omega (arith, heavy)
+      | false ↦ omega arith
+    ]
 
 pub ended_weight-joined : (view other : View) → ended_weight view + ended_weight other ≤ ended_weight (joined view other)
 ended_weight-joined view other =
-    by_bool view.ended
-    (λ a. cond {A = ℕ} a view.weight 0 + cond {A = ℕ} other.ended other.weight 0 ≤ cond {A = ℕ} (a || other.ended) (view.weight + other.weight) 0)
-    (by_bool other.ended (λ b. view.weight + cond {A = ℕ} b other.weight 0 ≤ view.weight + other.weight) (omega arith) (omega arith))
-    (by_bool other.ended (λ b. 0 + cond {A = ℕ} b other.weight 0 ≤ cond {A = ℕ} b (view.weight + other.weight) 0) (omega arith) (omega arith))
+    elim view.ended as (λ a. cond {A = ℕ} a view.weight 0 + cond {A = ℕ} other.ended other.weight 0 ≤ cond {A = ℕ} (a || other.ended) (view.weight + other.weight) 0) [
+      | true ↦ elim other.ended as (λ b. view.weight + cond {A = ℕ} b other.weight 0 ≤ view.weight + other.weight) [
+        | true ↦ omega arith
+        | false ↦ omega arith
+      ]
+      | false ↦ elim other.ended as (λ b. 0 + cond {A = ℕ} b other.weight 0 ≤ cond {A = ℕ} b (view.weight + other.weight) 0) [
+        | true ↦ omega arith
+        | false ↦ omega arith
+      ]
+    ]

@@ -29,12 +29,12 @@ stands_second a b (x ∷ xs) (inr later) = contains_later x xs b (stands_second 
 
 -- ---- in a list that has no number twice
 
-once_behind : (x y : ℕ) (ys : List ℕ) → ((i : ℕ) → count i (x ∷ ys) ≤ 1) → x ≡ y → Contains ys y → ⊥
+pub once_behind : (x y : ℕ) (ys : List ℕ) → ((i : ℕ) → count i (x ∷ ys) ≤ 1) → x ≡ y → Contains ys y → ⊥
 once_behind x y ys once same there =
     let tied : tie x y ≡ 1 = subst (λ (i : ℕ). tie x i ≡ 1) same (tie-same x) in
     omega (arith, once y, count-cons y x ys, counted_contains y ys there)
 
-once-tail : (x : ℕ) (xs : List ℕ) → ((i : ℕ) → count i (x ∷ xs) ≤ 1) → (i : ℕ) → count i xs ≤ 1
+pub once-tail : (x : ℕ) (xs : List ℕ) → ((i : ℕ) → count i (x ∷ xs) ≤ 1) → (i : ℕ) → count i xs ≤ 1
 once-tail x xs once i = omega (arith, once i, count-cons i x xs)
 
 stands_trans : (a b c : ℕ) (xs : List ℕ) → ((i : ℕ) → count i xs ≤ 1) → StandsBefore a b xs → StandsBefore b c xs → StandsBefore a c xs
@@ -56,13 +56,14 @@ chain_stands pairs order scene (next ∷ between) last once keeps chain =
     stands_trans scene next last order once (All-contains (KeepsPair order) pairs (record { first = scene; then = next }) keeps chain.0)
     (chain_stands pairs order next between last once keeps chain.1)
 
+-- in an order no number stands twice
+pub once_each : (n : ℕ) (order : List ℕ) → IsOrder n order → (i : ℕ) → count i order ≤ 1
+once_each n order is i = elim (cases_lt i n) [
+  | inl lt ↦ omega (arith, is.once i lt)
+  | inr past ↦ omega (arith, count-none n i order is.known past)
+]
+
 -- no order keeps pairs that come back to a scene
 pub cycle_not_kept : (n : ℕ) (pairs : List Pair) (order : List ℕ) → IsOrder n order → Keeps pairs order → HasCycle pairs → ⊥
 cycle_not_kept n pairs order is keeps cycle =
-    stands_itself cycle.scene order once (chain_stands pairs order cycle.scene cycle.between cycle.scene once keeps cycle.returns)
-  where
-    once : (i : ℕ) → count i order ≤ 1
-    once i = elim (cases_lt i n) [
-      | inl lt ↦ omega (arith, is.once i lt)
-      | inr past ↦ omega (arith, count-none n i order is.known past)
-    ]
+    stands_itself cycle.scene order (once_each n order is) (chain_stands pairs order cycle.scene cycle.between cycle.scene (once_each n order is) keeps cycle.returns)

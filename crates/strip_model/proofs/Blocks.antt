@@ -106,7 +106,7 @@ module _ (p q : ℕ → Bool) (e : ℕ → List ℕ) where
 
 -- ---- and what it pays
 
-All-to_last : (p : ℕ → Bool) (P : ℕ → Type 0) (xs : List ℕ) → All P xs → All P (to_last p xs)
+pub All-to_last : (p : ℕ → Bool) (P : ℕ → Type 0) (xs : List ℕ) → All P xs → All P (to_last p xs)
 All-to_last p P [] all = All-nil P
 All-to_last p P (x ∷ xs) all = subst (All P) (sym (to_last-cons p x xs)) (by_test (p x || list_any p xs) (All-to_last p P xs (All-tail P x xs all)))
   where

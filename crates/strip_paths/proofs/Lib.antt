@@ -4,3 +4,4 @@ pub mod Added
 pub mod Lists
 pub mod Open
 pub mod After
+pub mod Results

@@ -1,16 +1,13 @@
 -- Lists that are joined end to end, and folds over them.
-use Rattle.std.proofs.Common.{◌≡◌, List, [], ◌∷◌, ◌++◌, All, Contains, inl, inr, sym, ◌∙◌, refl, subst, fold, map}
+use Rattle.std.proofs.Common.{◌≡◌, List, [], ◌∷◌, All, Contains, inl, inr, sym, ◌∙◌, refl, subst, fold, map}
 use Rattle.std.specs.List.{flat_map}
 use Rattle.std.proofs.lemmas.List.Elements.{All-nil, All-append, All-head, All-tail, Contains-append_left, Contains-append_right}
+use Rattle.std.proofs.lemmas.List.Sums.{fold-append}
 use Rattle.strip_model.proofs.Lists.{contains_cases, contains_here, contains_later, contains_none}
-
-pub fold_append : {A B : Type 0} (f : B → A → B) (b : B) (xs ys : List A) → fold f b (xs ++ ys) ≡ fold f (fold f b xs) ys
-fold_append f b [] ys = refl
-fold_append f b (x ∷ xs) ys = fold_append f (f b x) xs ys
 
 pub fold_flat_map : {A B C : Type 0} (f : B → A → B) (g : C → List A) (b : B) (xs : List C) → fold f b (flat_map g xs) ≡ fold (λ c x. fold f c (g x)) b xs
 fold_flat_map f g b [] = refl
-fold_flat_map f g b (x ∷ xs) = fold_append f b (g x) (flat_map g xs) ∙ fold_flat_map f g (fold f b (g x)) xs
+fold_flat_map f g b (x ∷ xs) = fold-append f b (g x) (flat_map g xs) ∙ fold_flat_map f g (fold f b (g x)) xs
 
 pub All-flat_map : {A C : Type 0} (P : A → Type 0) (g : C → List A) (xs : List C) → All (λ x. All P (g x)) xs → All P (flat_map g xs)
 All-flat_map P g [] all = All-nil P

@@ -2,11 +2,13 @@
 use Rattle.std.proofs.Common.{◌≡◌, ℕ, zero, suc, ◌<◌, ◌≤◌, ◌==◌, Bool, true, false, cond, ltb, List, [], ◌∷◌, ◌++◌, length, map, get_or, set, Some, None, inl, inr, refl, sym, ap, ◌∙◌, arith}
 use Rattle.std.specs.List.{position, position_or_len}
 use Rattle.std.proofs.lemmas.Bool.{cases_lt, cond-false, cond-true, eqb-true, lt-ltb, le-ltb}
-use Rattle.std.proofs.lemmas.List.{get_or_default}
+use Rattle.std.proofs.lemmas.List.{get_or_default, get_or-map, length-map}
 use Rattle.std.proofs.lemmas.List.Quantifiers.{position-Some}
 use Rattle.std.proofs.lemmas.List.Sums.{fails_before_first}
 use Rattle.std.proofs.Math.Seq.{map-set_same}
+use Rattle.strip_film.specs.declared.path.Path.{Path}
 use Rattle.strip_film.specs.Path.{PathData}
+use Rattle.strip_film.specs.Shown.{path_data}
 use Rattle.strip_paths.specs.Paths.{with_path}
 
 -- the path leaves this set
@@ -90,3 +92,11 @@ module _ (paths : List PathData) (path : PathData) (rest place : ℕ) (is : rest
 
     pub put_there : path.paid < there.paid → set paths place path ≡ with_path paths path
     put_there less = with_cheaper paths path place is_place (λ d. omega (arith, less, there_paid d))
+
+-- the path at a place, as it is seen
+pub stands : (items : List Path) (there : Path) (path : PathData) (rest place : ℕ) → rest ≡ path.rest → position (leaves rest) (map path_data items) ≡ Some place
+    → there ≡ get_or items place there → path_data there ≡ get_or (map path_data items) place (path_data there)
+stands items there path rest place is some at =
+    ap path_data at
+    ∙ sym (get_or-map path_data items place there (path_data there)
+    (omega (arith, place_within (map path_data items) path rest place is some, length-map items path_data)))

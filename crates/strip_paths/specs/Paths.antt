@@ -1,15 +1,13 @@
 -- Paths with one scene more, and a path among others.
-use Rattle.std.specs.Prelude.{◌==◌, nat_lt, if◌then◌else◌, List, [], ◌∷◌, ◌++◌, map}
+use Rattle.std.specs.Prelude.{◌==◌, nat_lt, if◌then◌else◌, List, [], ◌∷◌, map}
 use Rattle.strip_mask.specs.Set.{members}
 use Rattle.strip_model.specs.Film.{FilmData}
-use Rattle.strip_film.specs.Path.{PathData}
+use Rattle.strip_film.specs.Path.{PathData, extended}
 use Rattle.strip_rule.specs.Rule.{open_firsts}
-use Rattle.strip_lines.specs.Paths.{path_along}
 
 -- the open paths that go on from a path with one scene more, by rising scenes
 abbrev pub paths_after : FilmData → PathData → List PathData
-paths_after film path = map (λ scene. path_along film (path.scenes ++ scene ∷ []))
-    (members (open_firsts film path.rest))
+paths_after film path = map (extended film path) (members (open_firsts film path.rest))
 
 -- the paths and another one: it stands behind them where none leaves what it leaves; else it takes that one's place
 -- where it pays less

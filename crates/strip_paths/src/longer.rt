@@ -1,8 +1,8 @@
 // Successors of a path.
-ghost use Rattle.std.specs.Prelude.{◌≡◌, ◌+◌, [], ◌∷◌, ◌++◌, true, fold, IfOk};
-ghost use Rattle.strip_mask.specs.Set.{has, without};
-ghost use Rattle.strip_film.specs.Path.{IsPath};
-ghost use Rattle.strip_film.specs.Shoot.{on_location, ready, step_cost};
+ghost use Rattle.std.specs.Prelude.{◌≡◌, true, fold, IfOk};
+ghost use Rattle.strip_mask.specs.Set.{has};
+ghost use Rattle.strip_film.specs.Path.{IsPath, extended};
+ghost use Rattle.strip_film.specs.Shoot.{on_location, ready};
 ghost use Rattle.strip_film.specs.Shown.{path_data};
 ghost use Rattle.strip_paths.specs.Paths.{paths_after, with_path};
 ghost use Rattle.strip_paths.specs.Shown.{paths_of};
@@ -40,11 +40,8 @@ fn put_longer(
     requires path { IsPath film.now (path_data path.now) }
     requires on { on.0 ≡ on_location film.now (path_data path.now).rest }
     requires ready { has (ready film.now (path_data path.now).rest) scene ≡ true }
-    ensures { IfOk result (λ _. paths_of paths.new ≡ with_path (paths_of paths.old) (record {
-      scenes = (path_data path.now).scenes ++ scene ∷ [];
-      rest = without (path_data path.now).rest scene;
-      paid = (path_data path.now).paid + step_cost film.now (path_data path.now).rest scene;
-    })) }
+    ensures { IfOk result (λ _. paths_of paths.new ≡ with_path (paths_of paths.old) (extended film.now
+        (path_data path.now) scene)) }
 {
     film.keeps_limits();
     let step = step_with(film, on, scene);

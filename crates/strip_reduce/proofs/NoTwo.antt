@@ -6,6 +6,7 @@ use Rattle.std.proofs.lemmas.Bool.{or_parts, cases_lt, cases_eq, eq-eqb, lt-ltb}
 use Rattle.std.proofs.lemmas.Bool.Decides.{nat_tests}
 use Rattle.std.proofs.lemmas.List.{get_or-map, length-map}
 use Rattle.std.proofs.lemmas.List.Edits.{length-remove}
+use Rattle.std.proofs.Math.Bool.{and-false}
 use Rattle.strip_mask.specs.Set.{IsSet, LiesBelow, has, closed_up, behind_gap}
 use Rattle.strip_mask.proofs.Below.{is_set_below}
 use Rattle.strip_mask.proofs.ByMembers.{same_set}
@@ -67,10 +68,6 @@ closed_same x y a b is_x is_y rise same_x same_y closed = same_set x y is_x is_y
     below : (i : ℕ) → i < b → has x i ≡ has y i
     below i low = (let place : behind_gap b i ≡ i = (let is : ltb i b ≡ true = lt-ltb i b low in rw is refl) in subst (λ (k : ℕ). has x k ≡ has y k) place (at i))
 
-none_and : (b : Bool) → (b && false) ≡ false
-none_and true = refl
-none_and false = refl
-
 -- `after` has the casts without the actor, and the same pairs
 pub none-counted : (before after : FilmData) (distinct a b actors : ℕ) → actors ≤ 64 → a < b → All (LiesBelow actors) before.casts → can_join_actors before a b ≡ true
     → after.casts ≡ casts_without before.casts b → after.pairs ≡ before.pairs
@@ -92,7 +89,7 @@ none-counted before after distinct a b actors few rise within alike casts pairs 
   where
     still : (x y u v : ℕ) (rest : Bool) → (u ≡ v → x ≡ y) → (eqb x y && rest) ≡ false → (eqb u v && rest) ≡ false
     still x y u v rest back was = elim (cases_eq u v) [
-      | inl same ↦ (let equal : eqb x y ≡ true = eq-eqb x y (back same) in let none : rest ≡ false = sym (rw equal refl) ∙ was in rw none (none_and (eqb u v)))
+      | inl same ↦ (let equal : eqb x y ≡ true = eq-eqb x y (back same) in let none : rest ≡ false = sym (rw equal refl) ∙ was in rw none (and-false (eqb u v)))
       | inr other ↦ (let apart_now : eqb u v ≡ false = grind (arith, nat_tests) in rw apart_now refl)
     ]
 

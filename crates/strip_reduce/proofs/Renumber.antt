@@ -1,8 +1,9 @@
 -- Pairs when a scene is taken out that stands in none.
-use Rattle.std.proofs.Common.{◌≡◌, ◌≢◌, ℕ, ◌-◌, ◌<◌, ◌==◌, ◌||◌, Bool, true, false, List, [], ◌∷◌, ◌++◌, length, map, Contains, slice_index_or, refl, sym, ap, subst, ◌∙◌, inl, inr, arith}
+use Rattle.std.proofs.Common.{◌≡◌, ◌≢◌, ℕ, ◌-◌, ◌<◌, ◌==◌, ◌||◌, true, false, List, [], ◌∷◌, ◌++◌, length, map, Contains, slice_index_or, refl, sym, ap, subst, ◌∙◌, inl, inr, arith}
 use Rattle.std.proofs.lemmas.Bool.Decides.{nat_tests}
 use Rattle.std.proofs.lemmas.List.{get_or-map, length-map, map-append}
 use Rattle.std.proofs.lemmas.List.Elements.{All-contains_itself, All-map}
+use Rattle.std.proofs.Math.Bool.{or-true}
 use Rattle.strip_mask.specs.Set.{behind_gap}
 use Rattle.strip_model.specs.declared.pair.Pair.{Pair}
 use Rattle.strip_model.specs.Pairs.{FitPairs, HasCycle, IsChain, IsKnownPair, Precedes}
@@ -15,15 +16,11 @@ pub unpaired : (pairs : List Pair) (scene : ℕ) (pair : Pair) → is_paired pai
     → (pair.first ≢ scene) × (pair.then ≢ scene)
 unpaired pairs scene pair none there = (
   λ same. absurd (let some : is_paired pairs scene ≡ true = any_from (λ p. p.first == scene || p.then == scene) pairs pair there (rw (is_same pair.first scene same) refl) in cc),
-  λ same. absurd (let some : is_paired pairs scene ≡ true = any_from (λ p. p.first == scene || p.then == scene) pairs pair there (rw (is_same pair.then scene same) (either (pair.first == scene))) in cc),
+  λ same. absurd (let some : is_paired pairs scene ≡ true = any_from (λ p. p.first == scene || p.then == scene) pairs pair there (rw (is_same pair.then scene same) (or-true (pair.first == scene))) in cc),
 )
   where
     is_same : (x y : ℕ) → x ≡ y → (x == y) ≡ true
     is_same x y same = grind (arith, nat_tests)
-
-    either : (b : Bool) → (b || true) ≡ true
-    either true = refl
-    either false = refl
 
 -- the pair behind a renumbered one
 pub record IsFrom (gone : ℕ) (pairs : List Pair) (pair : Pair) : Type 0 where

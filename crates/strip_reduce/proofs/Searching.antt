@@ -5,6 +5,7 @@ use Rattle.std.proofs.lemmas.Bool.{cases_lt, cases_eq, eq-eqb}
 use Rattle.std.proofs.lemmas.Bool.Decides.{nat_tests}
 use Rattle.std.proofs.lemmas.List.{get_or-set_same, get_or-set_other, length-set, get_or-replicate, get_or_past, length-replicate}
 use Rattle.std.proofs.lemmas.List.Folds.{list_any_more}
+use Rattle.std.proofs.Math.Bool.{and-false, or_assoc, or-false, or-true}
 use Rattle.strip_mask.specs.Set.{has, meet, minus, union}
 use Rattle.strip_mask.specs.Sums.{sum_below}
 use Rattle.strip_mask.proofs.ByMembers.{has-meet, has-minus, has-union}
@@ -92,18 +93,10 @@ marked_none scene = elim (cases_lt scene 200) [
 -- one mark more
 mark_more : (marks : List Bool) (place scene : ℕ) → place < length marks → slice_index_or (set marks place true) scene false ≡ (slice_index_or marks scene false || eqb place scene)
 mark_more marks place scene room = elim (cases_eq scene place) [
-  | inl same ↦ rw (same, eq-eqb place place refl) (get_or-set_same marks place true false room ∙ sym (or_true (slice_index_or marks place false)))
+  | inl same ↦ rw (same, eq-eqb place place refl) (get_or-set_same marks place true false room ∙ sym (or-true (slice_index_or marks place false)))
   | inr other ↦ (let apart : eqb place scene ≡ false = grind (arith, nat_tests) in
-      rw apart (get_or-set_other marks place scene true false other ∙ sym (or_false (slice_index_or marks scene false))))
+      rw apart (get_or-set_other marks place scene true false other ∙ sym (or-false (slice_index_or marks scene false))))
 ]
-  where
-    or_true : (b : Bool) → (b || true) ≡ true
-    or_true true = refl
-    or_true false = refl
-
-    or_false : (b : Bool) → (b || false) ≡ b
-    or_false true = refl
-    or_false false = refl
 
 -- the marks of a pair more
 pub pair_marked : (pairs : List Pair) (marks : List Bool) (i : ℕ) (d : Pair) → i < length pairs
@@ -117,10 +110,6 @@ pair_marked pairs marks i d within first then earlier scene =
     ∙ ap (λ (b : Bool). b || eqb pair.then scene) (mark_more marks pair.first scene first ∙ ap (λ (b : Bool). b || eqb pair.first scene) (earlier scene))
     ∙ or_assoc (is_paired (take i pairs) scene) (eqb pair.first scene) (eqb pair.then scene)
     ∙ sym (list_any_more (λ (p : Pair). eqb p.first scene || eqb p.then scene) pairs i d within)
-  where
-    or_assoc : (x y z : Bool) → ((x || y) || z) ≡ (x || (y || z))
-    or_assoc true y z = refl
-    or_assoc false y z = refl
 
 -- marked where paired, scenes can be joined alike
 pub marked_alike : (film : FilmData) (marks : List Bool) → ((scene : ℕ) → slice_index_or marks scene false ≡ is_paired film.pairs scene)
@@ -128,11 +117,7 @@ pub marked_alike : (film : FilmData) (marks : List Bool) → ((scene : ℕ) → 
 marked_alike film marks same = λ i a b. eqb (slice_index film.casts a) (slice_index film.casts b) && (not (same a i) && not (same b i))
 
 pub marked_out : (casts : List ℕ) (marks : List Bool) (a b : ℕ) → slice_index_or marks a false ≡ true → can_join_marked casts marks a b ≡ false
-marked_out casts marks a b marked = rw marked (none (eqb (slice_index casts a) (slice_index casts b)))
-  where
-    none : (b : Bool) → (b && false) ≡ false
-    none true = refl
-    none false = refl
+marked_out casts marks a b marked = rw marked (and-false (eqb (slice_index casts a) (slice_index casts b)))
 
 pub can_join_is : (casts : List ℕ) (marks : List Bool) (a b : ℕ) → slice_index casts a ≡ slice_index casts b
     → slice_index_or marks a false ≡ false → slice_index_or marks b false ≡ false → can_join_marked casts marks a b ≡ true

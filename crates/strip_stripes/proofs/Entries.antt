@@ -13,16 +13,9 @@ use Rattle.strip_table.specs.Bucket.{Puts}
 use Rattle.strip_table.specs.Stripe.{bucket_at}
 use Rattle.strip_table.proofs.PutLeaves.{all_after}
 use Rattle.strip_hand.specs.Hand.{Knows}
+use Rattle.strip_hand.proofs.Grown.{knows_grow}
 use Rattle.strip_book.specs.Pass.{TableData}
 use Rattle.strip_stripes.specs.Shelf.{AreKnown, AreTrue}
-
--- a known line stays known
-pub knows_grow : (lines more : List Line) (known : Known) → GrowTo lines more → Knows lines known → Knows more known
-knows_grow lines more known grow knows = record {
-  there = omega (arith, grow.count, knows.there);
-  set = grow.same_set known.line knows.there ∙ knows.set;
-  as_great = omega (arith, grow.no_lower known.line knows.there, knows.as_great);
-}
 
 -- empty buckets have no entries
 pub none_known : (lines : List Line) (count : ℕ) → AreKnown lines (replicate count [])

@@ -1,10 +1,10 @@
 -- Fields that trimming leaves as they are.
-use Rattle.std.proofs.Common.{◌≡◌, ℕ, ◌+◌, ◌-◌, ◌<◌, ◌%◌, ◌^◌, false, List, [], ◌∷◌, length, map, reverse, All, refl, sym, ap, ◌∙◌, subst, arith}
+use Rattle.std.proofs.Common.{◌≡◌, ℕ, ◌+◌, ◌-◌, ◌<◌, ◌%◌, ◌^◌, false, [], ◌∷◌, length, reverse, All, refl, sym, ap, ◌∙◌, subst, arith}
 use Rattle.std.specs.Fmt.{decimal}
 use Rattle.std.proofs.lemmas.Bool.{cond-false, or_from, ne_eqb}
 use Rattle.std.proofs.lemmas.Fmt.{decimal_by_steps}
 use Rattle.std.proofs.lemmas.List.{get_or-reverse, length-reverse, reverse-reverse}
-use Rattle.std.proofs.lemmas.List.Elements.{All-nil, All-cons, All-head, All-tail, All-push}
+use Rattle.std.proofs.lemmas.List.Elements.{All-nil, All-cons, All-head, All-push}
 use Rattle.strip_text.specs.Field.{Field, is_blank, without_front_blanks, trimmed}
 
 -- no byte of the field is a blank
@@ -43,9 +43,3 @@ HasNoBlank-decimal n lt = decimal_by_steps (λ _ digits. HasNoBlank digits)
 -- trimming changes no number
 pub trimmed-decimal : (n : ℕ) → n < 2 ^ 64 → trimmed (decimal n) ≡ decimal n
 trimmed-decimal n lt = trimmed-same (decimal n) (HasNoBlank-decimal n lt)
-
--- a map that changes no element
-pub map-same : {X : Type 0} (f : X → X) (xs : List X) → All (λ x. f x ≡ x) xs → map f xs ≡ xs
-map-same f [] same = refl
-map-same f (x ∷ xs) same =
-    ap (λ y. y ∷ map f xs) (All-head (λ y. f y ≡ y) x xs same) ∙ ap (λ ys. x ∷ ys) (map-same f xs (All-tail (λ y. f y ≡ y) x xs same))

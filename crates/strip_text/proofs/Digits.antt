@@ -1,10 +1,10 @@
 -- What the tests of a field's bytes say.
-use Rattle.std.proofs.Common.{◌≡◌, ◌<◌, ◌≤◌, ◌^◌, ℕ, zero, suc, Bool, true, false, not, ◌&&◌, List, [], ◌∷◌, length, get_or, map, Some, None, Err, refl, ap, inl, inr, arith, eqb, leb}
+use Rattle.std.proofs.Common.{◌≡◌, ◌<◌, ◌≤◌, ◌^◌, ℕ, zero, suc, Bool, true, false, not, ◌&&◌, List, [], ◌∷◌, length, get_or, map, Some, None, Err, refl, ap, inl, inr, arith, eqb}
 use Rattle.std.specs.List.{list_all}
 use Rattle.std.specs.Char.{is_ascii_digit}
 use Rattle.std.specs.Str.{all_ascii_digits, is_utf8, IsUtf8}
 use Rattle.std.specs.Str.Parse.{digits_value, ParsesUnsigned}
-use Rattle.std.proofs.lemmas.Bool.{cases_Bool, cases_lt}
+use Rattle.std.proofs.lemmas.Bool.{cases_Bool, cases_lt, and_left, and_right, lt-leb}
 use Rattle.std.proofs.lemmas.Bool.Decides.{nat_tests}
 use Rattle.std.proofs.lemmas.Str.{IsUtf8-from_is_utf8, IsUtf8-from_ascii}
 use Rattle.std.proofs.lemmas.Str.Parse.{IsNumeralModel, numerals_by_value, tells_all_ascii_digits, parse_digits}
@@ -42,26 +42,14 @@ digits_are_text bytes all = IsUtf8-from_ascii bytes (λ i. digits_below bytes i 
 own : IsNumeralModel (λ bytes. all_ascii_digits bytes ≡ true) (digits_value 10)
 own = numerals_by_value (λ bytes. all_ascii_digits bytes ≡ true) tells_all_ascii_digits
 
--- a test that fails behind others, or before them
-pub and-fails_right : (a b : Bool) → b ≡ false → (a && b) ≡ false
-and-fails_right true b fails = fails
-and-fails_right false b fails = refl
-
-pub and-fails_left : (a b : Bool) → a ≡ false → (a && b) ≡ false
-and-fails_left true b fails = cc
-and-fails_left false b fails = refl
-
-above_fails : (n most : ℕ) → most < n → leb n most ≡ false
-above_fails n most less = grind (arith, nat_tests)
-
 empty_fails : (n : ℕ) → n ≡ 0 → not (eqb n 0) ≡ false
 empty_fails n none = rw none refl
 
 too_great_a_number : (bytes : List ℕ) (least most : ℕ) → most < digits_value 10 bytes → is_number least most bytes ≡ false
-too_great_a_number bytes least most less = and-fails_right _ _ (above_fails (digits_value 10 bytes) most less)
+too_great_a_number bytes least most less = and_right _ _ (lt-leb (digits_value 10 bytes) most less)
 
 nothing_spelled : (bytes : List ℕ) (least most : ℕ) → length bytes ≡ 0 → is_number least most bytes ≡ false
-nothing_spelled bytes least most none = and-fails_left _ _ (and-fails_left _ _ (and-fails_left _ _ (empty_fails (length bytes) none)))
+nothing_spelled bytes least most none = and_left _ _ (and_left _ _ (and_left _ _ (empty_fails (length bytes) none)))
 
 -- digits that are refused spell no number, or one that is too great
 pub not_number : {E : Type 0} (bytes : List ℕ) (least most : ℕ) (e : E) → most < 2 ^ 64 → all_ascii_digits bytes ≡ true

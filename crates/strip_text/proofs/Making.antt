@@ -15,7 +15,7 @@ fails true fault checks is = cc is
 fails false fault checks is = refl
 
 -- what the first check says, and what is left of the others
-first-none : {Fault : Type 0} (holds : Bool) (fault : Fault) (found : Option Fault) → cond holds found (Some fault) ≡ None → (holds ≡ true) × (found ≡ None)
+pub first-none : {Fault : Type 0} (holds : Bool) (fault : Fault) (found : Option Fault) → cond holds found (Some fault) ≡ None → (holds ≡ true) × (found ≡ None)
 first-none true fault found none = (refl, none)
 first-none false fault found none = cc none
 

@@ -13,6 +13,7 @@ use Rattle.strip_lines.specs.Paths.{ComesAfter}
 use Rattle.strip_hand.specs.Search.{SearchData, depth_of, search_rules}
 use Rattle.strip_hand.specs.Hand.{HandData, IsHand, Knows}
 use Rattle.strip_hand.specs.Calls.{IsFound as IsTold, IsSpent, MakesLine, StandsAt}
+use Rattle.strip_hand.proofs.Grown.{knows_grow}
 use Rattle.strip_walk.specs.declared.found.Found.{Found}
 use Rattle.strip_walk.specs.declared.found.Opened.{Opened}
 use Rattle.strip_walk.specs.declared.found.Passed.{Passed}
@@ -20,7 +21,7 @@ use Rattle.strip_walk.specs.Found.{IsCutShort, IsFound, MayExplore, Reaches, kno
 use Rattle.strip_walk.specs.Walked.{Walks}
 use Rattle.strip_walk.specs.Begun.{IsBest, IsCut, IsOpened, IsThrough, StaysInPart}
 use Rattle.strip_walk.proofs.Bounds.{bound_known, finish_below, known_finishes}
-use Rattle.strip_walk.proofs.Stayed.{begun_itself, knows_more, not_begun, walks_still}
+use Rattle.strip_walk.proofs.Stayed.{begun_itself, not_begun, walks_still}
 
 -- an answer at a cursor that didn't move
 pub found_still : (after : HandData) (cursor : CursorData) (path : PathData) (found : Found) → IsHand after → LiesIn after.search.film path.rest
@@ -129,7 +130,7 @@ module _ (before after : HandData) (cursor : CursorData) (path : PathData) (coun
   knows_grown known hit = grown (subst (IsTold before path.rest) hit through.true_answer)
     where
       grown : IsTold before path.rest (Hit known) → Knows after.lines (known_of path known.line known.bound)
-      grown (same, knows) = knows_more before.lines after.lines (known_of path known.line known.bound) spent.grow
+      grown (same, knows) = knows_grow before.lines after.lines (known_of path known.line known.bound) spent.grow
           (record { there = knows.there; set = knows.set ∙ same; as_great = knows.as_great })
 
   best_found : (found : Found) → IsBest passed found → IsFound after cursor path found

@@ -16,7 +16,7 @@ use Rattle.strip_film.specs.Rules.{rank}
 use Rattle.strip_film.specs.Shoot.{step_cost}
 use Rattle.strip_film.specs.Turns.{GoBy, TurnsData}
 use Rattle.strip_film.proofs.Costs.{step_limit}
-use Rattle.strip_film.proofs.Paths.{rest_lies}
+use Rattle.strip_film.proofs.Paths.{rest_lies, rest_set}
 use Rattle.strip_film.proofs.Ranks.{sooner_by}
 use Rattle.strip_bound.specs.Bounds.{bound}
 use Rattle.strip_bound.specs.Promise.{promised}
@@ -92,7 +92,7 @@ module _ (kind : Kind) (film : FilmData) (path : PathData) (is_film : IsFilm fil
   child_fits s rest first most =
       omega (
         arith,
-        step_limit film path.rest s is_film (is_set_below (length film.casts) path.rest is_film.scene_count.1 lies) (first_there film path.rest s first),
+        step_limit film path.rest s is_film (rest_set film path within is_film) (first_there film path.rest s first),
         bound_small kind film (without path.rest s) is_film (child_lies s),
         most,
       )

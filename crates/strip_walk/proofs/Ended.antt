@@ -3,22 +3,18 @@ use Rattle.std.proofs.Common.{◌≡◌, ◌≢◌, ℕ, ◌+◌, ◌<◌, ◌�
 use Rattle.std.proofs.lemmas.Bool.{cases_lt}
 use Rattle.std.proofs.lemmas.List.{same_from_push}
 use Rattle.strip_io.specs.declared.files.Memory.{Memory}
-use Rattle.strip_mask.specs.Set.{has, members, size, without}
-use Rattle.strip_mask.proofs.Below.{is_set_below}
+use Rattle.strip_mask.specs.Set.{members, without}
 use Rattle.strip_mask.proofs.ByMembers.{has-empty}
 use Rattle.strip_mask.proofs.Members.{Contains-members}
-use Rattle.strip_mask.proofs.Sizes.{size-without}
 use Rattle.strip_model.specs.Film.{FilmData}
 use Rattle.strip_film.specs.declared.shared.Known.{Known}
 use Rattle.strip_film.specs.Film.{IsFilm, LiesIn}
 use Rattle.strip_film.specs.Path.{IsPath, PathData}
 use Rattle.strip_film.specs.Shoot.{step_cost}
 use Rattle.strip_film.specs.Shown.{CursorData}
-use Rattle.strip_film.proofs.Lists.{ready_there}
 use Rattle.strip_film.proofs.Paths.{rest_lies}
 use Rattle.strip_film.proofs.Started.{same_path}
 use Rattle.strip_rule.specs.Rule.{open_firsts}
-use Rattle.strip_rule.proofs.Open.{open_is}
 use Rattle.strip_rule.proofs.Firsts.{firsts_set}
 use Rattle.strip_lines.specs.Lines.{GrowTo, IsJustified, ahead, line_at}
 use Rattle.strip_lines.proofs.Ahead.{least_step_le}
@@ -60,18 +56,6 @@ offered_explores before after cursor path found may none offers =
           (subst (λ (search : SearchData). ComesAfter (search_rules search) cursor.last path) (sym offers.stays.search) may.later) (λ number some. absurd (cc)) (λ _. omega (arith, bound))
           (λ _. omega (arith, offers.offered, bound)) (inr (omega (arith, offers.offered, bound)))
           (λ is_cut. absurd (let e : false ≡ true = sym spent ∙ is_cut in cc)),
-    )
-
--- ---- numbers
-
--- a path with one scene more leaves fewer
-pub fewer : (film : FilmData) (path : PathData) (s : ℕ) → IsFilm film → LiesIn film path.rest → has (open_firsts film path.rest) s ≡ true
-    → size (without path.rest s) < size path.rest
-fewer film path s is lies first =
-    omega (
-      arith,
-      size-without path.rest s (is_set_below (length film.casts) path.rest is.scene_count.1 lies)
-          (ready_there film path.rest s (open_is film path.rest s first).0),
     )
 
 -- a path that was taken and taken back is the same

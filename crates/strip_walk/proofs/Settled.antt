@@ -1,21 +1,21 @@
 -- The children of a path, walked one after the other: what they make known of what remains.
 use Rattle.std.proofs.Common.{◌≡◌, ◌≢◌, ℕ, zero, suc, ◌+◌, ◌≤◌, ◌⊎◌, inl, inr, min, Bool, true, false, ◌||◌, nat_eq, Option, List, [], ◌∷◌, ◌++◌, slice_index_or, refl, sym, ap, ◌∙◌, subst, arith}
-use Rattle.std.proofs.lemmas.Bool.{cases_eq, cases_lt}
+use Rattle.std.proofs.lemmas.Bool.{cases_eq, cases_lt, or_cases, or_parts}
 use Rattle.std.specs.List.{starts_with}
 use Rattle.strip_mask.specs.Set.{has, without}
 use Rattle.strip_mask.proofs.ByMembers.{has-without_other, has_from_without}
 use Rattle.strip_model.specs.declared.kind.Kind.{Kind}
 use Rattle.strip_model.specs.Film.{FilmData}
 use Rattle.strip_film.specs.Film.{all_scenes}
-use Rattle.strip_film.specs.Path.{IsPath, PathData}
+use Rattle.strip_film.specs.Path.{IsPath, PathData, extended}
 use Rattle.strip_film.specs.Ranks.{IsSooner}
 use Rattle.strip_film.specs.Rules.{IsOpen, rank}
 use Rattle.strip_film.specs.Turns.{IsSoonest}
 use Rattle.strip_film.specs.Shoot.{step_cost}
 use Rattle.strip_film.specs.Shown.{CursorData}
-use Rattle.strip_film.proofs.Lists.{AreFirsts-append}
+use Rattle.strip_film.proofs.Paths.{IsOpen-extended}
 use Rattle.strip_film.proofs.Ranks.{earlier_longer}
-use Rattle.strip_rule.specs.Rule.{open_firsts}
+use Rattle.strip_rule.proofs.Open.{open_is}
 use Rattle.strip_lines.specs.Lines.{known}
 use Rattle.strip_lines.proofs.Grown.{known-grows, known-static}
 use Rattle.strip_lines.specs.Parts.{lies_in, no_task}
@@ -27,7 +27,7 @@ use Rattle.strip_walk.specs.declared.found.Opened.{Opened}
 use Rattle.strip_walk.specs.declared.found.Sifted.{Sifted}
 use Rattle.strip_walk.specs.Found.{BegunBy, IsCutShort, IsFound, MayExplore}
 use Rattle.strip_walk.specs.Walked.{Walks}
-use Rattle.strip_walk.specs.Begun.{IsFirst, IsOpened, shot}
+use Rattle.strip_walk.specs.Begun.{IsFirst, IsOpened}
 use Rattle.strip_walk.specs.Sifted.{AreSifted, to_walk}
 use Rattle.strip_walk.proofs.Bounds.{bound_known}
 use Rattle.strip_walk.proofs.Lists.{begun_earlier, starts_longer, starts_shorter}
@@ -43,7 +43,7 @@ pub record AreSettled (search : SearchData) (hand : HandData) (cursor : CursorDa
   pub enough : spent ≡ false → hand.told ≤ path.paid + least
   pub ahead : ((scene : ℕ) × IsFirst search path scene
       × (step_cost search.film path.rest scene + (search_rules search).bound (without path.rest scene) ≤ least)) ⊎ (hand.told ≤ path.paid + least)
-  pub later : (scene : ℕ) → has left scene ≡ true → ComesAfter (search_rules search) cursor.last (shot search path scene)
+  pub later : (scene : ℕ) → has left scene ≡ true → ComesAfter (search_rules search) cursor.last (extended search.film path scene)
   pub begun : BegunBy path cursor.last
   pub cut : spent ≡ true → IsCutShort hand cursor
 
@@ -66,7 +66,7 @@ settled_none search hand cursor path opened sifted is sifts =
           omega (arith, sifts.passed scene first passed, known-static (search_rules search) hand.lines (without path.rest scene));
       enough = λ _. enough;
       ahead = inr enough;
-      later = λ scene _. subst (λ (last : Option PathData). ComesAfter (search_rules search) last (shot search path scene)) (sym is.last)
+      later = λ scene _. subst (λ (last : Option PathData). ComesAfter (search_rules search) last (extended search.film path scene)) (sym is.last)
           (earlier_longer (search_rules search) (all_scenes search.film) path.scenes scene []);
       begun = begun_itself cursor.last path is.last;
       cut = λ is_cut. absurd (let e : false ≡ true = is_cut in cc);
@@ -85,46 +85,34 @@ lies_longer depth tasks (suc task) path longer s some more lies =
 module _ (before now : HandData) (cursor cursor_now : CursorData) (path : PathData) (left least : ℕ) (spent : Bool) (s : ℕ)
     (may : MayExplore before cursor path) (walks : Walks before cursor path now cursor_now)
     (settled : AreSettled before.search now cursor_now path left least spent)
-    (waits : has left s ≡ true) (within : IsPath before.search.film (shot before.search path s)) where
+    (waits : has left s ≡ true) where
   is_one : IsFirst before.search path s
   is_one = settled.within s waits
 
-  open_longer : IsOpen (search_rules before.search) (shot before.search path s)
-  open_longer = (
-    within,
-    AreFirsts-append (open_firsts before.search.film) (all_scenes before.search.film) s path.scenes may.is_open.1
-        (subst (λ (q : ℕ). has (open_firsts before.search.film q) s ≡ true) may.is_open.0.left is_one),
-  )
+  open_longer : IsOpen (search_rules before.search) (extended before.search.film path s)
+  open_longer = IsOpen-extended (search_rules before.search) path s may.is_open (open_is before.search.film path.rest s is_one).0 is_one
 
-  pub may_child : MayExplore now cursor_now (shot before.search path s)
+  pub may_child : MayExplore now cursor_now (extended before.search.film path s)
   may_child = record {
     stands = walks.stands;
     task = λ none. may.task (sym walks.task ∙ none);
-    is_open = subst (λ (search : SearchData). IsOpen (search_rules search) (shot before.search path s)) (sym walks.search) open_longer;
-    lies = ap (λ (search : SearchData). lies_in (depth_of search) search.tasks cursor_now.task (shot before.search path s)) walks.search
-        ∙ ap (λ (task : ℕ). lies_in (depth_of before.search) before.search.tasks task (shot before.search path s)) walks.task
-        ∙ lies_longer (depth_of before.search) before.search.tasks cursor.task path (shot before.search path s) s may.task refl may.lies;
-    later = subst (λ (search : SearchData). ComesAfter (search_rules search) cursor_now.last (shot before.search path s)) (sym walks.search)
+    is_open = subst (λ (search : SearchData). IsOpen (search_rules search) (extended before.search.film path s)) (sym walks.search) open_longer;
+    lies = ap (λ (search : SearchData). lies_in (depth_of search) search.tasks cursor_now.task (extended before.search.film path s)) walks.search
+        ∙ ap (λ (task : ℕ). lies_in (depth_of before.search) before.search.tasks task (extended before.search.film path s)) walks.task
+        ∙ lies_longer (depth_of before.search) before.search.tasks cursor.task path (extended before.search.film path s) s may.task refl may.lies;
+    later = subst (λ (search : SearchData). ComesAfter (search_rules search) cursor_now.last (extended before.search.film path s)) (sym walks.search)
         (settled.later s waits);
   }
 
 -- ---- a child was walked
-
-none_true : (a b : Bool) → (a || b) ≡ false → (a ≡ false) × (b ≡ false)
-none_true true b is = absurd (let e : true ≡ false = is in cc)
-none_true false b is = (refl, is)
-
-some_true : (a b : Bool) → (a || b) ≡ true → (a ≡ true) ⊎ (b ≡ true)
-some_true true b is = inl refl
-some_true false b is = inr is
 
 -- of those that are left the scene is the next one, by rank
 abbrev pub IsNext : SearchData → PathData → ℕ → ℕ → Type 0
 IsNext search path left scene = IsSoonest (record { left = left; ranks = rank (search_rules search) path.rest }) scene
 
 module _ (search : SearchData) (now after : HandData) (cursor cursor_after : CursorData) (path : PathData) (left least : ℕ) (spent : Bool)
-    (s : ℕ) (found : Found) (here : now.search ≡ search) (is : IsHand after) (walks : Walks now cursor (shot search path s) after cursor_after)
-    (finds : IsFound after cursor_after (shot search path s) found) (settled : AreSettled search now cursor path left least spent)
+    (s : ℕ) (found : Found) (here : now.search ≡ search) (is : IsHand after) (walks : Walks now cursor (extended search.film path s) after cursor_after)
+    (finds : IsFound after cursor_after (extended search.film path s) found) (settled : AreSettled search now cursor path left least spent)
     (within : IsPath search.film path) (soonest : IsNext search path left s) (next : ℕ) (least_is : next ≡ min least (step_cost search.film path.rest s + found.bound)) where
   first : IsFirst search path s
   first = settled.within s soonest.waits
@@ -133,7 +121,7 @@ module _ (search : SearchData) (now after : HandData) (cursor cursor_after : Cur
   same_search = walks.search ∙ here
 
   child_known : found.bound ≤ known (search_rules search) after.lines (without path.rest s)
-  child_known = bound_known (search_rules search) after.lines (shot search path s) found.line found.bound (λ number some. (finds.line number some).0)
+  child_known = bound_known (search_rules search) after.lines (extended search.film path s) found.line found.bound (λ number some. (finds.line number some).0)
       (λ none. subst (λ (of : SearchData). found.bound ≤ (search_rules of).bound (without path.rest s)) same_search (finds.none none))
 
   justified_then : (scene : ℕ) → IsFirst search path scene → has (without left s) scene ≡ false
@@ -148,7 +136,7 @@ module _ (search : SearchData) (now after : HandData) (cursor cursor_after : Cur
 
   enough_then : (spent || found.spent) ≡ false → after.told ≤ path.paid + next
   enough_then none =
-      let both = none_true spent found.spent none in
+      let both = or_parts spent found.spent none in
       omega (arith, least_is, settled.enough both.0, finds.enough both.1, walks.told)
 
   abbrev Reached : ℕ → Type 0
@@ -178,13 +166,13 @@ module _ (search : SearchData) (now after : HandData) (cursor cursor_after : Cur
     | inr more ↦ subst Reached (let e : step_cost search.film path.rest s + found.bound ≡ next = omega (arith, least_is, more) in e) child_ahead
   ]
 
-  later_then : (scene : ℕ) → has (without left s) scene ≡ true → ComesAfter (search_rules search) cursor_after.last (shot search path scene)
+  later_then : (scene : ℕ) → has (without left s) scene ≡ true → ComesAfter (search_rules search) cursor_after.last (extended search.film path scene)
   later_then scene waits =
       let still = has_from_without left s scene waits in
       elim walks.last [
-        | inl same ↦ subst (λ (last : Option PathData). ComesAfter (search_rules search) last (shot search path scene)) (sym same)
+        | inl same ↦ subst (λ (last : Option PathData). ComesAfter (search_rules search) last (extended search.film path scene)) (sym same)
             (settled.later scene still.1)
-        | inr begun ↦ subst (λ (last : Option PathData). ComesAfter (search_rules search) last (shot search path scene)) (sym begun.1)
+        | inr begun ↦ subst (λ (last : Option PathData). ComesAfter (search_rules search) last (extended search.film path scene)) (sym begun.1)
             (begun_earlier (search_rules search) (all_scenes search.film) begun.0.scenes path.scenes s scene begun.2
             (subst (λ (set : ℕ). IsSooner (rank (search_rules search) set) s scene) within.left (soonest.first scene still.1 (λ e. still.0 (sym e)))))
       ]
@@ -196,8 +184,8 @@ module _ (search : SearchData) (now after : HandData) (cursor cursor_after : Cur
   ]
 
   cut_then : (spent || found.spent) ≡ true → IsCutShort after cursor_after
-  cut_then some = elim (some_true spent found.spent some) [
-    | inl old ↦ cut_stays now after cursor cursor_after (shot search path s) is.few walks (settled.cut old)
+  cut_then some = elim (or_cases spent found.spent some) [
+    | inl old ↦ cut_stays now after cursor cursor_after (extended search.film path s) is.few walks (settled.cut old)
     | inr new ↦ finds.spent new
   ]
 

@@ -1,36 +1,23 @@
 -- What stays over several calls.
-use Rattle.std.proofs.Common.{◌≡◌, ℕ, ◌+◌, ◌<◌, ◌≤◌, ◌⊎◌, inl, inr, true, false, Option, Some, Result, Ok, Err, List, [], ◌∷◌, ◌++◌, length, refl, sym, ap, ◌∙◌, subst, arith}
+use Rattle.std.proofs.Common.{◌≡◌, ℕ, ◌+◌, ◌<◌, ◌≤◌, ◌⊎◌, inl, inr, true, false, Option, Some, Result, Ok, Err, [], ◌∷◌, ◌++◌, length, refl, sym, ap, ◌∙◌, subst, arith}
 use Rattle.std.specs.Result.{IsErr}
 use Rattle.strip_io.specs.declared.files.Memory.{Memory}
 use Rattle.strip_io.specs.Counts.{Rose}
-use Rattle.strip_film.specs.declared.shared.Known.{Known}
-use Rattle.strip_film.specs.declared.shared.Line.{Line}
 use Rattle.strip_film.specs.Film.{all_scenes}
 use Rattle.strip_film.specs.Path.{PathData}
 use Rattle.strip_film.specs.Rules.{IsOpen, Rules}
 use Rattle.strip_film.specs.Shown.{CursorData}
-use Rattle.strip_lines.specs.Lines.{GrowTo}
 use Rattle.strip_lines.proofs.Grown.{grow_trans}
 use Rattle.strip_lines.specs.Parts.{lies_in}
 use Rattle.strip_lines.specs.Paths.{ComesAfter}
 use Rattle.strip_hand.specs.Search.{SearchData, depth_of, search_rules}
-use Rattle.strip_hand.specs.Hand.{HandData, Knows, RecordData}
+use Rattle.strip_hand.specs.Hand.{HandData, RecordData}
 use Rattle.strip_hand.specs.Calls.{StandsAt}
 use Rattle.strip_walk.specs.declared.found.Found.{Found}
 use Rattle.strip_walk.specs.Found.{BegunBy, IsCutShort, MayExplore}
 use Rattle.strip_walk.specs.Walked.{Explores, Walks}
 use Rattle.strip_walk.specs.Begun.{StaysInPart}
 use Rattle.strip_walk.proofs.Lists.{begun_not_earlier, starts_itself, starts_shorter}
-
--- ---- lines that grow
-
--- a known line stays known
-pub knows_more : (lines more : List Line) (known : Known) → GrowTo lines more → Knows lines known → Knows more known
-knows_more lines more known grow knows = record {
-  there = omega (arith, grow.count, knows.there);
-  set = grow.same_set known.line knows.there ∙ knows.set;
-  as_great = omega (arith, grow.no_lower known.line knows.there, knows.as_great);
-}
 
 -- ---- counts of refusals
 

@@ -1,13 +1,13 @@
 -- One turn of a walk: a scene is shot, what then remains is walked, and the scene is taken back.
-use Rattle.std.proofs.Common.{◌≡◌, ℕ, ◌+◌, ◌^◌, ◌<◌, ◌≤◌, true, false, Result, Ok, Err, IfOk, [], ◌∷◌, ◌++◌, length, sym, ap, ◌∙◌, subst, arith}
+use Rattle.std.proofs.Common.{◌≡◌, ℕ, ◌+◌, ◌^◌, ◌<◌, ◌≤◌, true, false, Result, Ok, Err, IfOk, length, sym, ap, ◌∙◌, subst, arith}
 use Rattle.std.specs.Result.{IsErr}
 use Rattle.strip_io.specs.declared.files.Memory.{Memory}
 use Rattle.strip_mask.specs.Set.{IsSet, has, without}
-use Rattle.strip_mask.proofs.Below.{LiesBelow-without, is_set_below}
+use Rattle.strip_mask.proofs.Below.{LiesBelow-without}
 use Rattle.strip_mask.proofs.ByMembers.{has_from_without}
 use Rattle.strip_model.specs.Film.{FilmData}
 use Rattle.strip_film.specs.Film.{IsFilm, LiesIn}
-use Rattle.strip_film.specs.Path.{IsPath, PathData}
+use Rattle.strip_film.specs.Path.{IsPath, PathData, extended}
 use Rattle.strip_film.specs.Ranks.{IsSooner}
 use Rattle.strip_film.specs.Rules.{rank}
 use Rattle.strip_film.specs.Shoot.{ready, step_cost}
@@ -15,7 +15,7 @@ use Rattle.strip_film.specs.Shown.{CursorData}
 use Rattle.strip_film.specs.Turns.{GoBy, IsSoonest, TurnsData}
 use Rattle.strip_film.proofs.Costs.{step_limit}
 use Rattle.strip_film.proofs.Lists.{ready_there}
-use Rattle.strip_film.proofs.Paths.{rest_lies}
+use Rattle.strip_film.proofs.Paths.{rest_lies, rest_set}
 use Rattle.strip_film.proofs.Small.{finish_small}
 use Rattle.strip_rule.proofs.Open.{open_is}
 use Rattle.strip_hand.specs.Search.{SearchData, search_rules}
@@ -23,7 +23,7 @@ use Rattle.strip_hand.specs.Hand.{HandData}
 use Rattle.strip_walk.specs.declared.found.Found.{Found}
 use Rattle.strip_walk.specs.Found.{IsFound}
 use Rattle.strip_walk.specs.Walked.{Explores, Walks}
-use Rattle.strip_walk.specs.Begun.{IsFirst, shot}
+use Rattle.strip_walk.specs.Begun.{IsFirst}
 use Rattle.strip_walk.proofs.Settled.{IsNext}
 use Rattle.strip_walk.proofs.Stayed.{rose_around, walks_child, walks_trans}
 
@@ -34,23 +34,18 @@ module _ (search : SearchData) (film : FilmData) (path : PathData) (s : ℕ) (fi
   first_ready = subst (λ (f : FilmData). has (ready f path.rest) s ≡ true) film_is (open_is search.film path.rest s first).0
 
   -- the path that was taken is the longer one
-  pub taken : (longer : PathData) → longer ≡ record { scenes = path.scenes ++ s ∷ []; rest = without path.rest s; paid = path.paid + step_cost film path.rest s }
-      → longer ≡ shot search path s
-  taken longer is = is ∙ (λ i. record {
-    scenes = path.scenes ++ s ∷ [];
-    rest = without path.rest s;
-    paid = path.paid + step_cost (sym film_is i) path.rest s;
-  })
+  pub taken : (longer : PathData) → longer ≡ extended film path s → longer ≡ extended search.film path s
+  taken longer is = is ∙ ap (λ (f : FilmData). extended f path s) (sym film_is)
 
 module _ (search : SearchData) (path : PathData) (s : ℕ) (is : IsFilm search.film) (within : IsPath search.film path) (first : IsFirst search path s) where
   lies : LiesIn search.film path.rest
   lies = rest_lies search.film path within
 
   -- the step and what was found of the rest fit a number
-  pub sum_fits : (after : HandData) (cursor_after : CursorData) (found : Found) → after.search ≡ search → IsFound after cursor_after (shot search path s) found
+  pub sum_fits : (after : HandData) (cursor_after : CursorData) (found : Found) → after.search ≡ search → IsFound after cursor_after (extended search.film path s) found
       → step_cost search.film path.rest s + found.bound < 2 ^ 64
   sum_fits after cursor_after found same finds =
-      let set : IsSet path.rest = is_set_below (length search.film.casts) path.rest is.scene_count.1 lies in
+      let set : IsSet path.rest = rest_set search.film path within is in
       let film_same : after.search.film ≡ search.film = ap (λ (of : SearchData). of.film) same in
       omega (
         arith,
@@ -63,7 +58,7 @@ module _ (search : SearchData) (path : PathData) (s : ℕ) (is : IsFilm search.f
 -- ---- the walk of the longer path
 
 module _ (before now after : HandData) (cursor cursor_now cursor_after : CursorData) (path longer : PathData) (s : ℕ)
-    (few : length now.lines ≤ now.search.cap) (walks : Walks before cursor path now cursor_now) (longer_is : longer ≡ shot before.search path s) where
+    (few : length now.lines ≤ now.search.cap) (walks : Walks before cursor path now cursor_now) (longer_is : longer ≡ extended before.search.film path s) where
   pub turn_walks : Walks now cursor_now longer after cursor_after → Walks before cursor path after cursor_after
   turn_walks child = walks_trans before now after cursor cursor_now cursor_after path few walks
       (walks_child now after cursor_now cursor_after path longer s (ap (λ (p : PathData). p.scenes) longer_is) child)

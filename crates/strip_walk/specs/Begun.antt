@@ -1,13 +1,12 @@
 -- How the walk of a path begins and ends, before and after its children.
-use Rattle.std.specs.Prelude.{◌≡◌, ℕ, ◌+◌, ◌<◌, ◌≤◌, ◌⊎◌, true, false, Some, None, Bool, Result, Ok, Err, [], ◌∷◌, ◌++◌, length}
-use Rattle.strip_mask.specs.Set.{has, without}
+use Rattle.std.specs.Prelude.{◌≡◌, ℕ, ◌+◌, ◌<◌, ◌≤◌, ◌⊎◌, true, false, Some, None, Bool, Result, Ok, Err, length}
+use Rattle.strip_mask.specs.Set.{has}
 use Rattle.strip_io.specs.declared.files.Memory.{Memory}
 use Rattle.strip_io.specs.Counts.{Rose}
 use Rattle.strip_film.specs.declared.shared.Known.{Known}
 use Rattle.strip_film.specs.declared.shared.Probe.{Probe}
 use Rattle.strip_film.specs.declared.shared.Probe.TheVariants.{Hit}
 use Rattle.strip_film.specs.Path.{PathData}
-use Rattle.strip_film.specs.Shoot.{step_cost}
 use Rattle.strip_film.specs.Shown.{CursorData}
 use Rattle.strip_rule.specs.Rule.{open_firsts}
 use Rattle.strip_lines.specs.Lines.{GrowTo, line_at}
@@ -23,14 +22,6 @@ use Rattle.strip_walk.specs.declared.found.Opened.{Opened}
 use Rattle.strip_walk.specs.declared.found.Passed.{Passed}
 use Rattle.strip_walk.specs.Found.{IsFound, known_of}
 use Rattle.strip_walk.specs.Walked.{Walks}
-
--- the path with this scene shot next
-abbrev pub shot : SearchData → PathData → ℕ → PathData
-shot search path scene = record {
-  scenes = path.scenes ++ scene ∷ [];
-  rest = without path.rest scene;
-  paid = path.paid + step_cost search.film path.rest scene;
-}
 
 -- the scene may be shot next
 abbrev pub IsFirst : SearchData → PathData → ℕ → Type 0

@@ -1,11 +1,12 @@
 // Depth-first search of a path's children.
 ghost use Rattle.std.specs.Prelude.{◌≡◌, ◌≢◌, IfOk};
+ghost use Rattle.strip_film.specs.Path.{extended};
 ghost use Rattle.strip_film.specs.Running.{IsRunning};
 ghost use Rattle.strip_film.specs.Shoot.{step_cost};
 ghost use Rattle.strip_film.specs.Shown.{cursor_data, running_data};
 ghost use Rattle.strip_bound.specs.StoredBound.{Keeps};
 ghost use Rattle.strip_hand.specs.Hand.{IsSearchOf};
-ghost use Rattle.strip_walk.specs.Begun.{IsFirst, IsThrough, shot};
+ghost use Rattle.strip_walk.specs.Begun.{IsFirst, IsThrough};
 ghost use Rattle.strip_walk.specs.Found.{MayExplore};
 ghost use Rattle.strip_walk.specs.Walked.{Explores};
 ghost use Rattle.strip_memo.specs.Memo.{IsMemo};
@@ -129,14 +130,14 @@ fn walk_child<H: Hand, F: Fn(u64, u64) -> u64>(
     requires first { IsFirst (H.shows hand.old).search (running_data running.old).path s }
     requires step { step ≡ step_cost kept.now.film.now (running_data running.old).path.rest s }
     requires may { MayExplore (H.shows hand.old) (cursor_data cursor.old)
-        (shot (H.shows hand.old).search (running_data running.old).path s) }
+        (extended (H.shows hand.old).search.film (running_data running.old).path s) }
     ensures sound { H.is_sound hand.new }
     ensures home { H.home hand.new ≡ H.home hand.old }
     ensures memo { IsMemo kept.now.kind kept.now.film.now memo.new }
     ensures running { IfOk result (λ _. IsRunning kept.now.film.now (running_data running.new)
         × ((running_data running.new).path ≡ (running_data running.old).path)) }
     ensures explored { Explores (H.shows hand.old) (cursor_data cursor.old)
-        (shot (H.shows hand.old).search (running_data running.old).path s) result
+        (extended (H.shows hand.old).search.film (running_data running.old).path s) result
         (H.shows hand.new) (cursor_data cursor.new) }
 {
     let film = kept.film();

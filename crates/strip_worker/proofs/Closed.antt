@@ -22,7 +22,7 @@ use Rattle.strip_lines.specs.Paths.{candidate_count, leaving_count}
 use Rattle.strip_lines.proofs.Shares.{lines_few, lines_ways}
 use Rattle.strip_hand.specs.Hand.{HandData, IsHand, IsSearchOf}
 use Rattle.strip_hand.specs.Search.{GoesBy, SearchData, depth_of, search_rules}
-use Rattle.strip_hand.proofs.Starts.{tasks_apart}
+use Rattle.strip_hand.proofs.Apart.{tasks_apart}
 use Rattle.strip_front.specs.Calls.{AllReach, GoesDown, IsClosedUp, Learns}
 use Rattle.strip_front.specs.Front.{FrontData, root_of}
 use Rattle.strip_worker.specs.Closed.{HasAll, IsClosed, IsSettled, known_of_all, record_in}

@@ -9,7 +9,7 @@ use Rattle.strip_lines.specs.Paths.{ComesAfter, candidate_count}
 use Rattle.strip_lines.proofs.Shares.{is_candidate_from, lines_room}
 use Rattle.strip_hand.specs.Hand.{HandData, IsHand, RecordData, no_path_yet}
 use Rattle.strip_hand.specs.Search.{depth_of, search_rules}
-use Rattle.strip_hand.proofs.Starts.{tasks_apart}
+use Rattle.strip_hand.proofs.Apart.{tasks_apart}
 use Rattle.strip_worker.specs.Closed.{AreCountedBy, record_in}
 use Rattle.strip_worker.specs.Team.{IsCut, OwnsFront}
 

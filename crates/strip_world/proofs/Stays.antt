@@ -2,22 +2,15 @@
 use Rattle.std.proofs.Common.{◌≡◌, ℕ, ◌<◌, ◌≤◌, true, List, length, sym, ap, ◌∙◌, subst, arith}
 use Rattle.std.proofs.lemmas.List.Elements.{All-weaker}
 use Rattle.strip_film.specs.declared.shared.Known.{Known}
-use Rattle.strip_film.specs.declared.shared.Line.{Line}
 use Rattle.strip_film.specs.Path.{IsPath}
 use Rattle.strip_lines.specs.Lines.{GrowTo}
 use Rattle.strip_lines.specs.Parts.{lies_in}
 use Rattle.strip_table.specs.Stripe.{bucket_at}
 use Rattle.strip_hand.specs.Search.{SearchData, depth_of}
+use Rattle.strip_hand.proofs.Grown.{knows_grow}
 use Rattle.strip_world.specs.World.{PartData, WorldData, part_at}
 use Rattle.strip_hand.specs.Hand.{Knows}
 use Rattle.strip_world.specs.Sound.{IsClaimed, IsStripeOf}
-
-pub entry_grows : (lines more : List Line) (entry : Known) → GrowTo lines more → Knows lines entry → Knows more entry
-entry_grows lines more entry grow is = record {
-  there = omega (arith, is.there, grow.count);
-  set = grow.same_set entry.line is.there ∙ is.set;
-  as_great = omega (arith, is.as_great, grow.no_lower entry.line is.there);
-}
 
 pub stripe_grows : (world after : WorldData) (number : ℕ) (buckets : List (List Known)) → after.buckets ≡ world.buckets → GrowTo world.lines after.lines
     → IsStripeOf world number buckets → IsStripeOf after number buckets
@@ -26,7 +19,7 @@ stripe_grows world after number buckets same grow is = record {
   count = is.count ∙ sym same;
   own = is.own;
   entries = λ bucket lt.
-      All-weaker (Knows world.lines) (Knows after.lines) (λ entry. entry_grows world.lines after.lines entry grow) (bucket_at buckets bucket) (is.entries bucket lt);
+      All-weaker (Knows world.lines) (Knows after.lines) (λ entry. knows_grow world.lines after.lines entry grow) (bucket_at buckets bucket) (is.entries bucket lt);
 }
 
 -- a claim stays where the part does and was claimed as it is

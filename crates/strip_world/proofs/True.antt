@@ -1,6 +1,7 @@
 -- What a sound world says is true, and its lines are few.
 use Rattle.std.proofs.Common.{◌≡◌, ℕ, ◌+◌, ◌<◌, ◌≤◌, eqb, length, count_by, Contains, All, sym, ap, ◌∙◌, subst, arith}
 use Rattle.std.proofs.lemmas.List.Elements.{All-contains}
+use Rattle.strip_hand.proofs.Apart.{tasks_apart}
 use Rattle.strip_model.specs.Pay.{IsOptimum}
 use Rattle.strip_film.specs.declared.shared.Known.{Known}
 use Rattle.strip_film.specs.declared.shared.Line.{Line}
@@ -15,7 +16,6 @@ use Rattle.strip_lines.specs.Paths.{candidate_count, leaving_count}
 use Rattle.strip_lines.proofs.Shares.{lines_few, lines_room, lines_ways}
 use Rattle.strip_table.specs.Stripe.{bucket_at}
 use Rattle.strip_hand.specs.Search.{depth_of, search_rules}
-use Rattle.strip_hand.proofs.Starts.{tasks_apart}
 use Rattle.strip_world.specs.World.{WorldData, no_worker, part_at, stripe_at, worker_at}
 use Rattle.strip_world.specs.Allowed.{WorkerMayEnlist}
 use Rattle.strip_hand.specs.Hand.{Knows}

@@ -1,2 +1,4 @@
 pub mod Way
 pub mod Justified
+pub mod Next
+pub mod Search

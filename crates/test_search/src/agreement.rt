@@ -2,11 +2,11 @@
 // order.
 ghost use Rattle.std.specs.Prelude.{◌≤◌};
 
+use crate::cheapest::cheapest_order;
 use crate::instances::{EIGHT, Film, PAIRED, RANDOM, TRIANGLE, WORKED, instance};
 use crate::searched::searched;
 use std::alloc::Global;
 use std::test::Fail;
-use strip_exhaustive::cheapest_order;
 use strip_film::{Film as Classes, Line};
 use strip_lines::Ended;
 use strip_model::Kind;

@@ -1,8 +1,9 @@
 // Films, as texts with pairs of scenes.
+use crate::lists::with_pairs;
 use std::alloc::Global;
 use std::test::Fail;
 use strip_instance::read_instance;
-use strip_model::{Instance, Pair};
+use strip_model::Instance;
 
 /// A film's text, and the pairs of its scenes: the first of each pair is shot before the second.
 pub(crate) struct Film {
@@ -13,14 +14,7 @@ pub(crate) struct Film {
 /// Makes the instance of the text, with these pairs.
 pub(crate) fn instance(alloc: Global, text: &str, pairs: &[(u16, u16)]) -> Result<Instance, Fail> {
     let inst = read_instance(alloc, text.as_bytes())?;
-    let mut list = Vec::new(alloc);
-    for &(first, then) in pairs {
-        list.push(Pair { first, then })?;
-    }
-    if !inst.fits_pairs(&list) {
-        return Err("pairs that fit".into());
-    }
-    Ok(inst.with_pairs(list))
+    with_pairs(alloc, inst, pairs)
 }
 
 pub(crate) const TRIANGLE: &str = "scene,days,a,b,c\nrate,,1,2,3\n\

@@ -1,13 +1,18 @@
-//! Tests of the parts of a search, for properties that no contract states, by calls that no command makes. Films, paths
-//! (partial schedules), initial orders, the transposition table, the world (search state) and trimmed lines are worked
-//! by hand. Some tests count lines: a search without table entries makes more, as does one without ranks. Searches from
-//! an initial order without local search are compared with a program that tries every order.
+//! Tests of the parts of a search and of reductions (preprocessing to classes), for properties that no contract states,
+//! by calls that no command makes. Expected values are worked by hand, come from an independent program, or are those of
+//! a brute-force optimum: `cheapest_order` tries every order that keeps the pairs (precedence constraints).
 #![tactic(auto)]
+
+mod cheapest;
+
+pub use cheapest::{Cheapest, cheapest_order};
 
 #[cfg(test)]
 mod agreement;
 #[cfg(test)]
 mod best;
+#[cfg(test)]
+mod classes;
 #[cfg(test)]
 mod films;
 #[cfg(test)]
@@ -15,11 +20,17 @@ mod forgetful;
 #[cfg(test)]
 mod instances;
 #[cfg(test)]
+mod kept;
+#[cfg(test)]
+mod lists;
+#[cfg(test)]
 mod notes;
 #[cfg(test)]
 mod paths;
 #[cfg(test)]
 mod ranks;
+#[cfg(test)]
+mod reduced;
 #[cfg(test)]
 mod runs;
 #[cfg(test)]

@@ -101,17 +101,6 @@ module _ (kind : Kind) (film : FilmData) (view : ViewData) (by : GoesBy kind fil
     justified = whole_justified kind film view.search view.lines by line number made some_ each;
   }
 
--- what holds of each number of a list and of one more holds of each of both
-pub each_more : (P : ℕ → Type 0) (done : List ℕ) (x : ℕ) → ((i : ℕ) → Contains done i → P i) → P x
-    → (i : ℕ) → Contains (done ++ x ∷ []) i → P i
-each_more P done x each one i there = elim (Contains-append_cases done (x ∷ []) i there) [
-  | inl before ↦ each i before
-  | inr last ↦ elim (contains_cases x [] i last) [
-    | inl same ↦ subst P same one
-    | inr none ↦ absurd (contains_none i none)
-  ]
-]
-
 -- ---- a search whose one task is a path of its film
 
 all_of_one : {X : Type 0} (P : X → Type 0) (x : X) → P x → All P (x ∷ [])

@@ -7,12 +7,13 @@ use Rattle.std.proofs.lemmas.List.{ext_get_or, get_or-map, length-map}
 use Rattle.std.proofs.lemmas.List.Elements.{All-append, All-cons, All-head, All-tail, All-map, All-weaker}
 use Rattle.std.proofs.lemmas.List.FromFn.{get_or-map-range_with_len, length-map-range_with_len}
 use Rattle.std.proofs.lemmas.Simd.{map-map}
+use Rattle.std.proofs.lemmas.List.Folds.{map_fixed}
 use Rattle.strip_model.specs.Pairs.{FitPairs}
 use Rattle.strip_model.specs.Data.{SceneData, ActorData, InstanceData, IsInstance, IsScene, IsActor}
 use Rattle.strip_text.specs.Field.{Field, trimmed}
 use Rattle.strip_text.specs.Number.{number_of}
 use Rattle.strip_text.specs.Rows.{Row, field_of}
-use Rattle.strip_text.proofs.Blanks.{map-same, trimmed-decimal}
+use Rattle.strip_text.proofs.Blanks.{trimmed-decimal}
 use Rattle.strip_text.proofs.Numbers.{number_of-decimal}
 use Rattle.strip_instance.specs.Field.{is_name}
 use Rattle.strip_instance.specs.Befores.{pairs_of}
@@ -38,7 +39,7 @@ all_kinds P false header rates hold scenes its_header its_rates its_hold rest =
 trimmed-header_fields : (actors : List ActorData) → All (λ actor. IsTextName is_name actor.name) actors
     → map trimmed (header_fields actors) ≡ header_fields actors
 trimmed-header_fields actors readable = ap (λ names. codes "scene" ∷ codes "days" ∷ names)
-    (map-same trimmed (map (λ actor. actor.name) actors) (All-map (λ field. trimmed field ≡ field) (λ actor. actor.name) actors
+    (map_fixed trimmed (map (λ actor. actor.name) actors) (All-map (λ field. trimmed field ≡ field) (λ actor. actor.name) actors
     (All-weaker (λ actor. IsTextName is_name actor.name) (λ actor. trimmed actor.name ≡ actor.name) (λ actor name. name.readable.bare) actors readable)))
 
 -- trimming changes no field of a row of rates
@@ -47,7 +48,7 @@ trimmed-pay_fields : (word : Field) (rate : ActorData → ℕ) (actors : List Ac
 trimmed-pay_fields word rate actors bare limits =
     let rates = map (λ (actor : ActorData). decimal (rate actor)) actors in
     ap (λ first. first ∷ [] ∷ map trimmed rates) bare ∙ ap (λ list. word ∷ [] ∷ list)
-    (map-same trimmed rates (All-map (λ field. trimmed field ≡ field) (λ actor. decimal (rate actor)) actors
+    (map_fixed trimmed rates (All-map (λ field. trimmed field ≡ field) (λ actor. decimal (rate actor)) actors
     (All-weaker (λ actor. rate actor ≤ 1_000_000_000) (λ actor. trimmed (decimal (rate actor)) ≡ decimal (rate actor))
     (λ actor low. trimmed-decimal (rate actor) (omega (arith, low))) actors limits)))
 
@@ -57,7 +58,7 @@ trimmed-scene_fields actors scene sound =
     let marks = map (mark_of scene.cast) (range_with_len 0 actors) in
     ap (λ name. name ∷ trimmed (decimal scene.days) ∷ map trimmed marks) sound.name.readable.bare
     ∙ ap (λ days. scene.name ∷ days ∷ map trimmed marks) (trimmed-decimal scene.days (omega (arith, sound.limits.days.1)))
-    ∙ ap (λ list. scene.name ∷ decimal scene.days ∷ list) (map-same trimmed marks
+    ∙ ap (λ list. scene.name ∷ decimal scene.days ∷ list) (map_fixed trimmed marks
     (All-map (λ field. trimmed field ≡ field) (mark_of scene.cast) (range_with_len 0 actors) (λ i d _. trimmed-mark_of scene.cast _)))
 
 -- there are as many names as scenes
@@ -78,7 +79,7 @@ trimmed-rows inst limits names sound =
     (All-weaker (IsSound n) (λ scene. trimmed scene.name ≡ scene.name) (λ scene is. is.name.readable.bare) inst.scenes sound) in
     let pairs : All Stays (map (pair_fields (names_of inst)) inst.pairs)
     = trimmed-pairs (names_of inst) (pairs-map (λ (scene : SceneData). scene.name) inst.scenes limits.scene_names) inst.pairs bare (fit_names inst limits.pairs).known in
-    map-same (map trimmed) (canonical_rows inst)
+    map_fixed (map trimmed) (canonical_rows inst)
     (all_kinds Stays (has_own_holds inst.actors) (header_fields inst.actors) (rate_fields inst.actors) (hold_fields inst.actors) (body_rows inst)
     (trimmed-header_fields inst.actors names)
     (trimmed-pay_fields (codes "rate") (λ actor. actor.rate) inst.actors refl (All-weaker IsActor (λ actor. actor.rate ≤ 1_000_000_000) (λ actor is. is.rate) inst.actors limits.actors))
@@ -176,7 +177,7 @@ instance_of-written inst limits =
     = ap (λ list. actors_of names list (holds_of list hold)) rates
     ∙ ap (actors_of names (map (λ actor. actor.rate) inst.actors)) (holds_of-fields own inst.actors refl limits.actors) ∙ actors_of-parts inst.actors in
     let scenes = ap (map scene_of) (scene_rows-all n inst.scenes limits.scenes) ∙ map-map scene_of (scene_fields n) inst.scenes
-    ∙ map-same (λ scene. scene_of (scene_fields n scene)) inst.scenes
+    ∙ map_fixed (λ scene. scene_of (scene_fields n scene)) inst.scenes
     (All-weaker (IsScene n) (λ scene. scene_of (scene_fields n scene) ≡ scene) (λ scene is. scene_of-scene_fields n scene is) inst.scenes limits.scenes) in
     let pairs : pairs_of (scene_names (map (scene_fields n) inst.scenes)) (map (pair_fields (names_of inst)) inst.pairs) ≡ inst.pairs
     = ap (λ (list : List Field). pairs_of list (map (pair_fields (names_of inst)) inst.pairs)) (scene_names-written inst limits)

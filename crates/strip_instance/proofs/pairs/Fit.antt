@@ -6,8 +6,7 @@ use Rattle.std.specs.String.{string_bytes}
 use Rattle.std.proofs.lemmas.List.{get_or-map, length-map, map-append, take_more}
 use Rattle.strip_model.specs.declared.pair.Pair.{Pair}
 use Rattle.strip_model.specs.Pairs.{FitPairs, IsChain, IsKnownPair, Leads}
-use Rattle.strip_model.proofs.Fits.{fit-push}
-use Rattle.strip_model.proofs.Leads.{no_chain}
+use Rattle.strip_model.proofs.Fits.{fit-push, fit-none}
 use Rattle.strip_model.proofs.Lists.{any_from, any_is}
 use Rattle.strip_instance.specs.Ways.{IsShortestWay, IsWay}
 use Rattle.strip_model.specs.declared.scene.Scene.{Scene}
@@ -24,14 +23,6 @@ use Rattle.strip_instance.specs.Faults.{before_checks, later_checks, pair_checks
 use Rattle.strip_instance.specs.Shown.{names_of}
 use Rattle.strip_instance.proofs.pairs.Ways.{IsStepped, found_shortest, joined_known, no_answer, same_pair-refl, same_pair-true, shortest_found, stepped-joined}
 use Rattle.strip_instance.proofs.pairs.SaidPairs.{empty_says_none, pairs_of-push, said-known}
-
--- without pairs nothing has to be kept
-pub no_pairs : (n : ℕ) → FitPairs n []
-no_pairs n = record {
-  known = λ k d within. absurd (omega arith);
-  once = λ i j d before within. absurd (omega arith);
-  no_cycle = λ cycle. no_chain cycle.scene cycle.between cycle.scene cycle.returns;
-}
 
 -- a way that is found leads from the one scene to the other
 steps_lead : (n : ℕ) (pairs : List Pair) (known : All (IsKnownPair n) pairs) (steps from to : ℕ) (way : List ℕ) → from ≢ to
@@ -98,7 +89,7 @@ pairs_of-next names rows k within =
 -- the pairs of the first rows, none of which has a fault
 pub fit_taken : (names : List Field) (first : ℕ) (rows : List Row) (k : ℕ) → k ≤ length rows → Hold (below k (later_checks names first rows))
     → FitPairs (length names) (pairs_of names (take k rows))
-fit_taken names first rows zero within hold = no_pairs (length names)
+fit_taken names first rows zero within hold = fit-none (length names)
 fit_taken names first rows (suc k) within hold =
     let before = fit_taken names first rows k (omega arith) (held-fewer k (later_checks names first rows) hold) in
     let here = held-below (suc k) (later_checks names first rows) k (omega arith) hold in

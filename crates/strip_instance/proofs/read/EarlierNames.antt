@@ -1,9 +1,10 @@
 -- Names that were read before.
-use Rattle.std.proofs.Common.{◌≡◌, ◌<◌, ◌≤◌, ◌+◌, ◌||◌, ℕ, Bool, true, false, List, [], ◌∷◌, ◌++◌, length, get_or, map, take, refl, sym, ap, ◌∙◌, Bor, zero, suc, arith}
+use Rattle.std.proofs.Common.{◌≡◌, ◌<◌, ◌≤◌, ◌+◌, ◌||◌, ℕ, true, false, List, [], ◌∷◌, ◌++◌, length, get_or, map, take, sym, ap, ◌∙◌, Bor, zero, suc, arith}
 use Rattle.std.specs.Str.{bytes_eq}
-use Rattle.std.proofs.lemmas.Bool.{or_from}
+use Rattle.std.proofs.lemmas.Bool.{or_from, or_left, or_right}
 use Rattle.std.proofs.lemmas.List.{get_or-take, length-take-le, map-append, take_more}
 use Rattle.std.proofs.lemmas.Simd.{map-map}
+use Rattle.std.proofs.Math.Bool.{or_assoc, or-false}
 use Rattle.strip_text.specs.Field.{Field}
 use Rattle.strip_text.specs.Rows.{Row, field_of}
 use Rattle.strip_model.specs.Data.{SceneData}
@@ -20,17 +21,9 @@ names-pushed fields k so_far pushed name within is before its =
 
 -- a name behind others is the one, or it is among them
 contains-push : (names : List Field) (name other : Field) → contains (names ++ other ∷ []) name ≡ (contains names name || bytes_eq name other)
-contains-push [] name other = or_none (bytes_eq name other)
-  where
-    or_none : (b : Bool) → (b || false) ≡ b
-    or_none true = refl
-    or_none false = refl
+contains-push [] name other = or-false (bytes_eq name other)
 contains-push (first ∷ names) name other =
-    ap (λ b. bytes_eq name first || b) (contains-push names name other) ∙ or_assoc (bytes_eq name first) (contains names name) (bytes_eq name other)
-  where
-    or_assoc : (a b d : Bool) → (a || (b || d)) ≡ ((a || b) || d)
-    or_assoc true b d = refl
-    or_assoc false b d = refl
+    ap (λ b. bytes_eq name first || b) (contains-push names name other) ∙ sym (or_assoc (bytes_eq name first) (contains names name) (bytes_eq name other))
 
 -- neither among the first names nor the next one
 pub not_in-more : (names : List Field) (k : ℕ) (name : Field) → k < length names → contains (take k names) name ≡ false
@@ -42,16 +35,8 @@ not_in-more names k name within none other =
 -- one that is the name at a place
 pub is_in : (names : List Field) (place : ℕ) (name : Field) → place < length names → bytes_eq name (get_or names place []) ≡ true → contains names name ≡ true
 is_in [] place name within same = absurd (omega arith)
-is_in (first ∷ names) zero name within same = or-left _ _ same
-  where
-    or-left : (a b : Bool) → a ≡ true → (a || b) ≡ true
-    or-left true b yes_it_is = refl
-    or-left false b yes_it_is = cc yes_it_is
-is_in (first ∷ names) (suc place) name within same = or-right _ _ (is_in names place name (omega arith) same)
-  where
-    or-right : (a b : Bool) → b ≡ true → (a || b) ≡ true
-    or-right true b yes_it_is = refl
-    or-right false b yes_it_is = yes_it_is
+is_in (first ∷ names) zero name within same = or_left _ _ same
+is_in (first ∷ names) (suc place) name within same = or_right _ _ (is_in names place name (omega arith) same)
 
 -- one of the first names
 pub is_in-first : (names : List Field) (k place : ℕ) (name : Field) → place < k → k ≤ length names

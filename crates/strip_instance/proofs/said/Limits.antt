@@ -1,6 +1,6 @@
 -- What fields without a fault keep: the limits.
-use Rattle.std.proofs.Common.{◌≡◌, ◌≢◌, ◌<◌, ◌≤◌, ℕ, zero, suc, Bool, true, false, not, ◌||◌, List, [], ◌∷◌, length, get_or, refl, ap, sym, ◌∙◌, inl, inr, arith}
-use Rattle.std.proofs.lemmas.Bool.{cases_lt, leb-true, false≢true}
+use Rattle.std.proofs.Common.{◌≡◌, ◌≢◌, ◌<◌, ◌≤◌, ℕ, zero, suc, true, not, List, [], ◌∷◌, length, get_or, ap, sym, ◌∙◌, inl, inr, arith}
+use Rattle.std.proofs.lemmas.Bool.{cases_lt, leb-true, false≢true, or_left, or_right}
 use Rattle.std.proofs.lemmas.List.{get_or_past}
 use Rattle.std.proofs.lemmas.Slice.Eq.{bytes_eq-Decides}
 use Rattle.strip_mask.specs.Set.{has}
@@ -37,16 +37,8 @@ cast-limits marks actor there = elim (cases_lt actor (length marks)) [
 -- a name that stands among others is found there
 found : (names : List Field) (name : Field) (place : ℕ) → place < length names → get_or names place [] ≡ name → contains names name ≡ true
 found [] name place within is = absurd (omega arith)
-found (other ∷ names) name zero within is = or-left _ _ ((bytes_eq-Decides name other).1 (sym is))
-  where
-    or-left : (a b : Bool) → a ≡ true → (a || b) ≡ true
-    or-left true b yes_it_is = refl
-    or-left false b yes_it_is = cc yes_it_is
-found (other ∷ names) name (suc place) within is = or-right _ _ (found names name place (omega arith) is)
-  where
-    or-right : (a b : Bool) → b ≡ true → (a || b) ≡ true
-    or-right true b yes_it_is = refl
-    or-right false b yes_it_is = yes_it_is
+found (other ∷ names) name zero within is = or_left _ _ ((bytes_eq-Decides name other).1 (sym is))
+found (other ∷ names) name (suc place) within is = or_right _ _ (found names name place (omega arith) is)
 
 -- a name that isn't among others differs from each
 pub not_found : (names : List Field) (name : Field) (place : ℕ) → not (contains names name) ≡ true → place < length names → get_or names place [] ≢ name

@@ -1,7 +1,7 @@
 -- The names of what a text says are names that a text can say.
 use Rattle.std.proofs.Common.{◌≡◌, ℕ, ◌<◌, ◌+◌, Bool, true, false, not, List, [], ◌∷◌, ◌++◌, length, get_or, take, drop, All, refl, sym, ◌∙◌, subst, arith, if◌then◌else◌}
 use Rattle.std.specs.List.{position_or_len}
-use Rattle.std.proofs.lemmas.Bool.{false≢true}
+use Rattle.std.proofs.lemmas.Bool.{false≢true, not-true}
 use Rattle.std.proofs.lemmas.List.FromFn.{get_or-map-range_with_len, length-map-range_with_len}
 use Rattle.std.proofs.lemmas.List.Elements.{All-head, All-drop, All-take, All-filter, All-map, All-from_get_or, filter_passes}
 use Rattle.strip_model.specs.Data.{ActorData, SceneData}
@@ -52,13 +52,9 @@ scenes-readable parts trim hold =
     = All-filter IsKept IsNamed body (All-from_get_or IsNamed body [] (λ k within. scene-named parts k within hold)) in
     let bare : All IsTrimmedRow (scene_rows body) = All-filter IsKept IsTrimmedRow body trim in
     λ k d within. record {
-      passes = named k d within (kept _ (filter_passes IsKept body k d within));
+      passes = named k d within (not-true _ (filter_passes IsKept body k d within));
       bare = trimmed-field_of (get_or (scene_rows body) k d) 0 (bare k d within);
     }
-  where
-    kept : (b : Bool) → not b ≡ true → b ≡ false
-    kept true is = cc
-    kept false is = refl
 
 -- the instance of parts without a fault has readable names
 parts-readable : (parts : Parts) → IsTrimmedRow parts.header → All IsTrimmedRow parts.scenes

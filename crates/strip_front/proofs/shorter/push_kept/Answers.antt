@@ -4,17 +4,15 @@ use Rattle.strip_mask.specs.Set.{has, size}
 use Rattle.strip_mask.proofs.Sizes.{size-without}
 use Rattle.strip_model.specs.Film.{FilmData}
 use Rattle.strip_film.specs.Film.{IsFilm}
-use Rattle.strip_film.specs.Path.{IsPath, PathData}
+use Rattle.strip_film.specs.Path.{IsPath, PathData, extended}
 use Rattle.strip_film.specs.Shown.{path_data, turns_data}
 use Rattle.strip_film.proofs.Paths.{rest_lies}
 use Rattle.strip_rule.specs.Rule.{open_firsts}
 use Rattle.strip_rule.proofs.Firsts.{first_there}
 use Rattle.strip_lines.specs.Lines.{rules_of}
-use Rattle.strip_lines.specs.Paths.{path_along}
 use Rattle.strip_paths.specs.Shown.{paths_of}
-use Rattle.strip_paths.proofs.After.{path_is}
 use Rattle.strip_paths.proofs.Open.{first_ready, set_is}
-use Rattle.strip_front.proofs.Onward.{AreWaiting, found_all, found_first, found_one, found_past, longer, pushed_more, wait_first, wait_still}
+use Rattle.strip_front.proofs.Onward.{AreWaiting, found_all, found_first, found_one, found_past, pushed_more, wait_first, wait_still}
 use Rattle.strip_front.proofs.shorter.push_kept.Given.{Over}
 use Rattle.strip_front.proofs.shorter.push_kept.Goals as goal
 use Rattle.strip_front.proofs.shorter.push_kept.Goals.{After-has, In-Some}
@@ -73,10 +71,10 @@ of_film : (g : Over) (c : goal.After-has g) → IsPath c.args.kept.now.film.now 
 of_film g c = subst (λ (f : FilmData). IsPath f (path_data c.extend-longer.result)) c.film-film.ensures c.extend-longer.ensures.path
 
 along : (g : Over) (c : goal.After-has g)
-    → path_data c.extend-longer.result ≡ longer (rules_of c.args.kept.now.kind c.args.kept.now.film.now) (paths_of c.args.layer.now) (path_data c.args.path.now) c.in-Some.scene
+    → path_data c.extend-longer.result ≡ extended c.args.kept.now.film.now (path_data c.args.path.now) c.in-Some.scene
 along g c =
-    path_is c.args.kept.now.film.now (path_data c.extend-longer.result) (of_film g c)
-    ∙ ap (λ (p : PathData). path_along c.args.kept.now.film.now p.scenes) c.extend-longer.ensures.extended
+    c.extend-longer.ensures.extended
+    ∙ ap (λ (f : FilmData). extended f (path_data c.args.path.now) c.in-Some.scene) c.film-film.ensures
 
 pub loop-scene-preserved-in-Continue-1 : goal.loop-scene-preserved-in-Continue-1
 loop-scene-preserved-in-Continue-1 g c =
@@ -89,9 +87,9 @@ loop-scene-preserved-in-Continue-1 g c =
     record {
       wait = still g (goal.at.loop-scene-preserved-in-Continue-1 g c).In-Some;
       found = (
-        found ++ longer rules layer path c.in-Some.scene ∷ [],
+        found ++ extended rules.film path c.in-Some.scene ∷ [],
         pushed_more path_data c.loop-scene.paths.items c.push.new.self.items c.extend-longer.result (map path_data c.args.paths.now.items) found
-            (longer rules layer path c.in-Some.scene) c.in_ok-push.ensures.items c.loop-scene.invariant.found.1 is,
+            (extended rules.film path c.in-Some.scene) c.in_ok-push.ensures.items c.loop-scene.invariant.found.1 is,
         found_one rules layer path (turns_data c.loop-scene.turns) (turns_data c.take_next.new.self) c.in-Some.scene found c.loop-scene.invariant.wait
             c.in-Some.ensures c.loop-scene.invariant.found.2 c.requires.path.left
             (subst (Contains layer) is ((c.has.ensures c.args.kept.now.film.now c.requires.layer c.requires.apart (of_film g at)).0 c.if-has.true)),

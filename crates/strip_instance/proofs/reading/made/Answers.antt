@@ -2,7 +2,7 @@ use Rattle.std.proofs.Common.{[], length, sym, ap, subst}
 use Rattle.std.proofs.lemmas.Bool.{false≢true}
 use Rattle.strip_model.specs.Pairs.{FitPairs}
 use Rattle.strip_model.specs.Data.{InstanceData, IsInstance}
-use Rattle.strip_instance.proofs.pairs.Fit.{no_pairs}
+use Rattle.strip_model.proofs.Fits.{fit-none}
 use Rattle.strip_instance.proofs.reading.made.Goals as goal
 
 pub with_pairs-requires : goal.with_pairs-requires
@@ -17,7 +17,7 @@ without_pairs inst limits = record {
   actors = limits.actors;
   scene_names = limits.scene_names;
   actor_names = limits.actor_names;
-  pairs = no_pairs (length inst.scenes);
+  pairs = fit-none (length inst.scenes);
 }
 
 pub unreachable-requires : goal.unreachable-requires

@@ -1,5 +1,5 @@
-use Rattle.std.proofs.Common.{◌≡◌, ◌-◌, ◌≤◌, ℕ, suc, Bool, List, Option, Some, false, not, true, ap, arith, get_or, refl, subst, sym}
-use Rattle.std.proofs.lemmas.Bool.{false≢true}
+use Rattle.std.proofs.Common.{◌-◌, ◌≤◌, ℕ, suc, List, Option, Some, ap, arith, get_or, subst, sym}
+use Rattle.std.proofs.lemmas.Bool.{not-true}
 use Rattle.strip_model.specs.declared.kind.Kind.{Kind}
 use Rattle.strip_model.specs.Film.{FilmData}
 use Rattle.strip_film.specs.Film.{IsFilm}
@@ -69,12 +69,8 @@ gone_of g t c =
     (search_data c.go_on.new.search)) c.in_ok-asks.ensures.search
     (c.in_ok-layer.ensures.goes_on (c.args.left - 1) c.args.walk.limit (limit_of g t at) (level_of g t at) (looked_of g t at))
 
-not_true : (b : Bool) → not b ≡ true → b ≡ false
-not_true true is = absurd (false≢true is)
-not_true false is = refl
-
 pub returns-then-not-walk-clause-walked : goal.returns-then-not-walk-clause-walked
-returns-then-not-walk-clause-walked g t c = (not_true c.args.walk.may_spend c.if-not-walk.true, (gone_of g t (goal.at.returns-then-not-walk-clause-walked g t c).In_ok-layer).extends)
+returns-then-not-walk-clause-walked g t c = (not-true c.args.walk.may_spend c.if-not-walk.true, (gone_of g t (goal.at.returns-then-not-walk-clause-walked g t c).In_ok-layer).extends)
 
 pub returns-then-not-walk-clause-found : goal.returns-then-not-walk-clause-found
 returns-then-not-walk-clause-found g t c =

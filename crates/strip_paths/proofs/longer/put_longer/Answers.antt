@@ -1,15 +1,13 @@
-use Rattle.std.proofs.Common.{◌≡◌, ◌∙◌, ◌+◌, ◌*◌, ℕ, ap, arith, length, slice_index}
+use Rattle.std.proofs.Common.{◌≡◌, ◌∙◌, ◌+◌, ◌*◌, ℕ, ap, arith, slice_index}
 use Rattle.strip_mask.specs.Set.{minus, sum_over}
-use Rattle.strip_mask.proofs.Below.{is_set_below}
 use Rattle.strip_mask.proofs.ByMembers.{below_64}
 use Rattle.strip_model.specs.Film.{FilmData}
-use Rattle.strip_film.specs.Path.{PathData}
+use Rattle.strip_film.specs.Path.{PathData, extended}
 use Rattle.strip_film.specs.Shoot.{on_location, step_cost}
 use Rattle.strip_film.specs.Shown.{path_data}
 use Rattle.strip_film.proofs.Lists.{ready_there}
 use Rattle.strip_film.proofs.Located.{location_lies}
-use Rattle.strip_film.proofs.Paths.{IsPath-extended, path_limit, rest_lies}
-use Rattle.strip_paths.proofs.After.{extended}
+use Rattle.strip_film.proofs.Paths.{IsPath-extended, path_limit, rest_lies, rest_set}
 use Rattle.strip_paths.proofs.longer.put_longer.Goals as goal
 
 pub step_with-step-requires-clause-known : goal.step_with-step-requires-clause-known
@@ -36,7 +34,7 @@ overflow_add-paid c =
       arith,
       step_is film path.rest c.args.scene c.args.on.0 c.step_with-step.result c.step_with-step.ensures c.requires.on,
       c.paid.ensures,
-      path_limit film (extended film path c.args.scene) (IsPath-extended film path c.requires.path c.keeps_limits.ensures c.args.scene c.requires.ready) c.keeps_limits.ensures,
+      path_limit film (extended film path c.args.scene) (IsPath-extended film path c.requires.path c.args.scene c.requires.ready) c.keeps_limits.ensures,
     )
 
 pub extend_with-requires-clause-step : goal.extend_with-requires-clause-step
@@ -47,5 +45,5 @@ pub without-requires : goal.without-requires
 without-requires c =
     let film : FilmData = c.args.film.now in
     let path : PathData = path_data c.args.path.now in
-    below_64 path.rest c.args.scene (is_set_below (length film.casts) path.rest c.keeps_limits.ensures.scene_count.1 (rest_lies film path c.requires.path))
+    below_64 path.rest c.args.scene (rest_set film path c.requires.path c.keeps_limits.ensures)
     (ready_there film path.rest c.args.scene c.requires.ready)

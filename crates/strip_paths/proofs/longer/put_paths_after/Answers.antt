@@ -1,13 +1,12 @@
 use Rattle.std.proofs.Common.{◌∙◌, ℕ, List, ap, fold, map}
 use Rattle.strip_mask.specs.Iter.{rest_of}
 use Rattle.strip_mask.proofs.Turns.{turn_member, turns_all}
-use Rattle.strip_film.specs.Path.{PathData}
+use Rattle.strip_film.specs.Path.{PathData, extended}
 use Rattle.strip_film.specs.Shown.{path_data}
 use Rattle.strip_film.proofs.Paths.{rest_lies}
 use Rattle.strip_rule.specs.Rule.{open_firsts}
 use Rattle.strip_paths.specs.Paths.{with_path}
 use Rattle.strip_paths.specs.Shown.{paths_of}
-use Rattle.strip_paths.proofs.After.{all_extended, extended}
 use Rattle.strip_paths.proofs.Open.{first_ready}
 use Rattle.strip_paths.proofs.longer.put_paths_after.Goals as goal
 
@@ -29,4 +28,3 @@ returns c =
     c.loop-scene.invariant.so_far
     ∙ ap (λ (scenes : List ℕ). fold with_path (paths_of c.args.paths.now) (map (extended film path) scenes))
     (turns_all (open_firsts film path.rest) c.loop-scene.yielded (rest_of c.loop-scene.scene-iterator) c.loop-scene.invariant.turns c.in-None.ensures.steps.0)
-    ∙ ap (fold with_path (paths_of c.args.paths.now)) (all_extended film path c.requires.path)

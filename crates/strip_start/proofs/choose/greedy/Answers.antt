@@ -7,7 +7,7 @@ use Rattle.strip_film.specs.Film.{all_scenes}
 use Rattle.strip_film.specs.Path.{PathData}
 use Rattle.strip_film.specs.Shown.{running_data}
 use Rattle.strip_film.proofs.Lists.{ready_there}
-use Rattle.strip_film.proofs.Paths.{rest_lies}
+use Rattle.strip_film.proofs.Paths.{rest_lies, one_fewer}
 use Rattle.strip_start.specs.Greedy.{IsGreedy, IsLeastStep}
 use Rattle.strip_start.proofs.Leasts.{greedy_more}
 use Rattle.strip_start.proofs.choose.greedy.Goals as goal
@@ -17,10 +17,8 @@ loop-scene-smaller c =
     let film : FilmData = c.args.film.now in
     let path : PathData = (running_data c.loop-scene.state).path in
     let scene : ℕ = c.in-Some.scene in
-    let set : IsSet path.rest
-    = is_set_below (length film.casts) path.rest c.keeps_limits.ensures.scene_count.1 (rest_lies film path c.loop-scene.invariant.running.path) in
     let fewer : size (without path.rest scene) + 1 ≡ size path.rest
-    = size-without path.rest scene set (ready_there film path.rest scene c.in-Some.ensures.some.is_ready) in
+    = one_fewer film path c.loop-scene.invariant.running.path c.keeps_limits.ensures scene c.in-Some.ensures.some.is_ready in
     let left : size (running_data c.take.new.self).path.rest ≡ size (without path.rest scene) = ap (λ (p : PathData). size p.rest) c.take.ensures.path in
     omega (arith, fewer, left)
 

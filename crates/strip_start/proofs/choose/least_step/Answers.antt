@@ -10,16 +10,13 @@ use Rattle.strip_film.specs.Path.{IsPath, PathData}
 use Rattle.strip_film.specs.Shoot.{behind, ready}
 use Rattle.strip_film.specs.Shown.{running_data}
 use Rattle.strip_film.proofs.Lists.{ready_there}
-use Rattle.strip_film.proofs.Paths.{rest_lies}
+use Rattle.strip_film.proofs.Paths.{rest_lies, rest_set}
 use Rattle.strip_start.specs.declared.choose.Choice.{Choice}
 use Rattle.strip_start.proofs.Chosen.{IsLeastAmong, least_of_all, least_tries, none_of_all}
 use Rattle.strip_start.proofs.choose.least_step.Goals as goal
 
-rest_set : (film : FilmData) (path : PathData) → IsFilm film → IsPath film path → IsSet path.rest
-rest_set film path limits is = is_set_below (length film.casts) path.rest limits.scene_count.1 (rest_lies film path is)
-
 ready_set : (film : FilmData) (path : PathData) → IsFilm film → IsPath film path → IsSet (ready film path.rest)
-ready_set film path limits is = IsSet-minus path.rest (behind film.pairs path.rest) (rest_set film path limits is)
+ready_set film path limits is = IsSet-minus path.rest (behind film.pairs path.rest) (rest_set film path is limits)
 
 pub ready-requires : goal.ready-requires
 ready-requires c = rw c.rest.ensures (rest_lies c.args.film.now (running_data c.args.state.now).path c.requires.path)
@@ -54,6 +51,6 @@ returns-in_err-best-clause-none c = λ _.
     let tried : List ℕ = c.loop-scene.yielded in
     let all : tried ≡ members (ready film path.rest)
     = turns_all (ready film path.rest) tried (rest_of c.loop-scene.scene-iterator) c.loop-scene.invariant.turns c.in-None.ensures.steps.0 in
-    none_of_all film path.rest tried all c.keeps_limits.ensures (rest_set film path c.keeps_limits.ensures c.requires.path)
+    none_of_all film path.rest tried all c.keeps_limits.ensures (rest_set film path c.requires.path c.keeps_limits.ensures)
     (ready_set film path c.keeps_limits.ensures c.requires.path)
     (subst (λ (best : Option Choice). IsLeastAmong film path.rest tried best) c.in_err-best.was c.loop-scene.invariant.best)

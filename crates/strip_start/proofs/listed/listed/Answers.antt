@@ -10,7 +10,7 @@ use Rattle.strip_film.specs.Path.{PathData}
 use Rattle.strip_film.specs.Shoot.{ready}
 use Rattle.strip_film.specs.Shown.{path_data}
 use Rattle.strip_film.proofs.Lists.{ready_there}
-use Rattle.strip_film.proofs.Paths.{rest_lies}
+use Rattle.strip_film.proofs.Paths.{rest_lies, one_fewer, rest_set}
 use Rattle.strip_start.proofs.listed.listed.Goals as goal
 
 -- of a set of the film's scenes those that are ready are a set
@@ -50,10 +50,9 @@ loop-scene-smaller c =
     let path : PathData = path_data c.loop-scene.path in
     let scene : ℕ = c.in-Some.scene in
     let lies = rest_lies film path c.loop-scene.invariant.path in
-    let set : IsSet path.rest = is_set_below (length film.casts) path.rest c.keeps_limits.ensures.scene_count.1 lies in
     let there = first_ready film path.rest c.ready.result.0 scene c.keeps_limits.ensures.scene_count.1 lies (c.ready.ensures ∙ ap (ready film) c.rest.ensures)
     (sym c.first.ensures ∙ c.in-Some.is) in
-    let fewer : size (without path.rest scene) + 1 ≡ size path.rest = size-without path.rest scene set (ready_there film path.rest scene there) in
+    let fewer : size (without path.rest scene) + 1 ≡ size path.rest = one_fewer film path c.loop-scene.invariant.path c.keeps_limits.ensures scene there in
     let left : size (path_data c.extend-path.result).rest ≡ size (without path.rest scene) = ap (λ (p : PathData). size p.rest) c.extend-path.ensures.extended in
     omega (arith, fewer, left)
 
@@ -62,7 +61,7 @@ returns c =
     let film : FilmData = c.args.film.now in
     let path : PathData = path_data c.loop-scene.path in
     let lies = rest_lies film path c.loop-scene.invariant.path in
-    let set : IsSet path.rest = is_set_below (length film.casts) path.rest c.keeps_limits.ensures.scene_count.1 lies in (
+    let set : IsSet path.rest = rest_set film path c.loop-scene.invariant.path c.keeps_limits.ensures in (
       c.loop-scene.invariant.path,
       none_left film path.rest c.ready.result.0 c.keeps_limits.ensures.scene_count.1 lies (c.ready.ensures ∙ ap (ready film) c.rest.ensures)
           (sym c.first.ensures ∙ c.in_default.is) (c.each_set_has_a_ready_scene.ensures film path.rest c.keeps_limits.ensures set),

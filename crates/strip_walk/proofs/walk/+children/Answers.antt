@@ -1,27 +1,26 @@
-use Rattle.std.proofs.Common.{◌≡◌, ℕ, ◌+◌, ◌<◌, min, true, false, ◌||◌, Ok, Err, length, sym, ap, ◌∙◌, subst, refl, arith}
+use Rattle.std.proofs.Common.{◌≡◌, ℕ, ◌+◌, min, true, false, ◌||◌, Ok, Err, sym, ap, ◌∙◌, subst, refl, arith}
 use Rattle.strip_mask.specs.Set.{has, size, without}
-use Rattle.strip_mask.proofs.Below.{is_set_below}
 use Rattle.strip_mask.proofs.ByMembers.{below_64}
 use Rattle.strip_mask.proofs.Sizes.{size-without}
 use Rattle.strip_model.specs.Film.{FilmData}
 use Rattle.strip_film.specs.Film.{IsFilm, LiesIn}
-use Rattle.strip_film.specs.Path.{PathData}
+use Rattle.strip_film.specs.Path.{PathData, extended}
 use Rattle.strip_film.specs.Shoot.{step_cost}
 use Rattle.strip_film.specs.Running.{IsRunning}
 use Rattle.strip_film.specs.Shown.{cursor_data, path_data, running_data, turns_data}
 use Rattle.strip_film.specs.Turns.{TakesNext}
-use Rattle.strip_film.proofs.Paths.{IsPath-extended, path_limit, rest_lies}
+use Rattle.strip_film.proofs.Paths.{path_limit, rest_lies, one_fewer, rest_set}
 use Rattle.strip_rule.proofs.Firsts.{first_there}
 use Rattle.strip_rule.proofs.Open.{open_is}
 use Rattle.strip_hand.specs.Search.{SearchData, search_rules}
 use Rattle.strip_walk.specs.Found.{IsFound, MayExplore}
 use Rattle.strip_walk.specs.Walked.{Explores, Walks}
-use Rattle.strip_walk.specs.Begun.{BeginsWalk, IsFirst, IsThrough, Offers, shot}
+use Rattle.strip_walk.specs.Begun.{BeginsWalk, IsFirst, IsThrough, Offers}
 use Rattle.strip_walk.specs.Sifted.{to_walk}
 use Rattle.strip_walk.specs.declared.found.Begun.{Begun}
 use Rattle.strip_walk.specs.declared.found.Begun.TheVariants.{Enlisted}
 use Rattle.strip_walk.proofs.Answered.{cut_explores}
-use Rattle.strip_walk.proofs.Ended.{closes, fewer, line_stays, may_raise, offered_explores}
+use Rattle.strip_walk.proofs.Ended.{closes, line_stays, may_raise, offered_explores}
 use Rattle.strip_walk.proofs.Settled.{AreSettled, may_child, settled_more, settled_none, sifted_by}
 use Rattle.strip_walk.proofs.Stayed.{explores_after, may_still, refused_after}
 use Rattle.strip_walk.proofs.Turned.{first_ready, if_ok_holds, next_is, still_ranked, sum_fits, taken, turn_refused, turn_walks}
@@ -72,11 +71,10 @@ walk_on-walk_child-requires g t c κs within =
     = c.loop-s.invariant.settled.within c.in-Some.s c.in-Some.ensures.0.waits in
     let here : SearchData = (g.H.Hand.shows c.loop-s.hand).search in
     let now : PathData = path_data c.loop-s.running.path in
-    let child_is : shot here now c.in-Some.s ≡ shot search path c.in-Some.s
-    = (λ i. shot (c.loop-s.invariant.walks.search i) (c.loop-s.invariant.path i) c.in-Some.s) in
+    let child_is : extended here.film now c.in-Some.s ≡ extended search.film path c.in-Some.s
+    = (λ i. extended (c.loop-s.invariant.walks.search i).film (c.loop-s.invariant.path i) c.in-Some.s) in
     let is : IsFilm search.film = subst IsFilm (c.film-film.ensures ∙ sym c.requires.search.0) c.keeps_limits.ensures in
-    let less : size (without path.rest c.in-Some.s) < size path.rest
-    = fewer search.film path c.in-Some.s is (rest_lies search.film path c.requires.may.is_open.0) first in
+    let less = one_fewer search.film path c.requires.may.is_open.0 is c.in-Some.s (open_is search.film path.rest c.in-Some.s first).0 in
     let same : size (without now.rest c.in-Some.s) ≡ size (without path.rest c.in-Some.s)
     = ap (λ (p : PathData). size (without p.rest c.in-Some.s)) c.loop-s.invariant.path in (
       omega (arith, less, same, c.decreases),
@@ -102,8 +100,7 @@ walk_on-walk_child-requires g t c κs within =
                         subst (MayExplore (g.H.Hand.shows c.loop-s.hand) (cursor_data c.loop-s.cursor)) (sym child_is)
                             (may_child (g.H.Hand.shows c.args.hand.now) (g.H.Hand.shows c.loop-s.hand) (cursor_data c.args.cursor.now) (cursor_data c.loop-s.cursor) path
                             (to_walk c.loop-s.sifted) c.loop-s.sifted.least c.loop-s.spent c.in-Some.s c.requires.may c.loop-s.invariant.walks c.loop-s.invariant.settled
-                            c.in-Some.ensures.0.waits
-                            (IsPath-extended search.film path c.requires.may.is_open.0 is c.in-Some.s (open_is search.film path.rest c.in-Some.s first).0)),
+                            c.in-Some.ensures.0.waits),
                       ),
                     ),
                   ),
@@ -124,10 +121,10 @@ walk_on-returns-in_err-found-2-clause-explored g t c =
     let path : PathData = path_data c.args.running.now.path in
     let here : SearchData = (g.H.Hand.shows c.loop-s.hand).search in
     let now : PathData = path_data c.loop-s.running.path in
-    let child_is : shot here now c.in-Some.s ≡ shot search path c.in-Some.s
-    = (λ i. shot (c.loop-s.invariant.walks.search i) (c.loop-s.invariant.path i) c.in-Some.s) in
+    let child_is : extended here.film now c.in-Some.s ≡ extended search.film path c.in-Some.s
+    = (λ i. extended (c.loop-s.invariant.walks.search i).film (c.loop-s.invariant.path i) c.in-Some.s) in
     turn_refused (g.H.Hand.shows c.args.hand.now) (g.H.Hand.shows c.loop-s.hand) (g.H.Hand.shows c.walk_child.new.hand) (cursor_data c.args.cursor.now) (cursor_data c.loop-s.cursor)
-    (cursor_data c.walk_child.new.cursor) path (shot here now c.in-Some.s) c.in-Some.s c.loop-s.invariant.limits.few c.loop-s.invariant.walks child_is
+    (cursor_data c.walk_child.new.cursor) path (extended here.film now c.in-Some.s) c.in-Some.s c.loop-s.invariant.limits.few c.loop-s.invariant.walks child_is
     c.from_residual-in_err-found-2.result c.in_err-found-2.field-0.0 c.from_residual-in_err-found-2.ensures.0 c.in_err-found-2.ensures.explored
 
 pub walk_on-overflow_add-step : goal.walk_on-overflow_add-step
@@ -138,10 +135,10 @@ walk_on-overflow_add-step g t c =
     = c.loop-s.invariant.settled.within c.in-Some.s c.in-Some.ensures.0.waits in
     let here : SearchData = (g.H.Hand.shows c.loop-s.hand).search in
     let now : PathData = path_data c.loop-s.running.path in
-    let child_is : shot here now c.in-Some.s ≡ shot search path c.in-Some.s
-    = (λ i. shot (c.loop-s.invariant.walks.search i) (c.loop-s.invariant.path i) c.in-Some.s) in
-    let explored : Walks (g.H.Hand.shows c.loop-s.hand) (cursor_data c.loop-s.cursor) (shot search path c.in-Some.s) (g.H.Hand.shows c.walk_child.new.hand) (cursor_data c.walk_child.new.cursor)
-    × IsFound (g.H.Hand.shows c.walk_child.new.hand) (cursor_data c.walk_child.new.cursor) (shot search path c.in-Some.s) c.in_ok-found-2.found
+    let child_is : extended here.film now c.in-Some.s ≡ extended search.film path c.in-Some.s
+    = (λ i. extended (c.loop-s.invariant.walks.search i).film (c.loop-s.invariant.path i) c.in-Some.s) in
+    let explored : Walks (g.H.Hand.shows c.loop-s.hand) (cursor_data c.loop-s.cursor) (extended search.film path c.in-Some.s) (g.H.Hand.shows c.walk_child.new.hand) (cursor_data c.walk_child.new.cursor)
+    × IsFound (g.H.Hand.shows c.walk_child.new.hand) (cursor_data c.walk_child.new.cursor) (extended search.film path c.in-Some.s) c.in_ok-found-2.found
     = subst (λ (p : PathData). Walks (g.H.Hand.shows c.loop-s.hand) (cursor_data c.loop-s.cursor) p (g.H.Hand.shows c.walk_child.new.hand) (cursor_data c.walk_child.new.cursor)
     × IsFound (g.H.Hand.shows c.walk_child.new.hand) (cursor_data c.walk_child.new.cursor) p c.in_ok-found-2.found)
     child_is c.in_ok-found-2.ensures.explored in
@@ -161,10 +158,10 @@ walk_on-loop-s-preserved g t c =
     let path : PathData = path_data c.args.running.now.path in
     let here : SearchData = (g.H.Hand.shows c.loop-s.hand).search in
     let now : PathData = path_data c.loop-s.running.path in
-    let child_is : shot here now c.in-Some.s ≡ shot search path c.in-Some.s
-    = (λ i. shot (c.loop-s.invariant.walks.search i) (c.loop-s.invariant.path i) c.in-Some.s) in
-    let explored : Walks (g.H.Hand.shows c.loop-s.hand) (cursor_data c.loop-s.cursor) (shot search path c.in-Some.s) (g.H.Hand.shows c.walk_child.new.hand) (cursor_data c.walk_child.new.cursor)
-    × IsFound (g.H.Hand.shows c.walk_child.new.hand) (cursor_data c.walk_child.new.cursor) (shot search path c.in-Some.s) c.in_ok-found-2.found
+    let child_is : extended here.film now c.in-Some.s ≡ extended search.film path c.in-Some.s
+    = (λ i. extended (c.loop-s.invariant.walks.search i).film (c.loop-s.invariant.path i) c.in-Some.s) in
+    let explored : Walks (g.H.Hand.shows c.loop-s.hand) (cursor_data c.loop-s.cursor) (extended search.film path c.in-Some.s) (g.H.Hand.shows c.walk_child.new.hand) (cursor_data c.walk_child.new.cursor)
+    × IsFound (g.H.Hand.shows c.walk_child.new.hand) (cursor_data c.walk_child.new.cursor) (extended search.film path c.in-Some.s) c.in_ok-found-2.found
     = subst (λ (p : PathData). Walks (g.H.Hand.shows c.loop-s.hand) (cursor_data c.loop-s.cursor) p (g.H.Hand.shows c.walk_child.new.hand) (cursor_data c.walk_child.new.cursor)
     × IsFound (g.H.Hand.shows c.walk_child.new.hand) (cursor_data c.walk_child.new.cursor) p c.in_ok-found-2.found)
     child_is c.in_ok-found-2.ensures.explored in
@@ -178,7 +175,7 @@ walk_on-loop-s-preserved g t c =
       running = c.in_ok-found-2.ensures.running.0;
       path = c.in_ok-found-2.ensures.running.1 ∙ c.loop-s.invariant.path;
       walks = turn_walks (g.H.Hand.shows c.args.hand.now) (g.H.Hand.shows c.loop-s.hand) (g.H.Hand.shows c.walk_child.new.hand) (cursor_data c.args.cursor.now) (cursor_data c.loop-s.cursor)
-          (cursor_data c.walk_child.new.cursor) path (shot here now c.in-Some.s) c.in-Some.s c.loop-s.invariant.limits.few c.loop-s.invariant.walks child_is c.in_ok-found-2.ensures.explored.0;
+          (cursor_data c.walk_child.new.cursor) path (extended here.film now c.in-Some.s) c.in-Some.s c.loop-s.invariant.limits.few c.loop-s.invariant.walks child_is c.in_ok-found-2.ensures.explored.0;
       line = line_stays (g.H.Hand.shows c.loop-s.hand) (g.H.Hand.shows c.walk_child.new.hand) path c.in-Enlisted.opened.line explored.0.grow c.loop-s.invariant.line;
       ranks = still_ranked search path (turns_data c.loop-s.sifted.visit) (turns_data c.take_next.new.self) c.in-Some.s c.in-Some.ensures.1 c.in-Some.ensures.2
           c.loop-s.invariant.ranks;
@@ -256,7 +253,7 @@ walk_child-without-rest-requires g t c =
     let path : PathData = path_data c.args.running.now.path in
     let is : IsFilm c.args.kept.now.film.now = subst IsFilm c.film-film.ensures c.keeps_limits.ensures in
     below_64 path.rest c.args.s
-    (is_set_below (length c.args.kept.now.film.now.casts) path.rest is.scene_count.1 (rest_lies c.args.kept.now.film.now path c.requires.running.path))
+    (rest_set c.args.kept.now.film.now path c.requires.running.path is)
     (first_there search.film path.rest c.args.s c.requires.first)
 
 pub walk_child-take_with-requires-clause-ready : goal.walk_child-take_with-requires-clause-ready
@@ -272,9 +269,9 @@ walk_child-returns-then-is_empty-clause-explored g t c =
     let path : PathData = path_data c.args.running.now.path in
     let film_is : search.film ≡ c.film-film.result.now = c.requires.search.0 ∙ sym c.film-film.ensures in
     let longer : PathData = path_data c.take_with.new.self.path in
-    let longer_is : longer ≡ shot search path c.args.s = taken search c.film-film.result.now path c.args.s film_is c.requires.first longer c.take_with.ensures.path in
+    let longer_is : longer ≡ extended search.film path c.args.s = taken search c.film-film.result.now path c.args.s film_is c.requires.first longer c.take_with.ensures.path in
     let rest_is : without path.rest c.args.s ≡ c.without-rest.result.0 = sym (c.without-rest.ensures ∙ ap (λ (q : ℕ). without q c.args.s) c.rest.ensures) in
-    offered_explores (g.H.Hand.shows c.args.hand.now) (g.H.Hand.shows c.offer-found.new.hand) (cursor_data c.args.cursor.now) (shot search path c.args.s)
+    offered_explores (g.H.Hand.shows c.args.hand.now) (g.H.Hand.shows c.offer-found.new.hand) (cursor_data c.args.cursor.now) (extended search.film path c.args.s)
     c.offer-found.result c.requires.may (rest_is ∙ c.is_empty.ensures.0 c.if-is_empty.true)
     (subst (λ (p : PathData). Offers (g.H.Hand.shows c.args.hand.now) p c.offer-found.result (g.H.Hand.shows c.offer-found.new.hand))
     (c.path.ensures ∙ longer_is) c.offer-found.ensures.offered)
@@ -286,26 +283,26 @@ walk_child-meet-met-requires-clause-lies g t c =
     let rest_is : without path.rest c.args.s ≡ c.without-rest.result.0 = sym (c.without-rest.ensures ∙ ap (λ (q : ℕ). without q c.args.s) c.rest.ensures) in
     subst (LiesIn c.args.kept.now.film.now) rest_is
     (subst (λ (film : FilmData). LiesIn film (without path.rest c.args.s)) c.requires.search.0
-    (rest_lies search.film (shot search path c.args.s) c.requires.may.is_open.0))
+    (rest_lies search.film (extended search.film path c.args.s) c.requires.may.is_open.0))
 
 pub walk_child-overflow_add-paid : goal.walk_child-overflow_add-paid
 walk_child-overflow_add-paid g t c =
     let search : SearchData = (g.H.Hand.shows c.args.hand.now).search in
     let path : PathData = path_data c.args.running.now.path in
     let is : IsFilm search.film = subst IsFilm (c.film-film.ensures ∙ sym c.requires.search.0) c.keeps_limits.ensures in
-    let paid_is : (shot search path c.args.s).paid ≡ c.paid.result + c.args.step
+    let paid_is : (extended search.film path c.args.s).paid ≡ c.paid.result + c.args.step
     = (λ i. (sym c.paid.ensures i) + (ap (λ (film : FilmData). step_cost film path.rest c.args.s) c.requires.search.0 ∙ sym c.requires.step) i) in
-    omega (arith, paid_is, path_limit search.film (shot search path c.args.s) c.requires.may.is_open.0 is)
+    omega (arith, paid_is, path_limit search.film (extended search.film path c.args.s) c.requires.may.is_open.0 is)
 
 pub walk_child-returns-in-Cut-clause-explored : goal.walk_child-returns-in-Cut-clause-explored
 walk_child-returns-in-Cut-clause-explored g t c =
     let search : SearchData = (g.H.Hand.shows c.args.hand.now).search in
     let path : PathData = path_data c.args.running.now.path in
     let rest_is : without path.rest c.args.s ≡ c.without-rest.result.0 = sym (c.without-rest.ensures ∙ ap (λ (q : ℕ). without q c.args.s) c.rest.ensures) in
-    let paid_is : (shot search path c.args.s).paid ≡ c.paid.result + c.args.step
+    let paid_is : (extended search.film path c.args.s).paid ≡ c.paid.result + c.args.step
     = (λ i. (sym c.paid.ensures i) + (ap (λ (film : FilmData). step_cost film path.rest c.args.s) c.requires.search.0 ∙ sym c.requires.step) i) in
-    cut_explores (g.H.Hand.shows c.args.hand.now) (g.H.Hand.shows c.meet-met.new.hand) (cursor_data c.args.cursor.now) (shot search path c.args.s) c.in-Cut.found
-    c.keeps_limits-2.ensures c.requires.may (c.in-Cut.ensures.met (shot search path c.args.s) rest_is paid_is)
+    cut_explores (g.H.Hand.shows c.args.hand.now) (g.H.Hand.shows c.meet-met.new.hand) (cursor_data c.args.cursor.now) (extended search.film path c.args.s) c.in-Cut.found
+    c.keeps_limits-2.ensures c.requires.may (c.in-Cut.ensures.met (extended search.film path c.args.s) rest_is paid_is)
 
 pub walk_child-walk_on-requires : goal.walk_child-walk_on-requires
 walk_child-walk_on-requires g t c κs within =
@@ -313,11 +310,11 @@ walk_child-walk_on-requires g t c κs within =
     let path : PathData = path_data c.args.running.now.path in
     let film_is : search.film ≡ c.film-film.result.now = c.requires.search.0 ∙ sym c.film-film.ensures in
     let longer : PathData = path_data c.take_with-in-Through.new.self.path in
-    let longer_is : longer ≡ shot search path c.args.s = taken search c.film-film.result.now path c.args.s film_is c.requires.first longer c.take_with-in-Through.ensures.path in
+    let longer_is : longer ≡ extended search.film path c.args.s = taken search c.film-film.result.now path c.args.s film_is c.requires.first longer c.take_with-in-Through.ensures.path in
     let rest_is : without path.rest c.args.s ≡ c.without-rest.result.0 = sym (c.without-rest.ensures ∙ ap (λ (q : ℕ). without q c.args.s) c.rest.ensures) in
-    let paid_is : (shot search path c.args.s).paid ≡ c.paid.result + c.args.step
+    let paid_is : (extended search.film path c.args.s).paid ≡ c.paid.result + c.args.step
     = (λ i. (sym c.paid.ensures i) + (ap (λ (film : FilmData). step_cost film path.rest c.args.s) c.requires.search.0 ∙ sym c.requires.step) i) in
-    let met = c.in-Through.ensures.met (shot search path c.args.s) rest_is paid_is in
+    let met = c.in-Through.ensures.met (extended search.film path c.args.s) rest_is paid_is in
     let less : size longer.rest ≡ size (without path.rest c.args.s) = ap (λ (p : PathData). size p.rest) longer_is in (
       omega (arith, less, c.decreases),
       (
@@ -336,7 +333,7 @@ walk_child-walk_on-requires g t c κs within =
                     subst (λ (film : FilmData). IsRunning film (running_data c.take_with-in-Through.new.self)) c.film-film.ensures c.take_with-in-Through.ensures.running,
                     (
                       subst (MayExplore (g.H.Hand.shows c.meet-met.new.hand) (cursor_data c.args.cursor.now)) (sym longer_is)
-                          (may_still (g.H.Hand.shows c.args.hand.now) (g.H.Hand.shows c.meet-met.new.hand) (cursor_data c.args.cursor.now) (shot search path c.args.s) met.0 c.requires.may),
+                          (may_still (g.H.Hand.shows c.args.hand.now) (g.H.Hand.shows c.meet-met.new.hand) (cursor_data c.args.cursor.now) (extended search.film path c.args.s) met.0 c.requires.may),
                       (
                         (λ none. absurd (let e : false ≡ true = sym c.if-is_empty.false ∙ c.is_empty.ensures.1 (sym rest_is ∙ ap (λ (p : PathData). p.rest) (sym longer_is) ∙ none) in cc)),
                         subst (λ (p : PathData). IsThrough (g.H.Hand.shows c.meet-met.new.hand) p c.in-Through.passed) (sym longer_is) met.1,
@@ -364,13 +361,13 @@ walk_child-returns-in_err-found-in-Through-clause-explored g t c =
     let path : PathData = path_data c.args.running.now.path in
     let film_is : search.film ≡ c.film-film.result.now = c.requires.search.0 ∙ sym c.film-film.ensures in
     let longer : PathData = path_data c.take_with-in-Through.new.self.path in
-    let longer_is : longer ≡ shot search path c.args.s = taken search c.film-film.result.now path c.args.s film_is c.requires.first longer c.take_with-in-Through.ensures.path in
+    let longer_is : longer ≡ extended search.film path c.args.s = taken search c.film-film.result.now path c.args.s film_is c.requires.first longer c.take_with-in-Through.ensures.path in
     let rest_is : without path.rest c.args.s ≡ c.without-rest.result.0 = sym (c.without-rest.ensures ∙ ap (λ (q : ℕ). without q c.args.s) c.rest.ensures) in
-    let paid_is : (shot search path c.args.s).paid ≡ c.paid.result + c.args.step
+    let paid_is : (extended search.film path c.args.s).paid ≡ c.paid.result + c.args.step
     = (λ i. (sym c.paid.ensures i) + (ap (λ (film : FilmData). step_cost film path.rest c.args.s) c.requires.search.0 ∙ sym c.requires.step) i) in
-    let met = c.in-Through.ensures.met (shot search path c.args.s) rest_is paid_is in
+    let met = c.in-Through.ensures.met (extended search.film path c.args.s) rest_is paid_is in
     refused_after (g.H.Hand.shows c.args.hand.now) (g.H.Hand.shows c.meet-met.new.hand) (g.H.Hand.shows c.walk_on.new.hand) (cursor_data c.args.cursor.now)
-    (cursor_data c.walk_on.new.cursor) (shot search path c.args.s) c.keeps_limits-2.ensures.few c.requires.may.stands met.0
+    (cursor_data c.walk_on.new.cursor) (extended search.film path c.args.s) c.keeps_limits-2.ensures.few c.requires.may.stands met.0
     c.from_residual.result c.in_err-found-in-Through.field-0.0 c.from_residual.ensures.0
     (subst (λ (p : PathData). Explores (g.H.Hand.shows c.meet-met.new.hand) (cursor_data c.args.cursor.now) p (Err c.in_err-found-in-Through.field-0.0)
     (g.H.Hand.shows c.walk_on.new.hand) (cursor_data c.walk_on.new.cursor)) longer_is c.in_err-found-in-Through.ensures.explored)
@@ -381,12 +378,12 @@ walk_child-returns-in_ok-found-in-Through-clause-explored g t c =
     let path : PathData = path_data c.args.running.now.path in
     let film_is : search.film ≡ c.film-film.result.now = c.requires.search.0 ∙ sym c.film-film.ensures in
     let longer : PathData = path_data c.take_with-in-Through.new.self.path in
-    let longer_is : longer ≡ shot search path c.args.s = taken search c.film-film.result.now path c.args.s film_is c.requires.first longer c.take_with-in-Through.ensures.path in
+    let longer_is : longer ≡ extended search.film path c.args.s = taken search c.film-film.result.now path c.args.s film_is c.requires.first longer c.take_with-in-Through.ensures.path in
     let rest_is : without path.rest c.args.s ≡ c.without-rest.result.0 = sym (c.without-rest.ensures ∙ ap (λ (q : ℕ). without q c.args.s) c.rest.ensures) in
-    let paid_is : (shot search path c.args.s).paid ≡ c.paid.result + c.args.step
+    let paid_is : (extended search.film path c.args.s).paid ≡ c.paid.result + c.args.step
     = (λ i. (sym c.paid.ensures i) + (ap (λ (film : FilmData). step_cost film path.rest c.args.s) c.requires.search.0 ∙ sym c.requires.step) i) in
-    let met = c.in-Through.ensures.met (shot search path c.args.s) rest_is paid_is in
+    let met = c.in-Through.ensures.met (extended search.film path c.args.s) rest_is paid_is in
     explores_after (g.H.Hand.shows c.args.hand.now) (g.H.Hand.shows c.meet-met.new.hand) (g.H.Hand.shows c.walk_on.new.hand) (cursor_data c.args.cursor.now)
-    (cursor_data c.walk_on.new.cursor) (shot search path c.args.s) c.keeps_limits-2.ensures.few c.requires.may.stands met.0 (Ok c.in_ok-found-in-Through.found)
+    (cursor_data c.walk_on.new.cursor) (extended search.film path c.args.s) c.keeps_limits-2.ensures.few c.requires.may.stands met.0 (Ok c.in_ok-found-in-Through.found)
     (subst (λ (p : PathData). Explores (g.H.Hand.shows c.meet-met.new.hand) (cursor_data c.args.cursor.now) p (Ok c.in_ok-found-in-Through.found)
     (g.H.Hand.shows c.walk_on.new.hand) (cursor_data c.walk_on.new.cursor)) longer_is c.in_ok-found-in-Through.ensures.explored)

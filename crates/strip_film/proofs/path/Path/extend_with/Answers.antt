@@ -21,4 +21,4 @@ push-requires-clause-sum c =
 
 pub returns-clause-path : goal.returns-clause-path
 returns-clause-path c =
-    rw (c.push.ensures, c.requires.step) (IsPath-extended c.args.film.now (path_data c.args.self.now) c.requires.path c.keeps_limits.ensures c.args.s c.requires.ready)
+    rw (c.push.ensures, c.requires.step) (IsPath-extended c.args.film.now (path_data c.args.self.now) c.requires.path c.args.s c.requires.ready)

@@ -1,13 +1,8 @@
-use Rattle.std.proofs.Common.{◌≡◌, ◌∙◌, true, false, Result, Ok, Err, ap, arith, nat_eq, sym}
-use Rattle.std.specs.Result.{IsOk, OnOk}
+use Rattle.std.proofs.Common.{◌≡◌, ◌∙◌, ap, arith, nat_eq, sym}
 use Rattle.indexmap.specs.IndexSet.{insert_key}
+use Rattle.strip_paths.proofs.Results.{on_ok}
 use Rattle.strip_layers.proofs.Sets.{sets, sets_pushed}
 use Rattle.strip_layers.proofs.sheet.Sheet.push.Goals as goal
-
--- what holds where there is a value, where there is one
-on_ok : {T E : Type 0} (result : Result T E) (P : Type 0) → IsOk result → OnOk result P → P
-on_ok (Ok value) P ok holds = holds
-on_ok (Err error) P ok holds = absurd (let e : false ≡ true = ok in cc)
 
 pub invariant_of-self-2 : goal.invariant_of-self-2
 invariant_of-self-2 c = record {

@@ -1,16 +1,11 @@
-use Rattle.std.proofs.Common.{◌≡◌, ◌∙◌, true, false, Result, Ok, Err, [], ◌∷◌, ap, arith, map, nat_eq, sym}
-use Rattle.std.specs.Result.{IsOk, OnOk}
+use Rattle.std.proofs.Common.{◌≡◌, ◌∙◌, [], ◌∷◌, ap, arith, map, nat_eq, sym}
 use Rattle.std.proofs.lemmas.List.{map-append}
 use Rattle.indexmap.specs.IndexSet.{insert_key}
 use Rattle.strip_film.specs.Shown.{path_data}
 use Rattle.strip_paths.specs.Shown.{paths_of}
+use Rattle.strip_paths.proofs.Results.{on_ok}
 use Rattle.strip_paths.proofs.Rests.{rests, rests_pushed}
 use Rattle.strip_paths.proofs.by_set.PathsBySet.push.Goals as goal
-
--- what holds where there is a value, where there is one
-on_ok : {T E : Type 0} (result : Result T E) (P : Type 0) → IsOk result → OnOk result P → P
-on_ok (Ok value) P ok holds = holds
-on_ok (Err error) P ok holds = absurd (let e : false ≡ true = ok in cc)
 
 pub invariant_of-self-2 : goal.invariant_of-self-2
 invariant_of-self-2 c = record {

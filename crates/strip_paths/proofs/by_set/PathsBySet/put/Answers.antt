@@ -1,21 +1,10 @@
-use Rattle.std.proofs.Common.{◌≡◌, ◌∙◌, ℕ, List, [], ◌∷◌, Some, ap, arith, get_or, map, sym}
-use Rattle.std.specs.List.{position}
-use Rattle.std.proofs.lemmas.List.{get_or-map, length-map, map-append, map-set}
-use Rattle.strip_film.specs.declared.path.Path.{Path}
-use Rattle.strip_film.specs.Path.{PathData}
+use Rattle.std.proofs.Common.{◌∙◌, [], ◌∷◌, ap, arith, map, sym}
+use Rattle.std.proofs.lemmas.List.{map-append, map-set}
 use Rattle.strip_film.specs.Shown.{path_data}
 use Rattle.strip_paths.specs.Shown.{paths_of}
-use Rattle.strip_paths.proofs.Placed.{leaves, place_within, put_end, put_nowhere, put_there, same_rests}
+use Rattle.strip_paths.proofs.Placed.{put_end, put_nowhere, put_there, same_rests, stands}
 use Rattle.strip_paths.proofs.Rests.{rests}
 use Rattle.strip_paths.proofs.by_set.PathsBySet.put.Goals as goal
-
--- the path at a place, as it is seen
-stands : (items : List Path) (there : Path) (path : PathData) (rest place : ℕ) → rest ≡ path.rest → position (leaves rest) (map path_data items) ≡ Some place
-    → there ≡ get_or items place there → path_data there ≡ get_or (map path_data items) place (path_data there)
-stands items there path rest place is some at =
-    ap path_data at
-    ∙ sym (get_or-map path_data items place there (path_data there)
-    (omega (arith, place_within (map path_data items) path rest place is some, length-map items path_data)))
 
 pub invariant_of-self : goal.invariant_of-self
 invariant_of-self c = record {

@@ -4,7 +4,8 @@ use Rattle.strip_table.specs.Stripe.{home}
 use Rattle.strip_table.proofs.Homes.{bucket_below}
 use Rattle.strip_book.specs.Pass.{IsCopyOf, TableData, known_lines}
 use Rattle.strip_stripes.specs.Shelf.{AreKnown}
-use Rattle.strip_stripes.proofs.Entries.{known_put, knows_grow}
+use Rattle.strip_hand.proofs.Grown.{knows_grow}
+use Rattle.strip_stripes.proofs.Entries.{known_put}
 use Rattle.strip_stripes.proofs.shelf.Shelf.note.Goals as goal
 
 pub invariant_of-self : goal.invariant_of-self

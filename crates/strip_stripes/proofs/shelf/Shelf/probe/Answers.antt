@@ -7,7 +7,7 @@ use Rattle.strip_table.specs.Stripe.{home}
 use Rattle.strip_table.proofs.Homes.{bucket_below}
 use Rattle.strip_hand.specs.Hand.{Knows}
 use Rattle.strip_book.specs.Pass.{known, known_lines}
-use Rattle.strip_stripes.proofs.Entries.{knows_grow}
+use Rattle.strip_hand.proofs.Grown.{knows_grow}
 use Rattle.strip_stripes.proofs.shelf.Shelf.probe.Goals as goal
 
 pub returns-in-Some-clause-probed : goal.returns-in-Some-clause-probed

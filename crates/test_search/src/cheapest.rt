@@ -4,8 +4,8 @@ ghost use Rattle.strip_model.specs.Order.{IsOrder};
 ghost use Rattle.strip_model.specs.Pay.{pay_of, IsOptimum};
 ghost use Rattle.strip_film.specs.Path.{IsPath};
 ghost use Rattle.strip_film.specs.Shown.{path_data};
-ghost use Rattle.strip_exhaustive.specs.Cheapest.{IsFirstCheapest};
-ghost use Rattle.strip_exhaustive.specs.Beginning.{IsFirstCheapestFrom};
+ghost use Rattle.test_search.specs.Cheapest.{IsFirstCheapest};
+ghost use Rattle.test_search.specs.Beginning.{IsFirstCheapestFrom};
 
 use std::alloc::Global;
 use strip_film::{Film, Path, ready};

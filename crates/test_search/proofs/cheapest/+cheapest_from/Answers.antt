@@ -1,18 +1,16 @@
-use Rattle.std.proofs.Common.{◌≡◌, ℕ, ◌<◌, true, length, ap, subst, append_assoc, arith}
+use Rattle.std.proofs.Common.{◌≡◌, ℕ, ◌<◌, true, ap, subst, append_assoc, arith}
 use Rattle.strip_mask.specs.Iter.{rest_of}
-use Rattle.strip_mask.specs.Set.{IsSet, has, size, without}
-use Rattle.strip_mask.proofs.Below.{is_set_below}
-use Rattle.strip_mask.proofs.Sizes.{size-without}
+use Rattle.strip_mask.specs.Set.{has, size, without}
 use Rattle.strip_mask.proofs.Turns.{lesser_before, turn_member, turns_all}
 use Rattle.strip_model.specs.Film.{FilmData}
 use Rattle.strip_film.specs.Film.{IsFilm}
 use Rattle.strip_film.specs.Path.{IsPath, PathData}
 use Rattle.strip_film.specs.Shoot.{ready}
 use Rattle.strip_film.specs.Shown.{path_data}
-use Rattle.strip_film.proofs.Paths.{rest_lies, there}
-use Rattle.strip_exhaustive.specs.Beginning.{IsFirstCheapestFrom}
-use Rattle.strip_exhaustive.proofs.Search.{best_all, best_pay, best_tries, first_at_end, none_left, pay_at_end}
-use Rattle.strip_exhaustive.proofs.cheapest.+cheapest_from.Goals as goal
+use Rattle.strip_film.proofs.Paths.{rest_lies, one_fewer}
+use Rattle.test_search.specs.Beginning.{IsFirstCheapestFrom}
+use Rattle.test_search.proofs.Search.{best_all, best_pay, best_tries, first_at_end, none_left, pay_at_end}
+use Rattle.test_search.proofs.cheapest.+cheapest_from.Goals as goal
 
 pub ready-requires : goal.ready-requires
 ready-requires t c = rw c.rest.ensures (rest_lies c.args.film.now (path_data c.args.path.now) c.requires)
@@ -26,8 +24,7 @@ extend-requires-clause-ready t c =
 fewer : (film : FilmData) (limits : IsFilm film) (path longer : PathData) (scene : ℕ) → IsPath film path → has (ready film path.rest) scene ≡ true
     → longer.rest ≡ without path.rest scene → size longer.rest < size path.rest
 fewer film limits path longer scene is is_ready rest =
-    let set : IsSet path.rest = is_set_below (length film.casts) path.rest limits.scene_count.1 (rest_lies film path is) in
-    omega (arith, ap size rest, size-without path.rest scene set (there film path is limits scene is_ready))
+    omega (arith, ap size rest, one_fewer film path is limits scene is_ready)
 
 pub cheapest_from-requires : goal.cheapest_from-requires
 cheapest_from-requires t c =

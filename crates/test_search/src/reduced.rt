@@ -1,12 +1,12 @@
 // Films compared with their reductions: the costs, the scenes of the classes' orders, and the number of classes.
 ghost use Rattle.std.specs.Prelude.{◌↔◌, ◌<◌, All, IsTrue};
 
+use crate::cheapest::cheapest_order;
 use crate::classes::{Reduction, joins, tables};
 use crate::kept::{Kept, films, is_priced};
 use crate::lists::{Lists, casts_of_two, film_of, instance, instance_of};
 use std::alloc::Global;
 use std::test::Fail;
-use strip_exhaustive::cheapest_order;
 use strip_model::Instance;
 use strip_reduce::{ReduceFault, Reduced, expand, orient, reduce};
 

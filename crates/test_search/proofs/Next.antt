@@ -1,10 +1,9 @@
 -- What follows a path in the orders that begin with it.
-use Rattle.std.proofs.Common.{◌≡◌, ℕ, true, false, List, [], ◌∷◌, ◌++◌, length, Contains, ◌⊎◌, inl, inr, sym, ap, ◌∙◌, subst, append_assoc}
+use Rattle.std.proofs.Common.{◌≡◌, ℕ, true, false, List, [], ◌∷◌, ◌++◌, Contains, ◌⊎◌, inl, inr, sym, ap, ◌∙◌, subst, append_assoc}
 use Rattle.std.proofs.Math.Nat.{le_of_eq}
 use Rattle.std.proofs.lemmas.Bool.{cases_eq}
 use Rattle.std.proofs.lemmas.List.{append-nil}
 use Rattle.strip_mask.specs.Set.{IsSet, has, members, without}
-use Rattle.strip_mask.proofs.Below.{is_set_below}
 use Rattle.strip_mask.proofs.ByMembers.{IsSet-minus, has-empty}
 use Rattle.strip_mask.proofs.Members.{Contains-members}
 use Rattle.strip_model.specs.Film.{FilmData}
@@ -19,9 +18,9 @@ use Rattle.strip_film.specs.Shoot.{behind, ready}
 use Rattle.strip_film.proofs.ByPairs.{some_ready}
 use Rattle.strip_film.proofs.Lists.{AllOnce-from_ready, ready_there}
 use Rattle.strip_film.proofs.Orders.{kept_from_ready, ready_from_order}
-use Rattle.strip_film.proofs.Paths.{rest_lies}
+use Rattle.strip_film.proofs.Paths.{rest_set}
 use Rattle.strip_film.proofs.StepSum.{steps_are_pay}
-use Rattle.strip_exhaustive.specs.Beginning.{BeginsWith, IsFirstCheapestFrom}
+use Rattle.test_search.specs.Beginning.{BeginsWith, IsFirstCheapestFrom}
 
 -- the scenes behind the first ones of a list, by what the first ones leave
 AreFirsts-behind : (firsts : ℕ → ℕ) (set : ℕ) (scenes later : List ℕ) → AreFirsts firsts set (scenes ++ later) → AreFirsts firsts (rest_after set scenes) later
@@ -30,7 +29,7 @@ AreFirsts-behind firsts set (s ∷ scenes) later are = AreFirsts-behind firsts (
 
 module _ (film : FilmData) (limits : IsFilm film) (path : PathData) (is : IsPath film path) where
   ready_set : IsSet (ready film path.rest)
-  ready_set = IsSet-minus path.rest (behind film.pairs path.rest) (is_set_below (length film.casts) path.rest limits.scene_count.1 (rest_lies film path is))
+  ready_set = IsSet-minus path.rest (behind film.pairs path.rest) (rest_set film path is limits)
 
   -- a ready scene is among the ready ones
   pub among_ready : (scene : ℕ) → has (ready film path.rest) scene ≡ true → Contains (members (ready film path.rest)) scene
@@ -40,7 +39,7 @@ module _ (film : FilmData) (limits : IsFilm film) (path : PathData) (is : IsPath
   pub nothing_remains : members (ready film path.rest) ≡ [] → path.rest ≡ 0
   nothing_remains none = elim (cases_eq path.rest 0) [
     | inl empty ↦ empty
-    | inr some ↦ absurd (let one = some_ready film path.rest limits (is_set_below (length film.casts) path.rest limits.scene_count.1 (rest_lies film path is)) some in
+    | inr some ↦ absurd (let one = some_ready film path.rest limits (rest_set film path is limits) some in
         contains_none one.0 (subst (λ (xs : List ℕ). Contains xs one.0) none (among_ready one.0 one.1)))
   ]
 

@@ -1,4 +1,5 @@
 // Films as plain lists, and the instances and films made from them.
+use crate::films;
 use std::alloc::Global;
 use std::test::Fail;
 use strip_film::Film;
@@ -20,12 +21,16 @@ pub(crate) fn instance_of(alloc: Global, lists: &Lists) -> Result<Instance, Fail
 }
 
 pub(crate) fn film_of(alloc: Global, lists: &Lists) -> Result<Film, Fail> {
-    let casts = Vec::from_slice(alloc, lists.casts)?;
-    let days = Vec::from_slice(alloc, lists.days)?;
-    let rates = Vec::from_slice(alloc, lists.rates)?;
-    let holds = Vec::from_slice(alloc, lists.holds)?;
     let pairs = pairs_of(alloc, lists.pairs)?;
-    let film = Film::of(casts, days, rates, holds, pairs).ok_or("within the limits")?;
+    let film = films::film_of(
+        alloc,
+        lists.casts,
+        lists.days,
+        lists.rates,
+        lists.holds,
+        &pairs,
+    )?;
+    let film = film.ok_or("within the limits")?;
     Ok(film)
 }
 

@@ -1,5 +1,5 @@
--- The tasks of a search begin different parts.
-use Rattle.std.proofs.Common.{sym, ap, ◌∙◌, arith}
+-- The tasks of a search.
+use Rattle.std.proofs.Common.{ap, sym, ◌∙◌, arith}
 use Rattle.strip_film.specs.Film.{all_scenes}
 use Rattle.strip_film.specs.Finish.{rest_after}
 use Rattle.strip_lines.specs.Parts.{AreTasks}

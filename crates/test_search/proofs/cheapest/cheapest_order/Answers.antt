@@ -1,8 +1,8 @@
 use Rattle.std.proofs.Common.{ap}
 use Rattle.strip_film.specs.Path.{PathData}
 use Rattle.strip_film.specs.Shown.{path_data}
-use Rattle.strip_exhaustive.proofs.Search.{first_of_all, optimum_of_all}
-use Rattle.strip_exhaustive.proofs.cheapest.cheapest_order.Goals as goal
+use Rattle.test_search.proofs.Search.{first_of_all, optimum_of_all}
+use Rattle.test_search.proofs.cheapest.cheapest_order.Goals as goal
 
 pub returns-clause-first : goal.returns-clause-first
 returns-clause-first c =

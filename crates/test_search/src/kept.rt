@@ -1,9 +1,9 @@
 // Films with hold rates and pairs of scenes. An independent program found their cheapest orders, from first and last
 // positions.
+use crate::cheapest::cheapest_order;
 use crate::lists::{Lists, film_of, instance, instance_of, pairs_of, with_pairs};
 use std::alloc::Global;
 use std::test::Fail;
-use strip_exhaustive::cheapest_order;
 use strip_model::{Instance, Pair, is_order, keeps_pairs, pay};
 
 /// A film, the first of its cheapest orders, and the pay of this order.

@@ -14,10 +14,10 @@ use Rattle.strip_film.specs.Film.{IsFilm}
 use Rattle.strip_film.specs.Path.{IsPath, PathData}
 use Rattle.strip_film.specs.Shoot.{ready}
 use Rattle.strip_film.proofs.Lists.{ready_there}
-use Rattle.strip_exhaustive.specs.declared.cheapest.Cheapest.{Cheapest}
-use Rattle.strip_exhaustive.specs.Cheapest.{IsFirstCheapest}
-use Rattle.strip_exhaustive.specs.Beginning.{BeginsWith, IsFirstCheapestFrom}
-use Rattle.strip_exhaustive.proofs.Next.{among_ready, goes_on, nothing_remains, only_order, paid_is_pay}
+use Rattle.test_search.specs.declared.cheapest.Cheapest.{Cheapest}
+use Rattle.test_search.specs.Cheapest.{IsFirstCheapest}
+use Rattle.test_search.specs.Beginning.{BeginsWith, IsFirstCheapestFrom}
+use Rattle.test_search.proofs.Next.{among_ready, goes_on, nothing_remains, only_order, paid_is_pay}
 
 -- the first of the cheapest among the orders that keep the pairs and go on, after these scenes, with one that was tried
 pub record IsFirstCheapestAmong (film : FilmData) (begun tried order : List ℕ) : Type 0 where

@@ -3,8 +3,8 @@ use Rattle.strip_mask.specs.Iter.{rest_of}
 use Rattle.strip_mask.specs.Set.{members, size}
 use Rattle.strip_film.specs.Shoot.{ready}
 use Rattle.strip_film.specs.Shown.{path_data}
-use Rattle.strip_exhaustive.proofs.Search.{IsBestAmong}
-use Rattle.strip_exhaustive.proofs.cheapest.+cheapest_from.Given as goal
+use Rattle.test_search.proofs.Search.{IsBestAmong}
+use Rattle.test_search.proofs.cheapest.+cheapest_from.Given as goal
 
 abbrev pub decreases-cheapest_from : goal.decreases-cheapest_from
 decreases-cheapest_from l = size l.path.now.rest.0
