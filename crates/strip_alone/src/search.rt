@@ -34,88 +34,88 @@ const TASK_SCENES: usize = 2;
 /// leaves. Afterwards the memo has the static bounds that were requested last.
 pub fn alone<F: Fn(u64, u64) -> u64>(
     alloc: Global,
-    kept: &StoredBound<F>,
+    bounds: &StoredBound<F>,
     memo: &mut Memo,
     start: &Path,
     cap: u32,
     entries: u32,
 ) -> Result<Ended, Memory>
-    requires keeps { Keeps (F.pre kept.now.f) (F.post kept.now.f) kept.now.kind kept.now.film.now }
-    requires memo { IsMemo kept.now.kind kept.now.film.now memo.old }
-    requires start { IsComplete kept.now.film.now (path_data start.now) }
+    requires keeps { Keeps (F.pre bounds.now.f) (F.post bounds.now.f) bounds.now.kind bounds.now.film.now }
+    requires memo { IsMemo bounds.now.kind bounds.now.film.now memo.old }
+    requires start { IsComplete bounds.now.film.now (path_data start.now) }
     requires some_lines { 1 ≤ cap }
     requires few_lines { cap ≤ 16777216 }
     requires some_entries { 64 ≤ entries }
     requires few_entries { entries ≤ 4194304 }
-    ensures memo { IsMemo kept.now.kind kept.now.film.now memo.new }
-    ensures ended { IfOk result (λ ended. IsEnded kept.now.kind kept.now.film.now (path_data start.now) cap
+    ensures memo { IsMemo bounds.now.kind bounds.now.film.now memo.new }
+    ensures ended { IfOk result (λ ended. IsEnded bounds.now.kind bounds.now.film.now (path_data start.now) cap
         (ended_data ended)) }
 {
-    alone_through(alloc, kept, memo, start, cap, entries, &OpenGate)
+    alone_through(alloc, bounds, memo, start, cap, entries, &OpenGate)
 }
 
 /// Searches as `alone` does, and reports progress to the gate. The worker's number is 0.
 pub fn alone_through<F: Fn(u64, u64) -> u64, G: Gate>(
     alloc: Global,
-    kept: &StoredBound<F>,
+    bounds: &StoredBound<F>,
     memo: &mut Memo,
     start: &Path,
     cap: u32,
     entries: u32,
     gate: &G,
 ) -> Result<Ended, Memory>
-    requires keeps { Keeps (F.pre kept.now.f) (F.post kept.now.f) kept.now.kind kept.now.film.now }
-    requires memo { IsMemo kept.now.kind kept.now.film.now memo.old }
-    requires start { IsComplete kept.now.film.now (path_data start.now) }
+    requires keeps { Keeps (F.pre bounds.now.f) (F.post bounds.now.f) bounds.now.kind bounds.now.film.now }
+    requires memo { IsMemo bounds.now.kind bounds.now.film.now memo.old }
+    requires start { IsComplete bounds.now.film.now (path_data start.now) }
     requires some_lines { 1 ≤ cap }
     requires few_lines { cap ≤ 16777216 }
     requires some_entries { 64 ≤ entries }
     requires few_entries { entries ≤ 4194304 }
-    ensures memo { IsMemo kept.now.kind kept.now.film.now memo.new }
-    ensures ended { IfOk result (λ ended. IsEnded kept.now.kind kept.now.film.now (path_data start.now) cap
+    ensures memo { IsMemo bounds.now.kind bounds.now.film.now memo.new }
+    ensures ended { IfOk result (λ ended. IsEnded bounds.now.kind bounds.now.film.now (path_data start.now) cap
         (ended_data ended)) }
 {
-    let mut front = make_front(alloc, kept, TASK_SCENES)?;
+    let mut front = make_front(alloc, bounds, TASK_SCENES)?;
     let limits = Limits {
         workers: 1,
         cap,
         entries,
     };
-    let mut world = open(alloc, kept, start, &front, &limits)?;
-    let mut walked = go_down_front(alloc, kept, &mut world, &mut front)?;
+    let mut world = open(alloc, bounds, start, &front, &limits)?;
+    let mut walked = go_down_front(alloc, bounds, &mut world, &mut front)?;
     gate.opened(asked_for(&front), 1);
     let worker = Worker { gate, number: 0 };
-    work(kept, &mut world, &front, &worker, memo, &mut walked)?;
-    let number = close(kept, &mut world, &mut front, &walked)?;
+    work(bounds, &mut world, &front, &worker, memo, &mut walked)?;
+    let number = close(bounds, &mut world, &mut front, &walked)?;
     let best = *world.best(0);
-    tell(alloc, kept, &best, world.into_lines(), number, walked.spent)
+    tell(alloc, bounds, &best, world.into_lines(), number, walked.spent)
 }
 
 /// Returns the initial world (the whole search state), in which the worker has claimed the front.
 fn open<F: Fn(u64, u64) -> u64>(
     alloc: Global,
-    kept: &StoredBound<F>,
+    bounds: &StoredBound<F>,
     start: &Path,
     front: &Front,
     limits: &Limits,
 ) -> Result<World, Memory>
-    requires start { IsComplete kept.now.film.now (path_data start.now) }
-    requires front { IsFrontOf (rules_of kept.now.kind kept.now.film.now) (front_data front.now) }
+    requires start { IsComplete bounds.now.film.now (path_data start.now) }
+    requires front { IsFrontOf (rules_of bounds.now.kind bounds.now.film.now) (front_data front.now) }
     requires limits { AreLimits limits.now }
     requires one_worker { limits.now.workers ≡ 1 }
     ensures sound { IfOk result IsOwned }
     ensures one_worker { IfOk result (λ world. length world.workers ≡ 1) }
     ensures front { IfOk result (λ world. HasFront (hand_data world)) }
     ensures search { IfOk result (λ world. world.search
-        ≡ search_of kept.now.film.now kept.now.kind (path_data start.now)
+        ≡ search_of bounds.now.film.now bounds.now.kind (path_data start.now)
         (front_data front.now).tasks limits.now) }
 {
-    kept.film().keeps_limits();
+    bounds.film().keeps_limits();
     tasks_are_starts();
     let mut world = World::new(
         alloc,
-        kept.film(),
-        kept.kind(),
+        bounds.film(),
+        bounds.kind(),
         start,
         front.tasks(),
         limits,

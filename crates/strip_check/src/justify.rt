@@ -19,26 +19,26 @@ use strip_trim::Best;
 /// Tells whether the lines justify a bound for a set: its static bound reaches it, or the step plus known bound of the
 /// rest does for each open first. If static bounds are expensive, the steps are tried first.
 pub(crate) fn is_justified<F: Fn(u64, u64) -> u64>(
-    kept: &StoredBound<F>,
+    bounds: &StoredBound<F>,
     memo: &mut Memo,
     best: &Best,
     q: Mask,
     bound: u64,
 ) -> bool
-    requires keeps { Keeps (F.pre kept.now.f) (F.post kept.now.f) kept.now.kind kept.now.film.now }
-    requires memo { IsMemo kept.now.kind kept.now.film.now memo.old }
-    requires lies { LiesIn kept.now.film.now q.0 }
-    ensures memo { IsMemo kept.now.kind kept.now.film.now memo.new }
+    requires keeps { Keeps (F.pre bounds.now.f) (F.post bounds.now.f) bounds.now.kind bounds.now.film.now }
+    requires memo { IsMemo bounds.now.kind bounds.now.film.now memo.old }
+    requires lies { LiesIn bounds.now.film.now q.0 }
+    ensures memo { IsMemo bounds.now.kind bounds.now.film.now memo.new }
     ensures justified { result
-        ≡ nat_le bound (justified (rules_of kept.now.kind kept.now.film.now) best.now.lines q.0) }
+        ≡ nat_le bound (justified (rules_of bounds.now.kind bounds.now.film.now) best.now.lines q.0) }
 {
-    if is_dear(kept.kind()) && is_by_steps(kept, memo, best, q, bound) {
+    if is_dear(bounds.kind()) && is_by_steps(bounds, memo, best, q, bound) {
         return true;
     }
-    if memo.reach(kept, q, bound) >= bound {
+    if memo.reach(bounds, q, bound) >= bound {
         return true;
     }
-    is_by_steps(kept, memo, best, q, bound)
+    is_by_steps(bounds, memo, best, q, bound)
 }
 
 /// Tells whether static bounds of this kind take longer than a lookup of lines. Only the running time depends on it.
@@ -51,30 +51,30 @@ fn is_dear(kind: Kind) -> bool {
 
 /// Tells whether the set has open firsts, and the step of each plus the known bound of the rest reaches the bound.
 fn is_by_steps<F: Fn(u64, u64) -> u64>(
-    kept: &StoredBound<F>,
+    bounds: &StoredBound<F>,
     memo: &mut Memo,
     best: &Best,
     q: Mask,
     bound: u64,
 ) -> bool
-    requires keeps { Keeps (F.pre kept.now.f) (F.post kept.now.f) kept.now.kind kept.now.film.now }
-    requires memo { IsMemo kept.now.kind kept.now.film.now memo.old }
-    requires lies { LiesIn kept.now.film.now q.0 }
-    ensures memo { IsMemo kept.now.kind kept.now.film.now memo.new }
-    ensures enough { IsTrue result → bound ≤ justified (rules_of kept.now.kind kept.now.film.now) best.now.lines q.0 }
-    ensures decides { (rules_of kept.now.kind kept.now.film.now).bound q.0 < bound
-        → result ≡ nat_le bound (justified (rules_of kept.now.kind kept.now.film.now) best.now.lines q.0) }
+    requires keeps { Keeps (F.pre bounds.now.f) (F.post bounds.now.f) bounds.now.kind bounds.now.film.now }
+    requires memo { IsMemo bounds.now.kind bounds.now.film.now memo.old }
+    requires lies { LiesIn bounds.now.film.now q.0 }
+    ensures memo { IsMemo bounds.now.kind bounds.now.film.now memo.new }
+    ensures enough { IsTrue result → bound ≤ justified (rules_of bounds.now.kind bounds.now.film.now) best.now.lines q.0 }
+    ensures decides { (rules_of bounds.now.kind bounds.now.film.now).bound q.0 < bound
+        → result ≡ nat_le bound (justified (rules_of bounds.now.kind bounds.now.film.now) best.now.lines q.0) }
 {
-    let film = kept.film();
+    let film = bounds.film();
     film.keeps_limits();
     let on = on(film, q);
     let firsts = open_firsts_with(film, q, on);
-    !firsts.is_empty() && steps_reach(kept, memo, best, q, on, firsts, bound)
+    !firsts.is_empty() && steps_reach(bounds, memo, best, q, on, firsts, bound)
 }
 
 /// Tells whether each open first's step plus the known bound of the rest reaches the bound.
 fn steps_reach<F: Fn(u64, u64) -> u64>(
-    kept: &StoredBound<F>,
+    bounds: &StoredBound<F>,
     memo: &mut Memo,
     best: &Best,
     q: Mask,
@@ -82,17 +82,17 @@ fn steps_reach<F: Fn(u64, u64) -> u64>(
     firsts: Mask,
     bound: u64,
 ) -> bool
-    requires keeps { Keeps (F.pre kept.now.f) (F.post kept.now.f) kept.now.kind kept.now.film.now }
-    requires memo { IsMemo kept.now.kind kept.now.film.now memo.old }
-    requires lies { LiesIn kept.now.film.now q.0 }
-    requires on { on.0 ≡ on_location kept.now.film.now q.0 }
+    requires keeps { Keeps (F.pre bounds.now.f) (F.post bounds.now.f) bounds.now.kind bounds.now.film.now }
+    requires memo { IsMemo bounds.now.kind bounds.now.film.now memo.old }
+    requires lies { LiesIn bounds.now.film.now q.0 }
+    requires on { on.0 ≡ on_location bounds.now.film.now q.0 }
     requires firsts { (scene : ℕ) → has firsts.0 scene ≡ true → has q.0 scene ≡ true }
-    ensures memo { IsMemo kept.now.kind kept.now.film.now memo.new }
-    ensures reach { IsTrue result ↔ All (λ scene. bound ≤ step_cost kept.now.film.now q.0 scene
-        + known (rules_of kept.now.kind kept.now.film.now) best.now.lines (without q.0 scene)) (members firsts.0) }
+    ensures memo { IsMemo bounds.now.kind bounds.now.film.now memo.new }
+    ensures reach { IsTrue result ↔ All (λ scene. bound ≤ step_cost bounds.now.film.now q.0 scene
+        + known (rules_of bounds.now.kind bounds.now.film.now) best.now.lines (without q.0 scene)) (members firsts.0) }
 {
     for scene in firsts.iter() {
-        if !step_reaches(kept, memo, best, q, on, scene, bound) {
+        if !step_reaches(bounds, memo, best, q, on, scene, bound) {
             return false;
         }
     }
@@ -101,7 +101,7 @@ fn steps_reach<F: Fn(u64, u64) -> u64>(
 
 /// Tells whether the step of a scene plus the known bound of the rest reaches the bound.
 fn step_reaches<F: Fn(u64, u64) -> u64>(
-    kept: &StoredBound<F>,
+    bounds: &StoredBound<F>,
     memo: &mut Memo,
     best: &Best,
     q: Mask,
@@ -109,87 +109,87 @@ fn step_reaches<F: Fn(u64, u64) -> u64>(
     s: u32,
     bound: u64,
 ) -> bool
-    requires keeps { Keeps (F.pre kept.now.f) (F.post kept.now.f) kept.now.kind kept.now.film.now }
-    requires memo { IsMemo kept.now.kind kept.now.film.now memo.old }
-    requires lies { LiesIn kept.now.film.now q.0 }
-    requires on { on.0 ≡ on_location kept.now.film.now q.0 }
+    requires keeps { Keeps (F.pre bounds.now.f) (F.post bounds.now.f) bounds.now.kind bounds.now.film.now }
+    requires memo { IsMemo bounds.now.kind bounds.now.film.now memo.old }
+    requires lies { LiesIn bounds.now.film.now q.0 }
+    requires on { on.0 ≡ on_location bounds.now.film.now q.0 }
     requires scene { has q.0 s ≡ true }
-    ensures memo { IsMemo kept.now.kind kept.now.film.now memo.new }
-    ensures reach { IsTrue result ↔ (bound ≤ step_cost kept.now.film.now q.0 s
-        + known (rules_of kept.now.kind kept.now.film.now) best.now.lines (without q.0 s)) }
+    ensures memo { IsMemo bounds.now.kind bounds.now.film.now memo.new }
+    ensures reach { IsTrue result ↔ (bound ≤ step_cost bounds.now.film.now q.0 s
+        + known (rules_of bounds.now.kind bounds.now.film.now) best.now.lines (without q.0 s)) }
 {
-    let film = kept.film();
+    let film = bounds.film();
     film.keeps_limits();
     let step = step_with(film, on, s);
-    step >= bound || is_known(kept, memo, best, q.without(s), bound - step)
+    step >= bound || is_known(bounds, memo, best, q.without(s), bound - step)
 }
 
 /// Tells whether a set's static bound or one of its lines reaches `need`.
 fn is_known<F: Fn(u64, u64) -> u64>(
-    kept: &StoredBound<F>,
+    bounds: &StoredBound<F>,
     memo: &mut Memo,
     best: &Best,
     q: Mask,
     need: u64,
 ) -> bool
-    requires keeps { Keeps (F.pre kept.now.f) (F.post kept.now.f) kept.now.kind kept.now.film.now }
-    requires memo { IsMemo kept.now.kind kept.now.film.now memo.old }
-    requires lies { LiesIn kept.now.film.now q.0 }
-    ensures memo { IsMemo kept.now.kind kept.now.film.now memo.new }
-    ensures known { IsTrue result ↔ (need ≤ known (rules_of kept.now.kind kept.now.film.now) best.now.lines q.0) }
+    requires keeps { Keeps (F.pre bounds.now.f) (F.post bounds.now.f) bounds.now.kind bounds.now.film.now }
+    requires memo { IsMemo bounds.now.kind bounds.now.film.now memo.old }
+    requires lies { LiesIn bounds.now.film.now q.0 }
+    ensures memo { IsMemo bounds.now.kind bounds.now.film.now memo.new }
+    ensures known { IsTrue result ↔ (need ≤ known (rules_of bounds.now.kind bounds.now.film.now) best.now.lines q.0) }
 {
-    if is_dear(kept.kind()) && best.bound_of(q.0) >= need {
+    if is_dear(bounds.kind()) && best.bound_of(q.0) >= need {
         return true;
     }
-    memo.reach(kept, q, need) >= need || best.bound_of(q.0) >= need
+    memo.reach(bounds, q, need) >= need || best.bound_of(q.0) >= need
 }
 
 /// Returns the greatest bound that the lines justify for a set, in units of money. Static bounds are computed in full.
 /// The sums may exceed 64 bits, since a plan's bounds may be any numbers.
-pub(crate) fn justified<F: Fn(u64, u64) -> u64>(kept: &StoredBound<F>, best: &Best, q: Mask) -> u128
-    requires keeps { Keeps (F.pre kept.now.f) (F.post kept.now.f) kept.now.kind kept.now.film.now }
-    requires lies { LiesIn kept.now.film.now q.0 }
-    ensures { result ≡ justified (rules_of kept.now.kind kept.now.film.now) best.now.lines q.0 }
+pub(crate) fn justified<F: Fn(u64, u64) -> u64>(bounds: &StoredBound<F>, best: &Best, q: Mask) -> u128
+    requires keeps { Keeps (F.pre bounds.now.f) (F.post bounds.now.f) bounds.now.kind bounds.now.film.now }
+    requires lies { LiesIn bounds.now.film.now q.0 }
+    ensures { result ≡ justified (rules_of bounds.now.kind bounds.now.film.now) best.now.lines q.0 }
 {
-    let bound = u128::from(kept.at(q));
-    let film = kept.film();
+    let bound = u128::from(bounds.at(q));
+    let film = bounds.film();
     let firsts = open_firsts(film, q);
     if firsts.is_empty() {
         return bound;
     }
-    bound.max(least_step(kept, best, q, firsts))
+    bound.max(least_step(bounds, best, q, firsts))
 }
 
 /// Returns the least step plus known bound of the rest, over these open firsts.
 fn least_step<F: Fn(u64, u64) -> u64>(
-    kept: &StoredBound<F>,
+    bounds: &StoredBound<F>,
     best: &Best,
     q: Mask,
     firsts: Mask,
 ) -> u128
-    requires keeps { Keeps (F.pre kept.now.f) (F.post kept.now.f) kept.now.kind kept.now.film.now }
-    requires lies { LiesIn kept.now.film.now q.0 }
+    requires keeps { Keeps (F.pre bounds.now.f) (F.post bounds.now.f) bounds.now.kind bounds.now.film.now }
+    requires lies { LiesIn bounds.now.film.now q.0 }
     requires firsts { (scene : ℕ) → has firsts.0 scene ≡ true → has q.0 scene ≡ true }
     requires some { firsts.0 ≢ 0 }
-    ensures { (none : ℕ) → result ≡ least_step (by_lines (rules_of kept.now.kind kept.now.film.now) best.now.lines)
+    ensures { (none : ℕ) → result ≡ least_step (by_lines (rules_of bounds.now.kind bounds.now.film.now) best.now.lines)
         q.0 none (members firsts.0) }
 {
-    let film = kept.film();
+    let film = bounds.film();
     film.keeps_limits();
     let mut least = u128::MAX;
     for scene in firsts.iter() {
         let step = step(film, q, scene);
-        let rest = known(kept, best, q.without(scene));
+        let rest = known(bounds, best, q.without(scene));
         least = least.min(u128::from(step) + u128::from(rest));
     }
     least
 }
 
 /// Returns the bound known of a set, in units of money: the greater of its static bound and its lines' bounds.
-pub(crate) fn known<F: Fn(u64, u64) -> u64>(kept: &StoredBound<F>, best: &Best, q: Mask) -> u64
-    requires keeps { Keeps (F.pre kept.now.f) (F.post kept.now.f) kept.now.kind kept.now.film.now }
-    requires lies { LiesIn kept.now.film.now q.0 }
-    ensures { result ≡ known (rules_of kept.now.kind kept.now.film.now) best.now.lines q.0 }
+pub(crate) fn known<F: Fn(u64, u64) -> u64>(bounds: &StoredBound<F>, best: &Best, q: Mask) -> u64
+    requires keeps { Keeps (F.pre bounds.now.f) (F.post bounds.now.f) bounds.now.kind bounds.now.film.now }
+    requires lies { LiesIn bounds.now.film.now q.0 }
+    ensures { result ≡ known (rules_of bounds.now.kind bounds.now.film.now) best.now.lines q.0 }
 {
-    kept.at(q).max(best.bound_of(q.0))
+    bounds.at(q).max(best.bound_of(q.0))
 }

@@ -37,10 +37,10 @@ pub(crate) fn against_proof(
     }
     let tables = BoundTables::of(alloc, film)?;
     let kind = plan.kind;
-    let kept = StoredBound::new(film, kind, |q, need| {
+    let bounds = StoredBound::new(film, kind, |q, need| {
         static_reach(film, &tables, kind, Mask(q), need)
     });
-    against_bounds(alloc, &kept, reduced.apart, plan)
+    against_bounds(alloc, &bounds, reduced.apart, plan)
 }
 
 /// Returns the first of the lines with a set that doesn't lie in the film.
@@ -61,44 +61,44 @@ fn against_sets(film: &Film, lines: &[Line]) -> Option<Reason>
 /// Returns the first reason against the bounds of the lines, the plan's bound and its status.
 fn against_bounds<F: Fn(u64, u64) -> u64>(
     alloc: Global,
-    kept: &StoredBound<F>,
+    bounds: &StoredBound<F>,
     apart: u64,
     plan: &Plan,
 ) -> Result<Option<Reason>, Memory>
-    requires keeps { Keeps (F.pre kept.now.f) (F.post kept.now.f) kept.now.kind kept.now.film.now }
-    requires lie { All (λ line. LiesIn kept.now.film.now line.set) plan.now.lines.items }
+    requires keeps { Keeps (F.pre bounds.now.f) (F.post bounds.now.f) bounds.now.kind bounds.now.film.now }
+    requires lie { All (λ line. LiesIn bounds.now.film.now line.set) plan.now.lines.items }
     ensures { IfOk result (λ reason. reason
-        ≡ first_fault (bound_checks (rules_of kept.now.kind kept.now.film.now) apart (plan_data plan.now))) }
+        ≡ first_fault (bound_checks (rules_of bounds.now.kind bounds.now.film.now) apart (plan_data plan.now))) }
 {
-    let mut memo = Memo::new(alloc, kept)?;
+    let mut memo = Memo::new(alloc, bounds)?;
     let best = Best::of(alloc, &plan.lines)?;
-    if let Some(reason) = against_lines(kept, &mut memo, &best, &plan.lines) {
+    if let Some(reason) = against_lines(bounds, &mut memo, &best, &plan.lines) {
         return Ok(Some(reason));
     }
-    Ok(against_end(kept, &best, apart, plan))
+    Ok(against_end(bounds, &best, apart, plan))
 }
 
 /// Returns the first of the lines with a bound greater than the lines justify for its set.
 fn against_lines<F: Fn(u64, u64) -> u64>(
-    kept: &StoredBound<F>,
+    bounds: &StoredBound<F>,
     memo: &mut Memo,
     best: &Best,
     lines: &[Line],
 ) -> Option<Reason>
-    requires keeps { Keeps (F.pre kept.now.f) (F.post kept.now.f) kept.now.kind kept.now.film.now }
-    requires memo { IsMemo kept.now.kind kept.now.film.now memo.old }
-    requires lie { All (λ line. LiesIn kept.now.film.now line.set) lines.now }
+    requires keeps { Keeps (F.pre bounds.now.f) (F.post bounds.now.f) bounds.now.kind bounds.now.film.now }
+    requires memo { IsMemo bounds.now.kind bounds.now.film.now memo.old }
+    requires lie { All (λ line. LiesIn bounds.now.film.now line.set) lines.now }
     requires best { best.now.lines ≡ lines.now }
-    ensures memo { IsMemo kept.now.kind kept.now.film.now memo.new }
+    ensures memo { IsMemo bounds.now.kind bounds.now.film.now memo.new }
     ensures first { result ≡ first_fault (below (length lines.now)
-        (line_check (rules_of kept.now.kind kept.now.film.now) lines.now)) }
+        (line_check (rules_of bounds.now.kind bounds.now.film.now) lines.now)) }
 {
     for (place, line) in lines.iter().enumerate() {
         let q = Mask(line.set);
-        if !is_justified(kept, memo, best, q, line.bound) {
+        if !is_justified(bounds, memo, best, q, line.bound) {
             return Some(Reason::Unjustified {
                 line: place as u64 + 1,
-                justified: justified(kept, best, q) as u64,
+                justified: justified(bounds, best, q) as u64,
             });
         }
     }
@@ -107,17 +107,17 @@ fn against_lines<F: Fn(u64, u64) -> u64>(
 
 /// Returns the first reason against the plan's bound and its status.
 fn against_end<F: Fn(u64, u64) -> u64>(
-    kept: &StoredBound<F>,
+    bounds: &StoredBound<F>,
     best: &Best,
     apart: u64,
     plan: &Plan,
 ) -> Option<Reason>
-    requires keeps { Keeps (F.pre kept.now.f) (F.post kept.now.f) kept.now.kind kept.now.film.now }
+    requires keeps { Keeps (F.pre bounds.now.f) (F.post bounds.now.f) bounds.now.kind bounds.now.film.now }
     requires best { best.now.lines ≡ plan.now.lines.items }
     ensures { result
-        ≡ first_fault (end_checks (rules_of kept.now.kind kept.now.film.now) apart (plan_data plan.now)) }
+        ≡ first_fault (end_checks (rules_of bounds.now.kind bounds.now.film.now) apart (plan_data plan.now)) }
 {
-    let known = u128::from(apart) + u128::from(known(kept, best, kept.film().all()));
+    let known = u128::from(apart) + u128::from(known(bounds, best, bounds.film().all()));
     if let Some(reason) = against_bound(known, plan.bound) {
         return Some(reason);
     }

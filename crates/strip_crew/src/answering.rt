@@ -23,26 +23,26 @@ const FEW: usize = 64;
 /// `answer_beside`. The caller makes it, because a trait method can't hand the stored bound to threads.
 #[derive(Drop)]
 pub struct Beside<'k, 'f, F: Fn(u64, u64) -> u64, G: Fn(&mut [Ask]) -> Result<(), Memory>> {
-    pub kept: &'k StoredBound<'f, F>,
+    pub bounds: &'k StoredBound<'f, F>,
     pub by: G,
 }
 
 impl<'k, 'f, F: Fn(u64, u64) -> u64, G: Fn(&mut [Ask]) -> Result<(), Memory>> Answers
     for Beside<'k, 'f, F, G> {
-    ghost film = { λ beside. beside.kept.now.film.now };
+    ghost film = { λ beside. beside.bounds.now.film.now };
 
-    ghost kind = { λ beside. beside.kept.now.kind };
+    ghost kind = { λ beside. beside.bounds.now.kind };
 
     ghost is_ready = { λ beside.
-        Keeps (F.pre beside.kept.now.f) (F.post beside.kept.now.f) beside.kept.now.kind beside.kept.now.film.now
-        × AnswersAll (G.pre beside.by) (G.post beside.by) beside.kept.now.kind beside.kept.now.film.now };
+        Keeps (F.pre beside.bounds.now.f) (F.post beside.bounds.now.f) beside.bounds.now.kind beside.bounds.now.film.now
+        × AnswersAll (G.pre beside.by) (G.post beside.by) beside.bounds.now.kind beside.bounds.now.film.now };
 
     fn film(&self) -> &Film {
-        self.kept.film()
+        self.bounds.film()
     }
 
     fn bound(&self, set: Mask) -> u64 {
-        self.kept.at(set)
+        self.bounds.at(set)
     }
 
     fn answer(&self, asks: &mut [Ask]) -> Result<(), Memory> {
@@ -55,24 +55,24 @@ impl<'k, 'f, F: Fn(u64, u64) -> u64, G: Fn(&mut [Ask]) -> Result<(), Memory>> An
 pub fn answer_beside<R: Threads + Sync, F: Fn(u64, u64) -> u64 + Sync>(
     rt: &R,
     alloc: Global,
-    kept: &StoredBound<F>,
+    bounds: &StoredBound<F>,
     workers: u32,
     asks: &mut [Ask],
 ) -> Result<(), Memory>
     requires workers { 0 < workers }
-    requires keeps { Keeps (F.pre kept.now.f) (F.post kept.now.f) kept.now.kind kept.now.film.now }
-    requires lies { All (λ ask. LiesIn kept.now.film.now ask.set) asks.old }
-    ensures { IfOk result (λ _. AreAnswered kept.now.kind kept.now.film.now asks.old asks.new) }
+    requires keeps { Keeps (F.pre bounds.now.f) (F.post bounds.now.f) bounds.now.kind bounds.now.film.now }
+    requires lies { All (λ ask. LiesIn bounds.now.film.now ask.set) asks.old }
+    ensures { IfOk result (λ _. AreAnswered bounds.now.kind bounds.now.film.now asks.old asks.new) }
 {
     if unknown_count(asks) < FEW {
-        answer_in_turn(kept, asks);
+        answer_in_turn(bounds, asks);
         return Ok(());
     }
     let workers = workers as usize;
     let turns = asks.len().div_ceil(workers);
     let mut room = vec![in alloc; 0u64; turns * workers]?;
     let values = &mut room[..];
-    find_values(rt, kept, asks, turns, workers, values);
+    find_values(rt, bounds, asks, turns, workers, values);
     take_values(asks, turns, workers, values);
     Ok(())
 }
@@ -86,7 +86,7 @@ fn unknown_count(asks: &[Ask]) -> usize {
 /// go to the workers in turn. Each worker's `turns` values lie in a row in `values`.
 fn find_values<R: Threads + Sync, F: Fn(u64, u64) -> u64 + Sync>(
     rt: &R,
-    kept: &StoredBound<F>,
+    bounds: &StoredBound<F>,
     asks: &[Ask],
     turns: usize,
     workers: usize,
@@ -94,16 +94,16 @@ fn find_values<R: Threads + Sync, F: Fn(u64, u64) -> u64 + Sync>(
 )
     requires workers { 0 < workers }
     requires room { length values.old ≡ turns * workers }
-    requires keeps { Keeps (F.pre kept.now.f) (F.post kept.now.f) kept.now.kind kept.now.film.now }
-    requires lies { All (λ ask. LiesIn kept.now.film.now ask.set) asks.now }
-    ensures { AreValues kept.now.kind kept.now.film.now asks.now turns workers values.new }
+    requires keeps { Keeps (F.pre bounds.now.f) (F.post bounds.now.f) bounds.now.kind bounds.now.film.now }
+    requires lies { All (λ ask. LiesIn bounds.now.film.now ask.set) asks.now }
+    ensures { AreValues bounds.now.kind bounds.now.film.now asks.now turns workers values.new }
 {
     thread::for_each_mut(
         rt,
         values,
         workers,
         &|place, value| {
-            *value = value_at(kept, asks, turns, workers, place);
+            *value = value_at(bounds, asks, turns, workers, place);
         },
     );
 }
@@ -111,7 +111,7 @@ fn find_values<R: Threads + Sync, F: Fn(u64, u64) -> u64 + Sync>(
 /// Returns the value of the request that belongs to this place of `values`, or 0 if there is none or it is known. It
 /// calls the stored bound at most once.
 fn value_at<F: Fn(u64, u64) -> u64>(
-    kept: &StoredBound<F>,
+    bounds: &StoredBound<F>,
     asks: &[Ask],
     turns: usize,
     workers: usize,
@@ -119,12 +119,12 @@ fn value_at<F: Fn(u64, u64) -> u64>(
 ) -> u64
     requires room { turns * workers < 2 ^ 64 }
     requires place { place < turns * workers }
-    requires keeps { Keeps (F.pre kept.now.f) (F.post kept.now.f) kept.now.kind kept.now.film.now }
-    requires lies { All (λ ask. LiesIn kept.now.film.now ask.set) asks.now }
-    ensures { IsValue kept.now.kind kept.now.film.now asks.now (ask_of turns workers place) result }
+    requires keeps { Keeps (F.pre bounds.now.f) (F.post bounds.now.f) bounds.now.kind bounds.now.film.now }
+    requires lies { All (λ ask. LiesIn bounds.now.film.now ask.set) asks.now }
+    ensures { IsValue bounds.now.kind bounds.now.film.now asks.now (ask_of turns workers place) result }
 {
     match asks.get(place % turns * workers + place / turns) {
-        Some(ask) if !ask.is_known => kept.reach(Mask(ask.set), ask.need),
+        Some(ask) if !ask.is_known => bounds.reach(Mask(ask.set), ask.need),
         _ => 0,
     }
 }

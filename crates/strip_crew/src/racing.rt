@@ -64,27 +64,27 @@ struct Opening {
 pub fn race<R: Threads + Wait + Sync, F: Fn(u64, u64) -> u64 + Sync, G: Gate>(
     rt: &R,
     alloc: Global,
-    kept: &StoredBound<F>,
+    bounds: &StoredBound<F>,
     memo: &mut Memo,
     start: &Path,
     limits: Limits,
     steal: bool,
     gate: &G,
 ) -> Result<Ended, Memory>
-    requires keeps { Keeps (F.pre kept.now.f) (F.post kept.now.f) kept.now.kind kept.now.film.now }
-    requires memo { IsMemo kept.now.kind kept.now.film.now memo.old }
-    requires start { IsComplete kept.now.film.now (path_data start.now) }
+    requires keeps { Keeps (F.pre bounds.now.f) (F.post bounds.now.f) bounds.now.kind bounds.now.film.now }
+    requires memo { IsMemo bounds.now.kind bounds.now.film.now memo.old }
+    requires start { IsComplete bounds.now.film.now (path_data start.now) }
     requires limits { AreLimits limits }
-    ensures memo { IsMemo kept.now.kind kept.now.film.now memo.new }
-    ensures ended { IfOk result (λ ended. IsEnded kept.now.kind kept.now.film.now (path_data start.now) limits.cap
+    ensures memo { IsMemo bounds.now.kind bounds.now.film.now memo.new }
+    ensures ended { IfOk result (λ ended. IsEnded bounds.now.kind bounds.now.film.now (path_data start.now) limits.cap
         (ended_data ended)) }
 {
     paths_are_few();
-    kept.film().keeps_limits();
-    let room = room_for(kept.film().scenes(), limits.cap);
-    let most = task_scenes(kept.film().scenes(), limits.workers);
-    let opening = open(alloc, kept, start, room, most)?;
-    in_race::<Brand, R, F, G>(rt, alloc, kept, memo, opening, limits, steal, gate)
+    bounds.film().keeps_limits();
+    let room = room_for(bounds.film().scenes(), limits.cap);
+    let most = task_scenes(bounds.film().scenes(), limits.workers);
+    let opening = open(alloc, bounds, start, room, most)?;
+    in_race::<Brand, R, F, G>(rt, alloc, bounds, memo, opening, limits, steal, gate)
 }
 
 /// Returns the greatest possible number of lines: the cap, or twice the number of orders of the scenes if that is less.
@@ -118,26 +118,26 @@ fn task_scenes(scenes: usize, workers: u32) -> usize
 /// Makes the initial state of a race, with room for `room` lines and with tasks of at most `most` scenes.
 fn open<F: Fn(u64, u64) -> u64>(
     alloc: Global,
-    kept: &StoredBound<F>,
+    bounds: &StoredBound<F>,
     start: &Path,
     room: u32,
     most: usize,
 ) -> Result<Opening, Memory>
-    requires keeps { Keeps (F.pre kept.now.f) (F.post kept.now.f) kept.now.kind kept.now.film.now }
-    requires start { IsComplete kept.now.film.now (path_data start.now) }
+    requires keeps { Keeps (F.pre bounds.now.f) (F.post bounds.now.f) bounds.now.kind bounds.now.film.now }
+    requires start { IsComplete bounds.now.film.now (path_data start.now) }
     requires some { 1 ≤ room }
     requires few { room ≤ 16777216 }
     requires some_scenes { 2 ≤ most }
     requires few_scenes { most ≤ 4 }
-    ensures { IfOk result (IsOpening kept.now.kind kept.now.film.now (path_data start.now).paid room) }
+    ensures { IfOk result (IsOpening bounds.now.kind bounds.now.film.now (path_data start.now).paid room) }
 {
-    let film = kept.film();
+    let film = bounds.film();
     film.keeps_limits();
     tasks_are_starts();
-    let front = make_front(alloc, kept, most)?;
+    let front = make_front(alloc, bounds, most)?;
     let parts = front.tasks().len() as u32 + 1;
     let (least, told) = Least::new(alloc, film, start, parts)?;
-    let (book, lines) = Book::new(alloc, film, kept.kind(), start.paid(), front.tasks(), room)?;
+    let (book, lines) = Book::new(alloc, film, bounds.kind(), start.paid(), front.tasks(), room)?;
     Ok(Opening {
         front,
         least,
@@ -159,21 +159,21 @@ fn in_race<
 >(
     rt: &R,
     alloc: Global,
-    kept: &StoredBound<F>,
+    bounds: &StoredBound<F>,
     memo: &mut Memo,
     opening: Opening,
     limits: Limits,
     steal: bool,
     gate: &G,
 ) -> Result<Ended, Memory>
-    requires keeps { Keeps (F.pre kept.now.f) (F.post kept.now.f) kept.now.kind kept.now.film.now }
-    requires memo { IsMemo kept.now.kind kept.now.film.now memo.old }
+    requires keeps { Keeps (F.pre bounds.now.f) (F.post bounds.now.f) bounds.now.kind bounds.now.film.now }
+    requires memo { IsMemo bounds.now.kind bounds.now.film.now memo.old }
     requires named { table_of opening.book ≡ N.table }
-    requires opening { (paid : ℕ) × (room : ℕ) × IsOpening kept.now.kind kept.now.film.now paid room opening }
+    requires opening { (paid : ℕ) × (room : ℕ) × IsOpening bounds.now.kind bounds.now.film.now paid room opening }
     requires limits { AreLimits limits }
-    ensures memo { IsMemo kept.now.kind kept.now.film.now memo.new }
-    ensures ended { (paid room : ℕ) → IsOpening kept.now.kind kept.now.film.now paid room opening
-        → IfOk result (λ ended. EndsFrom kept.now.kind kept.now.film.now paid room (ended_data ended)) }
+    ensures memo { IsMemo bounds.now.kind bounds.now.film.now memo.new }
+    ensures ended { (paid room : ℕ) → IsOpening bounds.now.kind bounds.now.film.now paid room opening
+        → IfOk result (λ ended. EndsFrom bounds.now.kind bounds.now.film.now paid room (ended_data ended)) }
 {
     let Opening {
         mut front,
@@ -188,9 +188,9 @@ fn in_race<
         stripes,
     };
     let (passes, number, spent) = walk_all(
-        rt, alloc, kept, memo, &tables, &mut front, passes, limits, steal, gate,
+        rt, alloc, bounds, memo, &tables, &mut front, passes, limits, steal, gate,
     )?;
-    end(alloc, kept, tables, passes, number, spent)
+    end(alloc, bounds, tables, passes, number, spent)
 }
 
 /// Goes down the front, has the tasks walked, and raises the front's lines. It returns the bound to which the line of
@@ -203,7 +203,7 @@ fn walk_all<
 >(
     rt: &R,
     alloc: Global,
-    kept: &StoredBound<F>,
+    bounds: &StoredBound<F>,
     memo: &mut Memo,
     tables: &Tables<N>,
     front: &mut Front,
@@ -212,22 +212,22 @@ fn walk_all<
     steal: bool,
     gate: &G,
 ) -> Result<(HubParts, u64, bool), Memory>
-    requires keeps { Keeps (F.pre kept.now.f) (F.post kept.now.f) kept.now.kind kept.now.film.now }
-    requires memo { IsMemo kept.now.kind kept.now.film.now memo.old }
+    requires keeps { Keeps (F.pre bounds.now.f) (F.post bounds.now.f) bounds.now.kind bounds.now.film.now }
+    requires memo { IsMemo bounds.now.kind bounds.now.film.now memo.old }
     requires named { table_of tables.now.book ≡ N.table }
-    requires begin { MayBegin kept.now.kind kept.now.film.now (front_data front.old)
+    requires begin { MayBegin bounds.now.kind bounds.now.film.now (front_data front.old)
         tables.now.least tables.now.book passes }
     requires limits { AreLimits limits }
-    ensures memo { IsMemo kept.now.kind kept.now.film.now memo.new }
-    ensures closed { IfOk result (λ closed. HasClosed kept.now.kind kept.now.film.now
+    ensures memo { IsMemo bounds.now.kind bounds.now.film.now memo.new }
+    ensures closed { IfOk result (λ closed. HasClosed bounds.now.kind bounds.now.film.now
         tables.now.least tables.now.book passes closed.0 closed.1 closed.2) }
 {
-    let (passes, mut walked) = begin(rt, alloc, kept, tables, front, passes)?;
+    let (passes, mut walked) = begin(rt, alloc, bounds, tables, front, passes)?;
     gate.opened(asked_for(front), limits.workers);
     let passes = work_all(
         rt,
         alloc,
-        kept,
+        bounds,
         tables,
         front,
         gate,
@@ -237,7 +237,7 @@ fn walk_all<
         &mut walked,
         passes,
     )?;
-    let (passes, number) = close_front(rt, kept, tables, front, passes, &walked)?;
+    let (passes, number) = close_front(rt, bounds, tables, front, passes, &walked)?;
     Ok((passes, number, walked.spent))
 }
 
@@ -245,14 +245,14 @@ fn walk_all<
 fn begin<R: Wait, N: Named, F: Fn(u64, u64) -> u64>(
     rt: &R,
     alloc: Global,
-    kept: &StoredBound<F>,
+    bounds: &StoredBound<F>,
     tables: &Tables<N>,
     front: &mut Front,
     passes: HubParts,
 ) -> Result<(HubParts, Walked), Memory>
-    requires keeps { Keeps (F.pre kept.now.f) (F.post kept.now.f) kept.now.kind kept.now.film.now }
+    requires keeps { Keeps (F.pre bounds.now.f) (F.post bounds.now.f) bounds.now.kind bounds.now.film.now }
     requires named { table_of tables.now.book ≡ N.table }
-    requires begin { MayBegin kept.now.kind kept.now.film.now (front_data front.old)
+    requires begin { MayBegin bounds.now.kind bounds.now.film.now (front_data front.old)
         tables.now.least tables.now.book passes }
     ensures { IfOk result (λ begun. HasBegun (front_data front.new)
         tables.now.least tables.now.book passes begun.0 begun.1) }
@@ -260,7 +260,7 @@ fn begin<R: Wait, N: Named, F: Fn(u64, u64) -> u64>(
     other_parts_have_no_record();
     let mut hub = Hub::of(rt, &tables.least, &tables.book, &tables.stripes, passes);
     hub.claim();
-    let walked = go_down_front(alloc, kept, &mut hub, front)?;
+    let walked = go_down_front(alloc, bounds, &mut hub, front)?;
     let mut passes = hub.parts();
     settle(&tables.least, &tables.book, &mut passes);
     Ok((passes, walked))
@@ -275,7 +275,7 @@ fn work_all<
 >(
     rt: &R,
     alloc: Global,
-    kept: &StoredBound<F>,
+    bounds: &StoredBound<F>,
     tables: &Tables<N>,
     front: &Front,
     gate: &G,
@@ -285,22 +285,22 @@ fn work_all<
     walked: &mut Walked,
     passes: HubParts,
 ) -> Result<HubParts, Memory>
-    requires keeps { Keeps (F.pre kept.now.f) (F.post kept.now.f) kept.now.kind kept.now.film.now }
-    requires memo { IsMemo kept.now.kind kept.now.film.now memo.old }
+    requires keeps { Keeps (F.pre bounds.now.f) (F.post bounds.now.f) bounds.now.kind bounds.now.film.now }
+    requires memo { IsMemo bounds.now.kind bounds.now.film.now memo.old }
     requires named { table_of tables.now.book ≡ N.table }
     requires passes { ArePassesOf tables.now.least tables.now.book passes }
     requires full { Weigh full_weight passes }
-    requires worked { HasWorkedOn kept.now.kind kept.now.film.now (shown passes) (front_data front.now)
+    requires worked { HasWorkedOn bounds.now.kind bounds.now.film.now (shown passes) (front_data front.now)
         walked.old.found.items walked.old.spent }
     requires only { HasOnlyFront passes }
     requires workers { (1 ≤ workers) × (workers ≤ 64) }
-    ensures memo { IsMemo kept.now.kind kept.now.film.now memo.new }
+    ensures memo { IsMemo bounds.now.kind bounds.now.film.now memo.new }
     ensures worked { IfOk result (λ after. HaveWorked full_weight (front_data front.now)
         tables.now.least tables.now.book passes after walked.new) }
 {
     if walked.spent {
         let caller = Worker { gate, number: 0 };
-        return work_alone(rt, kept, tables, front, &caller, memo, walked, passes);
+        return work_alone(rt, bounds, tables, front, &caller, memo, walked, passes);
     }
     let mut passes = with_source(
         alloc,
@@ -314,7 +314,7 @@ fn work_all<
     work_beside::<R, N, F, G, Brand>(
         rt,
         alloc,
-        kept,
+        bounds,
         tables,
         front,
         gate,
@@ -330,25 +330,25 @@ fn work_all<
 /// lines, and the bound to which the line of all scenes was raised.
 fn close_front<R: Wait, N: Named, F: Fn(u64, u64) -> u64>(
     rt: &R,
-    kept: &StoredBound<F>,
+    bounds: &StoredBound<F>,
     tables: &Tables<N>,
     front: &mut Front,
     passes: HubParts,
     walked: &Walked,
 ) -> Result<(HubParts, u64), Memory>
-    requires keeps { Keeps (F.pre kept.now.f) (F.post kept.now.f) kept.now.kind kept.now.film.now }
+    requires keeps { Keeps (F.pre bounds.now.f) (F.post bounds.now.f) bounds.now.kind bounds.now.film.now }
     requires named { table_of tables.now.book ≡ N.table }
     requires passes { ArePassesOf tables.now.least tables.now.book passes }
     requires full { Weigh full_weight passes }
-    requires worked { HasWorkedOn kept.now.kind kept.now.film.now (shown passes) (front_data front.old)
+    requires worked { HasWorkedOn bounds.now.kind bounds.now.film.now (shown passes) (front_data front.old)
         walked.now.found.items walked.now.spent }
     requires left { NoPartLeft passes }
-    ensures { IfOk result (λ closed. HasClosed kept.now.kind kept.now.film.now tables.now.least tables.now.book passes closed.0 closed.1 walked.now.spent) }
+    ensures { IfOk result (λ closed. HasClosed bounds.now.kind bounds.now.film.now tables.now.least tables.now.book passes closed.0 closed.1 walked.now.spent) }
 {
     let mut passes = passes;
     settle(&tables.least, &tables.book, &mut passes);
     let mut hub = Hub::of(rt, &tables.least, &tables.book, &tables.stripes, passes);
-    let number = close(kept, &mut hub, front, walked)?;
+    let number = close(bounds, &mut hub, front, walked)?;
     let mut passes = hub.parts();
     settle(&tables.least, &tables.book, &mut passes);
     Ok((passes, number))
@@ -357,16 +357,16 @@ fn close_front<R: Wait, N: Named, F: Fn(u64, u64) -> u64>(
 /// Takes the lines out of the book, and makes the result of the race.
 fn end<N: Named, F: Fn(u64, u64) -> u64>(
     alloc: Global,
-    kept: &StoredBound<F>,
+    bounds: &StoredBound<F>,
     tables: Tables<N>,
     passes: HubParts,
     number: u64,
     spent: bool,
 ) -> Result<Ended, Memory>
-    requires keeps { Keeps (F.pre kept.now.f) (F.post kept.now.f) kept.now.kind kept.now.film.now }
+    requires keeps { Keeps (F.pre bounds.now.f) (F.post bounds.now.f) bounds.now.kind bounds.now.film.now }
     requires closed { (before : HubParts)
-        × HasClosed kept.now.kind kept.now.film.now tables.least tables.book before passes number spent }
-    ensures { IfOk result (λ ended. EndsFrom kept.now.kind kept.now.film.now (shown passes).search.start
+        × HasClosed bounds.now.kind bounds.now.film.now tables.least tables.book before passes number spent }
+    ensures { IfOk result (λ ended. EndsFrom bounds.now.kind bounds.now.film.now (shown passes).search.start
         (shown passes).search.cap (ended_data ended)) }
 {
     lines_of_entries_are_counted();
@@ -374,5 +374,5 @@ fn end<N: Named, F: Fn(u64, u64) -> u64>(
     let HubParts { told, lines, .. } = passes;
     let best = *told.best();
     let lines = book.into_lines(alloc, lines)?;
-    tell(alloc, kept, &best, lines, number, spent)
+    tell(alloc, bounds, &best, lines, number, spent)
 }

@@ -31,26 +31,26 @@ use strip_worker::{Walked, Worker, merge, work};
 /// takes a memo and a number for each task for each worker. The caller has a memo besides.
 fn deal<N: Named, F: Fn(u64, u64) -> u64>(
     alloc: Global,
-    kept: &StoredBound<F>,
+    bounds: &StoredBound<F>,
     tables: &Tables<N>,
     front: &Front,
     passes: &mut HubParts,
     workers: u32,
 ) -> Result<Vec<Job>, Memory>
-    requires keeps { Keeps (F.pre kept.now.f) (F.post kept.now.f) kept.now.kind kept.now.film.now }
+    requires keeps { Keeps (F.pre bounds.now.f) (F.post bounds.now.f) bounds.now.kind bounds.now.film.now }
     requires passes { ArePassesOf tables.now.least tables.now.book passes.old }
-    requires search { IsSearchOf kept.now.kind kept.now.film.now (shown passes.old) }
+    requires search { IsSearchOf bounds.now.kind bounds.now.film.now (shown passes.old) }
     requires worked { (found : List ℕ) × HasWorked (shown passes.old) (front_data front.now) found false }
     requires weight { (rest : ℕ) × Weigh (1 + rest + workers) passes.old }
     requires deals { (desk : ℕ) → desk < workers → Deals desk (split_home passes.old.source) }
     requires workers { workers ≤ 64 }
-    ensures { IfOk result (λ jobs. AreDealt kept.now.kind kept.now.film.now (front_data front.now)
+    ensures { IfOk result (λ jobs. AreDealt bounds.now.kind bounds.now.film.now (front_data front.now)
         tables.now.least tables.now.book
         passes.old passes.new jobs.items workers) }
 {
     let mut jobs = Vec::new(alloc);
     for desk in 0..workers {
-        let memo = Memo::among(alloc, kept, workers + 1)?;
+        let memo = Memo::among(alloc, bounds, workers + 1)?;
         let walked = Walked::new(alloc, front)?;
         jobs.push(Job {
             number: desk,
@@ -65,7 +65,7 @@ fn deal<N: Named, F: Fn(u64, u64) -> u64>(
 /// Claims parts with these passes until none is left, and walks each wanted task. The results are merged into `walked`.
 pub(crate) fn work_alone<R: Wait, N: Named, F: Fn(u64, u64) -> u64, G: Gate>(
     rt: &R,
-    kept: &StoredBound<F>,
+    bounds: &StoredBound<F>,
     tables: &Tables<N>,
     front: &Front,
     worker: &Worker<G>,
@@ -73,38 +73,38 @@ pub(crate) fn work_alone<R: Wait, N: Named, F: Fn(u64, u64) -> u64, G: Gate>(
     walked: &mut Walked,
     passes: HubParts,
 ) -> Result<HubParts, Memory>
-    requires keeps { Keeps (F.pre kept.now.f) (F.post kept.now.f) kept.now.kind kept.now.film.now }
-    requires memo { IsMemo kept.now.kind kept.now.film.now memo.old }
+    requires keeps { Keeps (F.pre bounds.now.f) (F.post bounds.now.f) bounds.now.kind bounds.now.film.now }
+    requires memo { IsMemo bounds.now.kind bounds.now.film.now memo.old }
     requires named { table_of tables.now.book ≡ N.table }
     requires passes { ArePassesOf tables.now.least tables.now.book passes }
     requires worker { IsWorkers passes.source }
-    requires worked { HasWorkedOn kept.now.kind kept.now.film.now (shown passes) (front_data front.now)
+    requires worked { HasWorkedOn bounds.now.kind bounds.now.film.now (shown passes) (front_data front.now)
         walked.old.found.items walked.old.spent }
-    ensures memo { IsMemo kept.now.kind kept.now.film.now memo.new }
+    ensures memo { IsMemo bounds.now.kind bounds.now.film.now memo.new }
     ensures home { IfOk result (λ after. source_home after.source ≡ source_home passes.source) }
     ensures worker { IfOk result (λ after. IsWorkers after.source) }
     ensures worked { (weight : ℕ) → IfOk result
         (λ after. HaveWorked weight (front_data front.now) tables.now.least tables.now.book passes after walked.new) }
 {
     let mut hub = Hub::of(rt, &tables.least, &tables.book, &tables.stripes, passes);
-    work(kept, &mut hub, front, worker, memo, walked)?;
+    work(bounds, &mut hub, front, worker, memo, walked)?;
     Ok(hub.parts())
 }
 
 /// Does a job: claims parts with its passes until none is left, and walks the wanted tasks.
 fn do_job<R: Wait, N: Named, F: Fn(u64, u64) -> u64, G: Gate, S: Rooted>(
     rt: &R,
-    kept: &StoredBound<F>,
+    bounds: &StoredBound<F>,
     tables: &Tables<N>,
     front: &Front,
     gate: &G,
     job: Job,
 ) -> Result<Job, Memory>
-    requires keeps { Keeps (F.pre kept.now.f) (F.post kept.now.f) kept.now.kind kept.now.film.now }
+    requires keeps { Keeps (F.pre bounds.now.f) (F.post bounds.now.f) bounds.now.kind bounds.now.film.now }
     requires named { table_of tables.now.book ≡ N.table }
-    requires job { IsJob kept.now.kind kept.now.film.now (front_data front.now)
+    requires job { IsJob bounds.now.kind bounds.now.film.now (front_data front.now)
         tables.now.least tables.now.book S.home job }
-    ensures { IfOk result (IsDone kept.now.kind kept.now.film.now (front_data front.now)
+    ensures { IfOk result (IsDone bounds.now.kind bounds.now.film.now (front_data front.now)
         tables.now.least tables.now.book S.home) }
 {
     let Job {
@@ -116,7 +116,7 @@ fn do_job<R: Wait, N: Named, F: Fn(u64, u64) -> u64, G: Gate, S: Rooted>(
     let worker = Worker { gate, number };
     let passes = work_alone(
         rt,
-        kept,
+        bounds,
         tables,
         front,
         &worker,
@@ -141,32 +141,32 @@ fn do_jobs<
     S: Rooted + Send + Sync,
 >(
     rt: &R,
-    kept: &StoredBound<F>,
+    bounds: &StoredBound<F>,
     tables: &Tables<N>,
     front: &Front,
     gate: &G,
     jobs: Vec<Job>,
 ) -> Result<Vec<Result<Job, Memory>>, Memory>
-    requires keeps { Keeps (F.pre kept.now.f) (F.post kept.now.f) kept.now.kind kept.now.film.now }
+    requires keeps { Keeps (F.pre bounds.now.f) (F.post bounds.now.f) bounds.now.kind bounds.now.film.now }
     requires named { table_of tables.now.book ≡ N.table }
-    requires jobs { All (IsJob kept.now.kind kept.now.film.now (front_data front.now)
+    requires jobs { All (IsJob bounds.now.kind bounds.now.film.now (front_data front.now)
         tables.now.least tables.now.book S.home) jobs.items }
     ensures count { IfOk result (λ all. vec_len all ≡ vec_len jobs) }
     ensures each { IfOk result (λ all. All (λ one. IfOk one
-        (IsDone kept.now.kind kept.now.film.now (front_data front.now) tables.now.least tables.now.book S.home))
+        (IsDone bounds.now.kind bounds.now.film.now (front_data front.now) tables.now.least tables.now.book S.home))
         all.items) }
 {
     let all = thread::map_vec(
         rt,
         jobs,
         &|job: Job| -> Result<Job, Memory>
-            requires { Keeps (F.pre kept.now.f) (F.post kept.now.f) kept.now.kind kept.now.film.now
+            requires { Keeps (F.pre bounds.now.f) (F.post bounds.now.f) bounds.now.kind bounds.now.film.now
                 × (table_of tables.now.book ≡ N.table)
-                × IsJob kept.now.kind kept.now.film.now (front_data front.now)
+                × IsJob bounds.now.kind bounds.now.film.now (front_data front.now)
                 tables.now.least tables.now.book S.home job }
-            ensures { IfOk result (IsDone kept.entry.now.kind kept.entry.now.film.now (front_data front.entry.now)
+            ensures { IfOk result (IsDone bounds.entry.now.kind bounds.entry.now.film.now (front_data front.entry.now)
                 tables.entry.now.least tables.entry.now.book S.home) }
-        { do_job::<R, N, F, G, S>(rt, kept, tables, front, gate, job) },
+        { do_job::<R, N, F, G, S>(rt, bounds, tables, front, gate, job) },
     )?;
     Ok(all)
 }
@@ -207,7 +207,7 @@ pub(crate) fn work_beside<
 >(
     rt: &R,
     alloc: Global,
-    kept: &StoredBound<F>,
+    bounds: &StoredBound<F>,
     tables: &Tables<N>,
     front: &Front,
     gate: &G,
@@ -216,22 +216,22 @@ pub(crate) fn work_beside<
     passes: &mut HubParts,
     walked: &mut Walked,
 ) -> Result<(), Memory>
-    requires keeps { Keeps (F.pre kept.now.f) (F.post kept.now.f) kept.now.kind kept.now.film.now }
-    requires memo { IsMemo kept.now.kind kept.now.film.now memo.old }
+    requires keeps { Keeps (F.pre bounds.now.f) (F.post bounds.now.f) bounds.now.kind bounds.now.film.now }
+    requires memo { IsMemo bounds.now.kind bounds.now.film.now memo.old }
     requires named { table_of tables.now.book ≡ N.table }
     requires passes { ArePassesOf tables.now.least tables.now.book passes.old }
-    requires worked { HasWorkedOn kept.now.kind kept.now.film.now (shown passes.old) (front_data front.now)
+    requires worked { HasWorkedOn bounds.now.kind bounds.now.film.now (shown passes.old) (front_data front.now)
         walked.old.found.items walked.old.spent }
     requires whole { walked.old.spent ≡ false }
     requires split { CanSplit workers S.home passes.old }
     requires workers { (1 ≤ workers) × (workers ≤ 64) }
-    ensures memo { IsMemo kept.now.kind kept.now.film.now memo.new }
+    ensures memo { IsMemo bounds.now.kind bounds.now.film.now memo.new }
     ensures worked { (weight : ℕ) → IfOk result
         (λ _. HaveWorked weight
         (front_data front.now) tables.now.least tables.now.book passes.old passes.new walked.new) }
 {
-    let jobs = deal(alloc, kept, tables, front, passes, workers)?;
-    let mut all = do_jobs::<R, N, F, G, S>(rt, kept, tables, front, gate, jobs)?;
+    let jobs = deal(alloc, bounds, tables, front, passes, workers)?;
+    let mut all = do_jobs::<R, N, F, G, S>(rt, bounds, tables, front, gate, jobs)?;
     while let Some(one) = all.pop() {
         // Trimming will use the memo of one worker.
         *memo = gather(tables, passes, walked, one?);

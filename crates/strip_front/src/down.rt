@@ -28,14 +28,14 @@ use strip_io::Memory;
 ///
 /// It takes a few calls of the hand and one of the stored bound for each path, and a lookup for each task that follows.
 pub fn go_down<H: Hand, F: Fn(u64, u64) -> u64>(
-    kept: &StoredBound<F>,
+    bounds: &StoredBound<F>,
     hand: &mut H,
     cursor: &mut Cursor,
     front: &mut Front,
 ) -> Result<bool, Memory>
     requires sound { H.is_sound hand.old }
-    requires keeps { Keeps (F.pre kept.now.f) (F.post kept.now.f) kept.now.kind kept.now.film.now }
-    requires search { IsSearchOf kept.now.kind kept.now.film.now (H.shows hand.old) }
+    requires keeps { Keeps (F.pre bounds.now.f) (F.post bounds.now.f) bounds.now.kind bounds.now.film.now }
+    requires search { IsSearchOf bounds.now.kind bounds.now.film.now (H.shows hand.old) }
     requires may { MayGoDown (H.shows hand.old) (cursor_data cursor.old) (front_data front.old) }
     ensures sound { H.is_sound hand.new }
     ensures home { H.home hand.new ≡ H.home hand.old }
@@ -45,9 +45,9 @@ pub fn go_down<H: Hand, F: Fn(u64, u64) -> u64>(
         (front_data front.new) spent) }
     ensures memory { IfErr result (λ _. Rose (H.shows hand.old).refusals (H.shows hand.new).refusals) }
 {
-    let spent = enlist_paths(kept, hand, cursor, front)?;
+    let spent = enlist_paths(bounds, hand, cursor, front)?;
     hand.keeps_limits();
-    mark_wanted(kept.film(), front);
+    mark_wanted(bounds.film(), front);
     Ok(spent)
 }
 
@@ -87,14 +87,14 @@ impl Tried {
 
 /// Enlists the path, if its pay plus the static bound of the rest is below the least cost.
 fn try_path<H: Hand, F: Fn(u64, u64) -> u64>(
-    kept: &StoredBound<F>,
+    bounds: &StoredBound<F>,
     hand: &mut H,
     cursor: &mut Cursor,
     path: &Path,
 ) -> Result<Tried, Memory>
     requires sound { H.is_sound hand.old }
-    requires keeps { Keeps (F.pre kept.now.f) (F.post kept.now.f) kept.now.kind kept.now.film.now }
-    requires search { IsSearchOf kept.now.kind kept.now.film.now (H.shows hand.old) }
+    requires keeps { Keeps (F.pre bounds.now.f) (F.post bounds.now.f) bounds.now.kind bounds.now.film.now }
+    requires search { IsSearchOf bounds.now.kind bounds.now.film.now (H.shows hand.old) }
     requires stands { StandsInFront (H.shows hand.old) (cursor_data cursor.old) }
     requires may { MayTry (H.shows hand.old).search (cursor_data cursor.old) (path_data path.now) }
     ensures sound { H.is_sound hand.new }
@@ -103,7 +103,7 @@ fn try_path<H: Hand, F: Fn(u64, u64) -> u64>(
     ensures tried { Tries (H.shows hand.old) (cursor_data cursor.old) (path_data path.now) result (H.shows hand.new)
         (cursor_data cursor.new) }
 {
-    let bound = kept.at(path.rest());
+    let bound = bounds.at(path.rest());
     let least = hand.look();
     hand.keeps_limits();
     if least <= path.paid() + bound {
@@ -119,14 +119,14 @@ fn try_path<H: Hand, F: Fn(u64, u64) -> u64>(
 
 /// Enlists the empty path, and then the others, each if it is below the least cost.
 fn enlist_paths<H: Hand, F: Fn(u64, u64) -> u64>(
-    kept: &StoredBound<F>,
+    bounds: &StoredBound<F>,
     hand: &mut H,
     cursor: &mut Cursor,
     front: &mut Front,
 ) -> Result<bool, Memory>
     requires sound { H.is_sound hand.old }
-    requires keeps { Keeps (F.pre kept.now.f) (F.post kept.now.f) kept.now.kind kept.now.film.now }
-    requires search { IsSearchOf kept.now.kind kept.now.film.now (H.shows hand.old) }
+    requires keeps { Keeps (F.pre bounds.now.f) (F.post bounds.now.f) bounds.now.kind bounds.now.film.now }
+    requires search { IsSearchOf bounds.now.kind bounds.now.film.now (H.shows hand.old) }
     requires may { MayGoDown (H.shows hand.old) (cursor_data cursor.old) (front_data front.old) }
     ensures sound { H.is_sound hand.new }
     ensures home { H.home hand.new ≡ H.home hand.old }
@@ -137,26 +137,26 @@ fn enlist_paths<H: Hand, F: Fn(u64, u64) -> u64>(
     ensures memory { IfErr result (λ _. Rose (H.shows hand.old).refusals (H.shows hand.new).refusals) }
 {
     hand.keeps_limits();
-    match try_path(kept, hand, cursor, &front.paths.paths()[0])? {
+    match try_path(bounds, hand, cursor, &front.paths.paths()[0])? {
         Tried::Passed => Ok(false),
         Tried::Spent => Ok(true),
         Tried::Line(line) => {
             front.lines[0] = Some(line);
-            enlist_longer(kept, hand, cursor, front)
+            enlist_longer(bounds, hand, cursor, front)
         }
     }
 }
 
 /// Enlists the paths after the empty one, each if it is below the least cost.
 fn enlist_longer<H: Hand, F: Fn(u64, u64) -> u64>(
-    kept: &StoredBound<F>,
+    bounds: &StoredBound<F>,
     hand: &mut H,
     cursor: &mut Cursor,
     front: &mut Front,
 ) -> Result<bool, Memory>
     requires sound { H.is_sound hand.old }
-    requires keeps { Keeps (F.pre kept.now.f) (F.post kept.now.f) kept.now.kind kept.now.film.now }
-    requires search { IsSearchOf kept.now.kind kept.now.film.now (H.shows hand.old) }
+    requires keeps { Keeps (F.pre bounds.now.f) (F.post bounds.now.f) bounds.now.kind bounds.now.film.now }
+    requires search { IsSearchOf bounds.now.kind bounds.now.film.now (H.shows hand.old) }
     requires begun { IsBegun (H.shows hand.old) (cursor_data cursor.old) (front_data front.old) }
     ensures sound { H.is_sound hand.new }
     ensures home { H.home hand.new ≡ H.home hand.old }
@@ -169,7 +169,7 @@ fn enlist_longer<H: Hand, F: Fn(u64, u64) -> u64>(
     hand.keeps_limits();
     let mut spent = false;
     for place in 1..front.lines.len() {
-        let tried = try_path(kept, hand, cursor, &front.paths.paths()[place])?;
+        let tried = try_path(bounds, hand, cursor, &front.paths.paths()[place])?;
         front.lines[place] = tried.line();
         spent |= tried.is_spent();
     }

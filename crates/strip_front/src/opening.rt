@@ -26,20 +26,20 @@ use strip_paths::PathsBySet;
 /// bound of each task and of each shorter path. It fails only if memory runs out.
 pub fn make_front<F: Fn(u64, u64) -> u64>(
     alloc: Global,
-    kept: &StoredBound<F>,
+    bounds: &StoredBound<F>,
     most: usize,
 ) -> Result<Front, Memory>
-    requires keeps { Keeps (F.pre kept.now.f) (F.post kept.now.f) kept.now.kind kept.now.film.now }
+    requires keeps { Keeps (F.pre bounds.now.f) (F.post bounds.now.f) bounds.now.kind bounds.now.film.now }
     requires some { 2 ≤ most }
     requires few { most ≤ 4 }
-    ensures empty { IfOk result (λ front. IsEmptyFront (rules_of kept.now.kind kept.now.film.now) (front_data front)) }
-    ensures depth { IfOk result (λ front. (front_data front).depth ≡ min most (length kept.now.film.now.casts)) }
+    ensures empty { IfOk result (λ front. IsEmptyFront (rules_of bounds.now.kind bounds.now.film.now) (front_data front)) }
+    ensures depth { IfOk result (λ front. (front_data front).depth ≡ min most (length bounds.now.film.now.casts)) }
 {
-    let film = kept.film();
+    let film = bounds.film();
     film.keeps_limits();
     let depth = film.scenes().min(most);
-    let (shorter, last) = shorter_paths(alloc, kept, depth)?;
-    let tasks = tasks_behind(alloc, kept, &last)?;
+    let (shorter, last) = shorter_paths(alloc, bounds, depth)?;
+    let tasks = tasks_behind(alloc, bounds, &last)?;
     let paths = PathsBySet::of(alloc, shorter)?;
     unfilled(alloc, depth, tasks, paths)
 }
@@ -47,18 +47,18 @@ pub fn make_front<F: Fn(u64, u64) -> u64>(
 /// Makes the tasks that follow the paths of the layer `last`.
 fn tasks_behind<F: Fn(u64, u64) -> u64>(
     alloc: Global,
-    kept: &StoredBound<F>,
+    bounds: &StoredBound<F>,
     last: &PathsBySet,
 ) -> Result<PathsBySet, Memory>
-    requires keeps { Keeps (F.pre kept.now.f) (F.post kept.now.f) kept.now.kind kept.now.film.now }
-    requires layer { (before : ℕ) × (paths_of last.now ≡ layer kept.now.film.now before) }
-    ensures { (before : ℕ) → paths_of last.now ≡ layer kept.now.film.now before
-        → IfOk result (λ tasks. AreTasksOf (rules_of kept.now.kind kept.now.film.now) (suc before) (paths_of tasks)) }
+    requires keeps { Keeps (F.pre bounds.now.f) (F.post bounds.now.f) bounds.now.kind bounds.now.film.now }
+    requires layer { (before : ℕ) × (paths_of last.now ≡ layer bounds.now.film.now before) }
+    ensures { (before : ℕ) → paths_of last.now ≡ layer bounds.now.film.now before
+        → IfOk result (λ tasks. AreTasksOf (rules_of bounds.now.kind bounds.now.film.now) (suc before) (paths_of tasks)) }
 {
-    let film = kept.film();
+    let film = bounds.film();
     film.keeps_limits();
     let longest = layer_after(alloc, film, last)?;
-    let tasks = by_promise(alloc, kept, longest.paths())?;
+    let tasks = by_promise(alloc, bounds, longest.paths())?;
     PathsBySet::of(alloc, tasks)
 }
 

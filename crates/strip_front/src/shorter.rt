@@ -28,23 +28,23 @@ use strip_rule::open_firsts;
 /// the stored bound for each open first of each path, except for the paths of the last layer.
 pub(crate) fn shorter_paths<F: Fn(u64, u64) -> u64>(
     alloc: Global,
-    kept: &StoredBound<F>,
+    bounds: &StoredBound<F>,
     depth: usize,
 ) -> Result<(Vec<Path>, PathsBySet), Memory>
-    requires keeps { Keeps (F.pre kept.now.f) (F.post kept.now.f) kept.now.kind kept.now.film.now }
-    requires depth { IsDepth kept.now.film.now depth }
-    ensures shorter { IfOk result (λ both. AreShorter (rules_of kept.now.kind kept.now.film.now) depth
+    requires keeps { Keeps (F.pre bounds.now.f) (F.post bounds.now.f) bounds.now.kind bounds.now.film.now }
+    requires depth { IsDepth bounds.now.film.now depth }
+    ensures shorter { IfOk result (λ both. AreShorter (rules_of bounds.now.kind bounds.now.film.now) depth
         (map path_data both.0.items)) }
     ensures last { IfOk result (λ both. (before : ℕ) → depth ≡ before + 1
-        → paths_of both.1 ≡ layer kept.now.film.now before) }
+        → paths_of both.1 ≡ layer bounds.now.film.now before) }
 {
-    let film = kept.film();
+    let film = bounds.film();
     film.keeps_limits();
     let mut last = first_layer(alloc, film)?;
     let mut shorter = last.paths().to_vec(alloc)?;
     for count in 1..depth {
         last = layer_after(alloc, film, &last)?;
-        shorter = with_layer(alloc, kept, &shorter, &last, count)?;
+        shorter = with_layer(alloc, bounds, &shorter, &last, count)?;
     }
     Ok((shorter, last))
 }
@@ -52,25 +52,25 @@ pub(crate) fn shorter_paths<F: Fn(u64, u64) -> u64>(
 /// Inserts the paths of the next layer, of `count` scenes, into the list of shorter paths, each behind its predecessor.
 fn with_layer<F: Fn(u64, u64) -> u64>(
     alloc: Global,
-    kept: &StoredBound<F>,
+    bounds: &StoredBound<F>,
     shorter: &[Path],
     next: &PathsBySet,
     count: usize,
 ) -> Result<Vec<Path>, Memory>
-    requires keeps { Keeps (F.pre kept.now.f) (F.post kept.now.f) kept.now.kind kept.now.film.now }
+    requires keeps { Keeps (F.pre bounds.now.f) (F.post bounds.now.f) bounds.now.kind bounds.now.film.now }
     requires some { 1 ≤ count }
-    requires most { count < length kept.now.film.now.casts }
-    requires shorter { AreShorter (rules_of kept.now.kind kept.now.film.now) count (map path_data shorter.now) }
-    requires layer { paths_of next.now ≡ layer kept.now.film.now count }
-    ensures { IfOk result (λ paths. AreShorter (rules_of kept.now.kind kept.now.film.now) (count + 1)
+    requires most { count < length bounds.now.film.now.casts }
+    requires shorter { AreShorter (rules_of bounds.now.kind bounds.now.film.now) count (map path_data shorter.now) }
+    requires layer { paths_of next.now ≡ layer bounds.now.film.now count }
+    ensures { IfOk result (λ paths. AreShorter (rules_of bounds.now.kind bounds.now.film.now) (count + 1)
         (map path_data paths.items)) }
 {
-    kept.film().keeps_limits();
+    bounds.film().keeps_limits();
     let mut paths = Vec::new(alloc);
     for path in shorter {
         paths.push(*path)?;
         if path.scenes().len() + 1 == count {
-            push_kept(kept, path, next, &mut paths)?;
+            push_kept(bounds, path, next, &mut paths)?;
         }
     }
     Ok(paths)
@@ -78,22 +78,22 @@ fn with_layer<F: Fn(u64, u64) -> u64>(
 
 /// Appends the layer's successors of this path, by rank.
 fn push_kept<F: Fn(u64, u64) -> u64>(
-    kept: &StoredBound<F>,
+    bounds: &StoredBound<F>,
     path: &Path,
     layer: &PathsBySet,
     paths: &mut Vec<Path>,
 ) -> Result<(), Memory>
-    requires keeps { Keeps (F.pre kept.now.f) (F.post kept.now.f) kept.now.kind kept.now.film.now }
-    requires path { IsPath kept.now.film.now (path_data path.now) }
-    requires layer { All (IsPath kept.now.film.now) (paths_of layer.now) }
+    requires keeps { Keeps (F.pre bounds.now.f) (F.post bounds.now.f) bounds.now.kind bounds.now.film.now }
+    requires path { IsPath bounds.now.film.now (path_data path.now) }
+    requires layer { All (IsPath bounds.now.film.now) (paths_of layer.now) }
     requires apart { AllPairs (λ a b. a.rest ≢ b.rest) (paths_of layer.now) }
     ensures { IfOk result (λ _. (more : List PathData)
         × (map path_data paths.new.items ≡ map path_data paths.old.items ++ more)
-        × AreOnward (rules_of kept.now.kind kept.now.film.now) (paths_of layer.now) (path_data path.now) more) }
+        × AreOnward (rules_of bounds.now.kind bounds.now.film.now) (paths_of layer.now) (path_data path.now) more) }
 {
-    let film = kept.film();
+    let film = bounds.film();
     film.keeps_limits();
-    let mut turns = turns_of(kept, path.rest());
+    let mut turns = turns_of(bounds, path.rest());
     while let Some(scene) = turns.take_next() {
         let longer = path.extend(film, scene);
         if has(layer, &longer) {
@@ -116,18 +116,18 @@ fn has(paths: &PathsBySet, path: &Path) -> bool
 }
 
 /// Returns the open firsts of a set in the order of their ranks. It calls the stored bound once for each.
-fn turns_of<F: Fn(u64, u64) -> u64>(kept: &StoredBound<F>, rest: Mask) -> Turns
-    requires keeps { Keeps (F.pre kept.now.f) (F.post kept.now.f) kept.now.kind kept.now.film.now }
-    requires lies { LiesIn kept.now.film.now rest.0 }
-    ensures left { (turns_data result).left ≡ open_firsts kept.now.film.now rest.0 }
-    ensures by_rank { GoBy (rank (rules_of kept.now.kind kept.now.film.now) rest.0) (turns_data result) }
+fn turns_of<F: Fn(u64, u64) -> u64>(bounds: &StoredBound<F>, rest: Mask) -> Turns
+    requires keeps { Keeps (F.pre bounds.now.f) (F.post bounds.now.f) bounds.now.kind bounds.now.film.now }
+    requires lies { LiesIn bounds.now.film.now rest.0 }
+    ensures left { (turns_data result).left ≡ open_firsts bounds.now.film.now rest.0 }
+    ensures by_rank { GoBy (rank (rules_of bounds.now.kind bounds.now.film.now) rest.0) (turns_data result) }
 {
-    let film = kept.film();
+    let film = bounds.film();
     film.keeps_limits();
     let firsts = open_firsts(film, rest);
     let mut ranks = [0; MAX_COUNT];
     for first in firsts.iter() {
-        ranks[first as usize] = kept.rank(rest, first);
+        ranks[first as usize] = bounds.rank(rest, first);
     }
     Turns::of(firsts, &ranks)
 }

@@ -32,14 +32,14 @@ use strip_rule::open_firsts;
 /// Returns the raised bound of the empty path, or the static bound of all scenes if it has no line. It takes a call of
 /// the hand for each line, and two lookups for each open first of each path.
 pub fn close_up<H: Hand, F: Fn(u64, u64) -> u64>(
-    kept: &StoredBound<F>,
+    bounds: &StoredBound<F>,
     hand: &mut H,
     front: &mut Front,
     found: &[u64],
 ) -> Result<u64, Memory>
     requires sound { H.is_sound hand.old }
-    requires keeps { Keeps (F.pre kept.now.f) (F.post kept.now.f) kept.now.kind kept.now.film.now }
-    requires search { IsSearchOf kept.now.kind kept.now.film.now (H.shows hand.old) }
+    requires keeps { Keeps (F.pre bounds.now.f) (F.post bounds.now.f) bounds.now.kind bounds.now.film.now }
+    requires search { IsSearchOf bounds.now.kind bounds.now.film.now (H.shows hand.old) }
     requires walked { IsWalked (H.shows hand.old) (front_data front.old) found.now }
     ensures sound { H.is_sound hand.new }
     ensures home { H.home hand.new ≡ H.home hand.old }
@@ -50,25 +50,25 @@ pub fn close_up<H: Hand, F: Fn(u64, u64) -> u64>(
 {
     hand.keeps_limits();
     if front.lines[0].is_none() {
-        return Ok(kept.at(kept.film().all()));
+        return Ok(bounds.at(bounds.film().all()));
     }
     for scene_count in (0..front.depth).rev() {
-        raise_layer(kept, hand, front, found, scene_count)?;
+        raise_layer(bounds, hand, front, found, scene_count)?;
     }
     Ok(front.numbers[0])
 }
 
 /// Raises the lines of the paths with `scene_count` scenes.
 fn raise_layer<H: Hand, F: Fn(u64, u64) -> u64>(
-    kept: &StoredBound<F>,
+    bounds: &StoredBound<F>,
     hand: &mut H,
     front: &mut Front,
     found: &[u64],
     scene_count: usize,
 ) -> Result<(), Memory>
     requires sound { H.is_sound hand.old }
-    requires keeps { Keeps (F.pre kept.now.f) (F.post kept.now.f) kept.now.kind kept.now.film.now }
-    requires search { IsSearchOf kept.now.kind kept.now.film.now (H.shows hand.old) }
+    requires keeps { Keeps (F.pre bounds.now.f) (F.post bounds.now.f) bounds.now.kind bounds.now.film.now }
+    requires search { IsSearchOf bounds.now.kind bounds.now.film.now (H.shows hand.old) }
     requires raised { IsRaisedTo (H.shows hand.old) (front_data front.old) found.now front.old.numbers.items
         (scene_count + 1) }
     ensures sound { H.is_sound hand.new }
@@ -83,7 +83,7 @@ fn raise_layer<H: Hand, F: Fn(u64, u64) -> u64>(
         if front.paths.paths()[place].scenes().len() != scene_count {
             continue;
         }
-        let number = raise_path(kept, hand, front, found, place)?;
+        let number = raise_path(bounds, hand, front, found, place)?;
         front.numbers[place] = number;
     }
     Ok(())
@@ -91,15 +91,15 @@ fn raise_layer<H: Hand, F: Fn(u64, u64) -> u64>(
 
 /// Raises the line of a path and returns the raised bound, or returns the static bound if the path has no line.
 fn raise_path<H: Hand, F: Fn(u64, u64) -> u64>(
-    kept: &StoredBound<F>,
+    bounds: &StoredBound<F>,
     hand: &mut H,
     front: &Front,
     found: &[u64],
     place: usize,
 ) -> Result<u64, Memory>
     requires sound { H.is_sound hand.old }
-    requires keeps { Keeps (F.pre kept.now.f) (F.post kept.now.f) kept.now.kind kept.now.film.now }
-    requires search { IsSearchOf kept.now.kind kept.now.film.now (H.shows hand.old) }
+    requires keeps { Keeps (F.pre bounds.now.f) (F.post bounds.now.f) bounds.now.kind bounds.now.film.now }
+    requires search { IsSearchOf bounds.now.kind bounds.now.film.now (H.shows hand.old) }
     requires place { place < length (front_data front.now).paths }
     requires raised { IsRaisedTo (H.shows hand.old) (front_data front.now) found.now front.now.numbers.items
         (length (path_at (front_data front.now) place).scenes + 1) }
@@ -110,14 +110,14 @@ fn raise_path<H: Hand, F: Fn(u64, u64) -> u64>(
         found.now place number) }
     ensures memory { IfErr result (λ _. Rose (H.shows hand.old).refusals (H.shows hand.new).refusals) }
 {
-    let film = kept.film();
+    let film = bounds.film();
     film.keeps_limits();
     hand.keeps_limits();
     let rest = front.paths.paths()[place].rest();
     match front.lines[place] {
-        None => Ok(kept.at(rest)),
+        None => Ok(bounds.at(rest)),
         Some(line) => {
-            let number = kept.at(rest).max(least_over(film, front, found, rest));
+            let number = bounds.at(rest).max(least_over(film, front, found, rest));
             hand.raise(line, number)?;
             Ok(number)
         }

@@ -56,48 +56,48 @@ pub trait Answers {
 /// One worker, who answers the requests in turn.
 #[derive(Drop)]
 pub struct Alone<'k, 'f, F: Fn(u64, u64) -> u64> {
-    pub kept: &'k StoredBound<'f, F>,
+    pub bounds: &'k StoredBound<'f, F>,
 }
 
 impl<'k, 'f, F: Fn(u64, u64) -> u64> Answers for Alone<'k, 'f, F> {
-    ghost film = { λ alone. alone.kept.now.film.now };
+    ghost film = { λ alone. alone.bounds.now.film.now };
 
-    ghost kind = { λ alone. alone.kept.now.kind };
+    ghost kind = { λ alone. alone.bounds.now.kind };
 
-    ghost is_ready = { λ alone. Keeps (F.pre alone.kept.now.f) (F.post alone.kept.now.f) alone.kept.now.kind alone.kept.now.film.now };
+    ghost is_ready = { λ alone. Keeps (F.pre alone.bounds.now.f) (F.post alone.bounds.now.f) alone.bounds.now.kind alone.bounds.now.film.now };
 
     fn film(&self) -> &Film {
-        self.kept.film()
+        self.bounds.film()
     }
 
     fn bound(&self, set: Mask) -> u64 {
-        self.kept.at(set)
+        self.bounds.at(set)
     }
 
     fn answer(&self, asks: &mut [Ask]) -> Result<(), Memory> {
-        answer_in_turn(self.kept, asks);
+        answer_in_turn(self.bounds, asks);
         Ok(())
     }
 }
 
 /// Answers each request that isn't known, in turn, with one call of the stored bound.
-pub fn answer_in_turn<F: Fn(u64, u64) -> u64>(kept: &StoredBound<F>, asks: &mut [Ask])
-    requires keeps { Keeps (F.pre kept.now.f) (F.post kept.now.f) kept.now.kind kept.now.film.now }
-    requires lies { All (λ ask. LiesIn kept.now.film.now ask.set) asks.old }
-    ensures { AreAnswered kept.now.kind kept.now.film.now asks.old asks.new }
+pub fn answer_in_turn<F: Fn(u64, u64) -> u64>(bounds: &StoredBound<F>, asks: &mut [Ask])
+    requires keeps { Keeps (F.pre bounds.now.f) (F.post bounds.now.f) bounds.now.kind bounds.now.film.now }
+    requires lies { All (λ ask. LiesIn bounds.now.film.now ask.set) asks.old }
+    ensures { AreAnswered bounds.now.kind bounds.now.film.now asks.old asks.new }
 {
     for ask in asks.iter_mut() {
-        answer_one(kept, ask);
+        answer_one(bounds, ask);
     }
 }
 
 /// Answers a request, if its value isn't known.
-fn answer_one<F: Fn(u64, u64) -> u64>(kept: &StoredBound<F>, ask: &mut Ask)
-    requires keeps { Keeps (F.pre kept.now.f) (F.post kept.now.f) kept.now.kind kept.now.film.now }
-    requires lies { LiesIn kept.now.film.now ask.old.set }
-    ensures { IsAnswer kept.now.kind kept.now.film.now ask.old ask.new }
+fn answer_one<F: Fn(u64, u64) -> u64>(bounds: &StoredBound<F>, ask: &mut Ask)
+    requires keeps { Keeps (F.pre bounds.now.f) (F.post bounds.now.f) bounds.now.kind bounds.now.film.now }
+    requires lies { LiesIn bounds.now.film.now ask.old.set }
+    ensures { IsAnswer bounds.now.kind bounds.now.film.now ask.old ask.new }
 {
     if !ask.is_known {
-        ask.value = kept.reach(Mask(ask.set), ask.need);
+        ask.value = bounds.reach(Mask(ask.set), ask.need);
     }
 }

@@ -26,16 +26,16 @@ pub struct Found {
 impl Found {
     /// Returns a lower bound of the set, in units of money: its static bound, or a number from `need` up to that bound.
     /// It takes the number found in the search if that suffices, and asks the stored bound otherwise.
-    pub fn reach<F: Fn(u64, u64) -> u64>(&self, kept: &StoredBound<F>, q: Mask, need: u64) -> u64
-        requires keeps { Keeps (F.pre kept.now.f) (F.post kept.now.f) kept.now.kind kept.now.film.now }
-        requires found { AreTrue kept.now.kind kept.now.film.now self.now.values.entries }
-        requires lies { LiesIn kept.now.film.now q.0 }
-        ensures most { result ≤ bound kept.now.kind kept.now.film.now q.0 }
-        ensures reaches { (need ≤ result) ⊎ (result ≡ bound kept.now.kind kept.now.film.now q.0) }
+    pub fn reach<F: Fn(u64, u64) -> u64>(&self, bounds: &StoredBound<F>, q: Mask, need: u64) -> u64
+        requires keeps { Keeps (F.pre bounds.now.f) (F.post bounds.now.f) bounds.now.kind bounds.now.film.now }
+        requires found { AreTrue bounds.now.kind bounds.now.film.now self.now.values.entries }
+        requires lies { LiesIn bounds.now.film.now q.0 }
+        ensures most { result ≤ bound bounds.now.kind bounds.now.film.now q.0 }
+        ensures reaches { (need ≤ result) ⊎ (result ≡ bound bounds.now.kind bounds.now.film.now q.0) }
     {
         match self.values.get(&q.0) {
             Some(lowest) if lowest.value >= need || lowest.is_whole => lowest.value,
-            _ => kept.reach(q, need),
+            _ => bounds.reach(q, need),
         }
     }
 }

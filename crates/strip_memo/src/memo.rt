@@ -46,11 +46,11 @@ impl Memo {
 
     /// Makes a memo that knows the empty set alone. It has 2^18 entries of 16 bytes, 2^19 for groups, or 2^20 of 17
     /// bytes for arrivals. There are fewer if the film has few sets of scenes. It fails only if memory runs out.
-    pub fn new<F: Fn(u64, u64) -> u64>(alloc: Global, kept: &StoredBound<F>) -> Result<Memo, Memory>
-        requires { Keeps (F.pre kept.now.f) (F.post kept.now.f) kept.now.kind kept.now.film.now }
-        ensures { IfOk result (IsMemo kept.now.kind kept.now.film.now) }
+    pub fn new<F: Fn(u64, u64) -> u64>(alloc: Global, bounds: &StoredBound<F>) -> Result<Memo, Memory>
+        requires { Keeps (F.pre bounds.now.f) (F.post bounds.now.f) bounds.now.kind bounds.now.film.now }
+        ensures { IfOk result (IsMemo bounds.now.kind bounds.now.film.now) }
     {
-        Memo::among(alloc, kept, 1)
+        Memo::among(alloc, bounds, 1)
     }
 
     /// Makes the memo of one of `workers` workers, 1 to 100, like `new`. The more workers, the fewer entries, so that
@@ -58,20 +58,20 @@ impl Memo {
     /// since they share a store of bounds.
     pub fn among<F: Fn(u64, u64) -> u64>(
         alloc: Global,
-        kept: &StoredBound<F>,
+        bounds: &StoredBound<F>,
         workers: u32,
     ) -> Result<Memo, Memory>
-        requires keeps { Keeps (F.pre kept.now.f) (F.post kept.now.f) kept.now.kind kept.now.film.now }
+        requires keeps { Keeps (F.pre bounds.now.f) (F.post bounds.now.f) bounds.now.kind bounds.now.film.now }
         requires workers { (1 ≤ workers) × (workers ≤ 100) }
-        ensures memo { IfOk result (IsMemo kept.now.kind kept.now.film.now) }
+        ensures memo { IfOk result (IsMemo bounds.now.kind bounds.now.film.now) }
         ensures room { IfOk result (λ memo. bytes_of memo * workers ≤ 2 ^ 27) }
     {
-        let bits = bits_of(kept.kind(), kept.film().scenes(), workers);
-        let is_whole = is_answered_whole(kept.kind());
+        let bits = bits_of(bounds.kind(), bounds.film().scenes(), workers);
+        let is_whole = is_answered_whole(bounds.kind());
         let marks = if is_whole { 0 } else { 1 << bits };
         let empty = Entry {
             set: 0,
-            value: kept.at(Mask(0)),
+            value: bounds.at(Mask(0)),
         };
         Ok(Memo {
             entries: vec![in alloc; empty; 1 << bits]?,
@@ -85,16 +85,16 @@ impl Memo {
     /// bound. It returns the cached value, if that suffices, or asks for a value and caches it.
     pub fn reach<F: Fn(u64, u64) -> u64>(
         &mut self,
-        kept: &StoredBound<F>,
+        bounds: &StoredBound<F>,
         q: Mask,
         need: u64,
     ) -> u64
-        requires keeps { Keeps (F.pre kept.now.f) (F.post kept.now.f) kept.now.kind kept.now.film.now }
-        requires memo { IsMemo kept.now.kind kept.now.film.now self.old }
-        requires lies { LiesIn kept.now.film.now q.0 }
-        ensures memo { IsMemo kept.now.kind kept.now.film.now self.new }
-        ensures most { result ≤ bound kept.now.kind kept.now.film.now q.0 }
-        ensures reaches { (need ≤ result) ⊎ (result ≡ bound kept.now.kind kept.now.film.now q.0) }
+        requires keeps { Keeps (F.pre bounds.now.f) (F.post bounds.now.f) bounds.now.kind bounds.now.film.now }
+        requires memo { IsMemo bounds.now.kind bounds.now.film.now self.old }
+        requires lies { LiesIn bounds.now.film.now q.0 }
+        ensures memo { IsMemo bounds.now.kind bounds.now.film.now self.new }
+        ensures most { result ≤ bound bounds.now.kind bounds.now.film.now q.0 }
+        ensures reaches { (need ≤ result) ⊎ (result ≡ bound bounds.now.kind bounds.now.film.now q.0) }
     {
         let place = self.place(q);
         let entry = self.entries[place];
@@ -102,14 +102,14 @@ impl Memo {
             return entry.value;
         }
         if self.is_whole {
-            let whole = kept.at(q);
+            let whole = bounds.at(q);
             self.entries[place] = Entry {
                 set: q.0,
                 value: whole,
             };
             return whole;
         }
-        let value = kept.reach(q, need);
+        let value = bounds.reach(q, need);
         self.entries[place] = Entry { set: q.0, value };
         self.marks[place] = value < need;
         value

@@ -29,9 +29,9 @@ impl<N: Bounded> Store<N> {
     /// has 64 entries, which are not used.
     pub fn new<F: Fn(u64, u64) -> u64>(
         alloc: Global,
-        kept: &StoredBound<F>,
+        bounds: &StoredBound<F>,
     ) -> Result<Store<N>, Memory> {
-        let bits = bits_of(kept.kind(), kept.film().scenes());
+        let bits = bits_of(bounds.kind(), bounds.film().scenes());
         let mut drawers = Vec::new(alloc);
         for _turn in 0..64usize {
             let drawer: Drawer<N> = Drawer::new(alloc, bits)?;
@@ -47,45 +47,45 @@ impl<N: Bounded> Store<N> {
     pub fn reach<R: Wait, F: Fn(u64, u64) -> u64>(
         &self,
         rt: &R,
-        kept: &StoredBound<F>,
+        bounds: &StoredBound<F>,
         q: Mask,
         need: u64,
     ) -> u64
-        requires kind { kept.now.kind ≡ N.kind }
-        requires film { kept.now.film.now ≡ N.film }
-        requires keeps { Keeps (F.pre kept.now.f) (F.post kept.now.f) kept.now.kind kept.now.film.now }
-        requires lies { LiesIn kept.now.film.now q.0 }
-        ensures most { result ≤ bound kept.now.kind kept.now.film.now q.0 }
-        ensures reaches { (need ≤ result) ⊎ (result ≡ bound kept.now.kind kept.now.film.now q.0) }
+        requires kind { bounds.now.kind ≡ N.kind }
+        requires film { bounds.now.film.now ≡ N.film }
+        requires keeps { Keeps (F.pre bounds.now.f) (F.post bounds.now.f) bounds.now.kind bounds.now.film.now }
+        requires lies { LiesIn bounds.now.film.now q.0 }
+        ensures most { result ≤ bound bounds.now.kind bounds.now.film.now q.0 }
+        ensures reaches { (need ≤ result) ⊎ (result ≡ bound bounds.now.kind bounds.now.film.now q.0) }
     {
-        if is_cheap(kept.kind()) {
-            return kept.reach(q, need);
+        if is_cheap(bounds.kind()) {
+            return bounds.reach(q, need);
         }
         let drawer = &self.drawers[drawer_of(q)];
         let found = drawer.lock(rt).find(q, need);
         if let Some(value) = found {
             return value;
         }
-        let entry = asked(kept, q, need);
+        let entry = asked(bounds, q, need);
         drawer.lock(rt).put(entry);
         entry.value
     }
 }
 
 /// Computes an entry of the set from the stored bound, up to `need`.
-fn asked<F: Fn(u64, u64) -> u64>(kept: &StoredBound<F>, q: Mask, need: u64) -> Entry
-    requires keeps { Keeps (F.pre kept.now.f) (F.post kept.now.f) kept.now.kind kept.now.film.now }
-    requires lies { LiesIn kept.now.film.now q.0 }
+fn asked<F: Fn(u64, u64) -> u64>(bounds: &StoredBound<F>, q: Mask, need: u64) -> Entry
+    requires keeps { Keeps (F.pre bounds.now.f) (F.post bounds.now.f) bounds.now.kind bounds.now.film.now }
+    requires lies { LiesIn bounds.now.film.now q.0 }
     ensures set { result.set ≡ q.0 }
-    ensures entry { IsEntry kept.now.kind kept.now.film.now result }
+    ensures entry { IsEntry bounds.now.kind bounds.now.film.now result }
     ensures reaches { (need ≤ result.value) ⊎ (result.is_whole ≡ true) }
 {
-    let needed = match kept.kind() {
+    let needed = match bounds.kind() {
         Kind::Arrivals => need,
         // These kinds always compute the whole bound.
         Kind::Plain | Kind::Pairs | Kind::Groups => u64::MAX,
     };
-    let value = kept.reach(q, needed);
+    let value = bounds.reach(q, needed);
     Entry {
         set: q.0,
         value,

@@ -31,15 +31,15 @@ pub struct SearchOptions {
 /// Returns the number of local-search moves: as many as asked for, or 5,000 for each class if none are. It is 0 if the
 /// static bound of all scenes proves that no path is cheaper.
 pub fn useful_tries<F: Fn(u64, u64) -> u64>(
-    kept: &StoredBound<F>,
+    bounds: &StoredBound<F>,
     start: &Path,
     asked: Option<u32>,
 ) -> u32
-    requires keeps { Keeps (F.pre kept.now.f) (F.post kept.now.f) kept.now.kind kept.now.film.now }
+    requires keeps { Keeps (F.pre bounds.now.f) (F.post bounds.now.f) bounds.now.kind bounds.now.film.now }
 {
-    let film = kept.film();
+    let film = bounds.film();
     film.keeps_limits();
-    if kept.reach(film.all(), start.paid()) >= start.paid() {
+    if bounds.reach(film.all(), start.paid()) >= start.paid() {
         return 0;
     }
     asked.unwrap_or(TRIES_A_CLASS * film.scenes() as u32)

@@ -18,18 +18,18 @@ use strip_trim::trim;
 /// order.
 pub fn trimmed<F: Fn(u64, u64) -> u64>(
     alloc: Global,
-    kept: &StoredBound<F>,
+    bounds: &StoredBound<F>,
     memo: &mut Memo,
     ended: &Ended,
     own: u64,
 ) -> Result<Option<Vec<Line>>, Memory>
-    requires keeps { Keeps (F.pre kept.now.f) (F.post kept.now.f) kept.now.kind kept.now.film.now }
-    requires memo { IsMemo kept.now.kind kept.now.film.now memo.old }
-    requires lines { AreJustified (rules_of kept.now.kind kept.now.film.now) ended.now.lines.items }
-    ensures { IfOk result (IsTrimmed kept.now.kind kept.now.film.now own (ended_data ended.now)) }
+    requires keeps { Keeps (F.pre bounds.now.f) (F.post bounds.now.f) bounds.now.kind bounds.now.film.now }
+    requires memo { IsMemo bounds.now.kind bounds.now.film.now memo.old }
+    requires lines { AreJustified (rules_of bounds.now.kind bounds.now.film.now) ended.now.lines.items }
+    ensures { IfOk result (IsTrimmed bounds.now.kind bounds.now.film.now own (ended_data ended.now)) }
 {
     if ended.bound == ended.cost.min(own) {
-        Ok(Some(trim(alloc, kept, memo, &ended.lines)?))
+        Ok(Some(trim(alloc, bounds, memo, &ended.lines)?))
     } else {
         Ok(None)
     }

@@ -171,13 +171,13 @@ fn search_varied<R: Threads + Sync, G: Gate>(
     ensures { IfOk result (IsSearchedFrom options.kind film.now (path_data start.now) options.nodes own) }
 {
     let tables = BoundTables::of(alloc, film)?;
-    let kept = StoredBound::new(film, options.kind, |q, need| {
+    let bounds = StoredBound::new(film, options.kind, |q, need| {
         static_reach(film, &tables, options.kind, Mask(q), need)
     });
-    let tries = useful_tries(&kept, start, options.tries);
+    let tries = useful_tries(&bounds, start, options.tries);
     let varied = vary_beside(rt, film, start, tries, workers);
     let begun = or_listed(film, &varied);
-    let Closed { ended, trimmed } = end_alone(alloc, &kept, &begun, options, own, gate)?;
+    let Closed { ended, trimmed } = end_alone(alloc, &bounds, &begun, options, own, gate)?;
     gate.end(options.kind, &ended, options.nodes);
     Ok(Searched {
         begun,

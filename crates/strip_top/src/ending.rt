@@ -40,68 +40,68 @@ pub(crate) struct Closed {
 /// Runs the search from this path with one worker: by layers if the options have steps, otherwise depth-first.
 pub(crate) fn end_alone<F: Fn(u64, u64) -> u64, G: Gate>(
     alloc: Global,
-    kept: &StoredBound<F>,
+    bounds: &StoredBound<F>,
     begun: &Path,
     options: SearchOptions,
     own: u64,
     gate: &Told<G>,
 ) -> Result<Closed, Memory>
-    requires keeps { Keeps (F.pre kept.now.f) (F.post kept.now.f) kept.now.kind kept.now.film.now }
-    requires begun { IsComplete kept.now.film.now (path_data begun.now) }
+    requires keeps { Keeps (F.pre bounds.now.f) (F.post bounds.now.f) bounds.now.kind bounds.now.film.now }
+    requires begun { IsComplete bounds.now.film.now (path_data begun.now) }
     requires options { MayBe options }
-    ensures { IfOk result (IsClosed kept.now.kind kept.now.film.now (path_data begun.now) options.nodes own) }
+    ensures { IfOk result (IsClosed bounds.now.kind bounds.now.film.now (path_data begun.now) options.nodes own) }
 {
     match options.steps {
-        None => walk_alone(alloc, kept, begun, options, own, gate),
-        Some(steps) => layers_alone(alloc, kept, begun, steps, options.nodes, own, gate),
+        None => walk_alone(alloc, bounds, begun, options, own, gate),
+        Some(steps) => layers_alone(alloc, bounds, begun, steps, options.nodes, own, gate),
     }
 }
 
 /// Runs the depth-first search with one worker.
 fn walk_alone<F: Fn(u64, u64) -> u64, G: Gate>(
     alloc: Global,
-    kept: &StoredBound<F>,
+    bounds: &StoredBound<F>,
     begun: &Path,
     options: SearchOptions,
     own: u64,
     gate: &Told<G>,
 ) -> Result<Closed, Memory>
-    requires keeps { Keeps (F.pre kept.now.f) (F.post kept.now.f) kept.now.kind kept.now.film.now }
-    requires begun { IsComplete kept.now.film.now (path_data begun.now) }
+    requires keeps { Keeps (F.pre bounds.now.f) (F.post bounds.now.f) bounds.now.kind bounds.now.film.now }
+    requires begun { IsComplete bounds.now.film.now (path_data begun.now) }
     requires options { MayBe options }
-    ensures { IfOk result (IsClosed kept.now.kind kept.now.film.now (path_data begun.now) options.nodes own) }
+    ensures { IfOk result (IsClosed bounds.now.kind bounds.now.film.now (path_data begun.now) options.nodes own) }
 {
-    let mut memo = Memo::new(alloc, kept)?;
+    let mut memo = Memo::new(alloc, bounds)?;
     let ended = alone_through(
         alloc,
-        kept,
+        bounds,
         &mut memo,
         begun,
         options.nodes,
         options.entries,
         gate,
     )?;
-    let trimmed = trimmed(alloc, kept, &mut memo, &ended, own)?;
+    let trimmed = trimmed(alloc, bounds, &mut memo, &ended, own)?;
     Ok(Closed { ended, trimmed })
 }
 
 /// Runs the search by layers with one worker, in `steps` steps and with at most `most` lines.
 fn layers_alone<F: Fn(u64, u64) -> u64, G: Gate>(
     alloc: Global,
-    kept: &StoredBound<F>,
+    bounds: &StoredBound<F>,
     begun: &Path,
     steps: u32,
     most: u32,
     own: u64,
     gate: &Told<G>,
 ) -> Result<Closed, Memory>
-    requires keeps { Keeps (F.pre kept.now.f) (F.post kept.now.f) kept.now.kind kept.now.film.now }
-    requires begun { IsComplete kept.now.film.now (path_data begun.now) }
+    requires keeps { Keeps (F.pre bounds.now.f) (F.post bounds.now.f) bounds.now.kind bounds.now.film.now }
+    requires begun { IsComplete bounds.now.film.now (path_data begun.now) }
     requires some { 1 ≤ most }
-    ensures { IfOk result (IsClosed kept.now.kind kept.now.film.now (path_data begun.now) most own) }
+    ensures { IfOk result (IsClosed bounds.now.kind bounds.now.film.now (path_data begun.now) most own) }
 {
-    let layered = search_by_layers(alloc, &Alone { kept }, gate, begun, steps, most)?;
-    close_layers(alloc, kept, begun, most, own, layered)
+    let layered = search_by_layers(alloc, &Alone { bounds }, gate, begun, steps, most)?;
+    close_layers(alloc, bounds, begun, most, own, layered)
 }
 
 /// Runs the search by layers with several workers, who answer the requests of each layer in parallel. The result
@@ -109,7 +109,7 @@ fn layers_alone<F: Fn(u64, u64) -> u64, G: Gate>(
 pub(crate) fn layers_beside<R: Threads + Sync, F: Fn(u64, u64) -> u64 + Sync, G: Gate>(
     rt: &R,
     alloc: Global,
-    kept: &StoredBound<F>,
+    bounds: &StoredBound<F>,
     begun: &Path,
     steps: u32,
     most: u32,
@@ -117,38 +117,38 @@ pub(crate) fn layers_beside<R: Threads + Sync, F: Fn(u64, u64) -> u64 + Sync, G:
     workers: u32,
     gate: &Told<G>,
 ) -> Result<Closed, Memory>
-    requires keeps { Keeps (F.pre kept.now.f) (F.post kept.now.f) kept.now.kind kept.now.film.now }
-    requires begun { IsComplete kept.now.film.now (path_data begun.now) }
+    requires keeps { Keeps (F.pre bounds.now.f) (F.post bounds.now.f) bounds.now.kind bounds.now.film.now }
+    requires begun { IsComplete bounds.now.film.now (path_data begun.now) }
     requires some { 1 ≤ most }
     requires workers { 0 < workers }
-    ensures { IfOk result (IsClosed kept.now.kind kept.now.film.now (path_data begun.now) most own) }
+    ensures { IfOk result (IsClosed bounds.now.kind bounds.now.film.now (path_data begun.now) most own) }
 {
     let by = |asks: &mut [Ask]| -> Result<(), Memory>
         requires { IsSync R.row × IsSync F.row × (0 < workers)
-            × Keeps (F.pre kept.now.f) (F.post kept.now.f) kept.now.kind kept.now.film.now
-            × All (λ ask. LiesIn kept.now.film.now ask.set) asks.old }
-        ensures { IfOk result (λ _. AreAnswered kept.entry.now.kind kept.entry.now.film.now asks.old asks.new) }
-    { answer_beside(rt, alloc, kept, workers, asks) };
-    let layered = search_by_layers(alloc, &Beside { kept, by }, gate, begun, steps, most)?;
-    close_layers(alloc, kept, begun, most, own, layered)
+            × Keeps (F.pre bounds.now.f) (F.post bounds.now.f) bounds.now.kind bounds.now.film.now
+            × All (λ ask. LiesIn bounds.now.film.now ask.set) asks.old }
+        ensures { IfOk result (λ _. AreAnswered bounds.entry.now.kind bounds.entry.now.film.now asks.old asks.new) }
+    { answer_beside(rt, alloc, bounds, workers, asks) };
+    let layered = search_by_layers(alloc, &Beside { bounds, by }, gate, begun, steps, most)?;
+    close_layers(alloc, bounds, begun, most, own, layered)
 }
 
 /// Makes the trimmed result of a search by layers from this path. Trimming uses the static bounds that the search
 /// found.
 fn close_layers<F: Fn(u64, u64) -> u64>(
     alloc: Global,
-    kept: &StoredBound<F>,
+    bounds: &StoredBound<F>,
     begun: &Path,
     most: u32,
     own: u64,
     layered: Layered,
 ) -> Result<Closed, Memory>
-    requires keeps { Keeps (F.pre kept.now.f) (F.post kept.now.f) kept.now.kind kept.now.film.now }
-    requires layered { IsLayered kept.now.kind kept.now.film.now (path_data begun.now) most (layered_data layered) }
-    requires found { AreTrue kept.now.kind kept.now.film.now layered.found.values.entries }
-    ensures { IfOk result (IsClosed kept.now.kind kept.now.film.now (path_data begun.now) most own) }
+    requires keeps { Keeps (F.pre bounds.now.f) (F.post bounds.now.f) bounds.now.kind bounds.now.film.now }
+    requires layered { IsLayered bounds.now.kind bounds.now.film.now (path_data begun.now) most (layered_data layered) }
+    requires found { AreTrue bounds.now.kind bounds.now.film.now layered.found.values.entries }
+    ensures { IfOk result (IsClosed bounds.now.kind bounds.now.film.now (path_data begun.now) most own) }
 {
-    kept.film().keeps_limits();
+    bounds.film().keeps_limits();
     let Layered {
         lines,
         bound,
@@ -156,11 +156,11 @@ fn close_layers<F: Fn(u64, u64) -> u64>(
         is_spent,
         found,
     } = layered;
-    let ended = ended_of(alloc, kept, begun, most, lines, bound, &best, is_spent)?;
+    let ended = ended_of(alloc, bounds, begun, most, lines, bound, &best, is_spent)?;
     let known = StoredBound::new(
-        kept.film(),
-        kept.kind(),
-        |q, need| found.reach(kept, Mask(q), need),
+        bounds.film(),
+        bounds.kind(),
+        |q, need| found.reach(bounds, Mask(q), need),
     );
     let mut memo = Memo::new(alloc, &known)?;
     let trimmed = trimmed(alloc, &known, &mut memo, &ended, own)?;
@@ -170,7 +170,7 @@ fn close_layers<F: Fn(u64, u64) -> u64>(
 /// Makes the result of a search with these lines, this bound, and this cheapest path.
 fn ended_of<F: Fn(u64, u64) -> u64>(
     alloc: Global,
-    kept: &StoredBound<F>,
+    bounds: &StoredBound<F>,
     begun: &Path,
     most: u32,
     lines: Vec<Line>,
@@ -178,17 +178,17 @@ fn ended_of<F: Fn(u64, u64) -> u64>(
     best: &Path,
     is_spent: bool,
 ) -> Result<Ended, Memory>
-    requires { IsLayered kept.now.kind kept.now.film.now (path_data begun.now) most (record {
+    requires { IsLayered bounds.now.kind bounds.now.film.now (path_data begun.now) most (record {
       lines = lines.items;
       bound = bound;
       best = path_data best.now;
       is_spent = is_spent;
     }) }
-    ensures { IfOk result (λ ended. IsEnded kept.now.kind kept.now.film.now (path_data begun.now) most (ended_data ended)) }
+    ensures { IfOk result (λ ended. IsEnded bounds.now.kind bounds.now.film.now (path_data begun.now) most (ended_data ended)) }
 {
     kept_orders_are_ready_lists();
     steps_add_up_to_the_pay();
-    kept.film().keeps_limits();
+    bounds.film().keeps_limits();
     Ok(Ended {
         order: best.scenes().to_vec(alloc)?,
         cost: best.paid(),

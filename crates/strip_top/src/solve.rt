@@ -203,12 +203,12 @@ pub(crate) fn search<G: Gate>(
     ensures { IfOk result (IsSearchedFrom options.kind film.now (path_data start.now) options.nodes own) }
 {
     let tables = BoundTables::of(alloc, film)?;
-    let kept = StoredBound::new(film, options.kind, |q, need| {
+    let bounds = StoredBound::new(film, options.kind, |q, need| {
         static_reach(film, &tables, options.kind, Mask(q), need)
     });
-    let varied = vary(film, start, useful_tries(&kept, start, options.tries));
+    let varied = vary(film, start, useful_tries(&bounds, start, options.tries));
     let begun = or_listed(film, &varied);
-    let Closed { ended, trimmed } = end_alone(alloc, &kept, &begun, options, own, gate)?;
+    let Closed { ended, trimmed } = end_alone(alloc, &bounds, &begun, options, own, gate)?;
     gate.end(options.kind, &ended, options.nodes);
     Ok(Searched {
         begun,
@@ -234,14 +234,14 @@ pub(crate) fn search_beside<R: Threads + Wait + Sync, G: Gate>(
     ensures { IfOk result (IsSearchedFrom options.kind film.now (path_data start.now) options.nodes own) }
 {
     let tables = BoundTables::of(alloc, film)?;
-    let kept = StoredBound::new(film, options.kind, |q, need| {
+    let bounds = StoredBound::new(film, options.kind, |q, need| {
         static_reach(film, &tables, options.kind, Mask(q), need)
     });
     match options.steps {
         None => search_stored::<Brand, R, _, G>(
-            rt, alloc, &kept, start, options, own, workers, gate,
+            rt, alloc, &bounds, start, options, own, workers, gate,
         ),
-        Some(steps) => search_layers(rt, alloc, &kept, start, options, steps, own, workers, gate),
+        Some(steps) => search_layers(rt, alloc, &bounds, start, options, steps, own, workers, gate),
     }
 }
 
@@ -249,7 +249,7 @@ pub(crate) fn search_beside<R: Threads + Wait + Sync, G: Gate>(
 fn search_layers<R: Threads + Wait + Sync, F: Fn(u64, u64) -> u64 + Sync, G: Gate>(
     rt: &R,
     alloc: Global,
-    kept: &StoredBound<F>,
+    bounds: &StoredBound<F>,
     start: &Path,
     options: SearchOptions,
     steps: u32,
@@ -257,19 +257,19 @@ fn search_layers<R: Threads + Wait + Sync, F: Fn(u64, u64) -> u64 + Sync, G: Gat
     workers: u32,
     gate: &Told<G>,
 ) -> Result<Searched, Memory>
-    requires keeps { Keeps (F.pre kept.now.f) (F.post kept.now.f) kept.now.kind kept.now.film.now }
-    requires start { IsComplete kept.now.film.now (path_data start.now) }
+    requires keeps { Keeps (F.pre bounds.now.f) (F.post bounds.now.f) bounds.now.kind bounds.now.film.now }
+    requires start { IsComplete bounds.now.film.now (path_data start.now) }
     requires options { MayBe options }
     requires workers { (2 ≤ workers) × (workers ≤ 64) }
-    ensures { IfOk result (IsSearchedFrom kept.now.kind kept.now.film.now (path_data start.now) options.nodes own) }
+    ensures { IfOk result (IsSearchedFrom bounds.now.kind bounds.now.film.now (path_data start.now) options.nodes own) }
 {
-    let tries = useful_tries(kept, start, options.tries);
-    let varied = vary_beside(rt, kept.film(), start, tries, workers);
-    let begun = or_listed(kept.film(), &varied);
+    let tries = useful_tries(bounds, start, options.tries);
+    let varied = vary_beside(rt, bounds.film(), start, tries, workers);
+    let begun = or_listed(bounds.film(), &varied);
     let Closed { ended, trimmed } = layers_beside(
         rt,
         alloc,
-        kept,
+        bounds,
         &begun,
         steps,
         options.nodes,
@@ -295,30 +295,30 @@ fn search_stored<
 >(
     rt: &R,
     alloc: Global,
-    kept: &StoredBound<F>,
+    bounds: &StoredBound<F>,
     start: &Path,
     options: SearchOptions,
     own: u64,
     workers: u32,
     gate: &Told<G>,
 ) -> Result<Searched, Memory>
-    requires kind { kept.now.kind ≡ N.kind }
-    requires film { kept.now.film.now ≡ N.film }
-    requires keeps { Keeps (F.pre kept.now.f) (F.post kept.now.f) kept.now.kind kept.now.film.now }
-    requires start { IsComplete kept.now.film.now (path_data start.now) }
+    requires kind { bounds.now.kind ≡ N.kind }
+    requires film { bounds.now.film.now ≡ N.film }
+    requires keeps { Keeps (F.pre bounds.now.f) (F.post bounds.now.f) bounds.now.kind bounds.now.film.now }
+    requires start { IsComplete bounds.now.film.now (path_data start.now) }
     requires options { MayBe options }
     requires workers { (2 ≤ workers) × (workers ≤ 64) }
-    ensures { IfOk result (IsSearchedFrom kept.now.kind kept.now.film.now (path_data start.now) options.nodes own) }
+    ensures { IfOk result (IsSearchedFrom bounds.now.kind bounds.now.film.now (path_data start.now) options.nodes own) }
 {
-    let store: Store<N> = Store::new(alloc, kept)?;
+    let store: Store<N> = Store::new(alloc, bounds)?;
     let stored = StoredBound::new(
-        kept.film(),
-        kept.kind(),
-        |q, need| store.reach(rt, kept, Mask(q), need),
+        bounds.film(),
+        bounds.kind(),
+        |q, need| store.reach(rt, bounds, Mask(q), need),
     );
     let tries = useful_tries(&stored, start, options.tries);
-    let varied = vary_beside(rt, kept.film(), start, tries, workers);
-    let begun = or_listed(kept.film(), &varied);
+    let varied = vary_beside(rt, bounds.film(), start, tries, workers);
+    let begun = or_listed(bounds.film(), &varied);
     // The caller has a memo too.
     let mut memo = Memo::among(alloc, &stored, workers + 1)?;
     let limits = Limits {

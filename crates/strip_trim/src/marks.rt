@@ -20,99 +20,99 @@ use strip_rule::open_firsts;
 /// Returns for each line whether it stays: whether it is the best line of its set, and the set is reached.
 pub(crate) fn marks_of<F: Fn(u64, u64) -> u64>(
     alloc: Global,
-    kept: &StoredBound<F>,
+    bounds: &StoredBound<F>,
     memo: &mut Memo,
     best: &Best,
     count: usize,
 ) -> Result<Vec<bool>, Memory>
-    requires keeps { Keeps (F.pre kept.now.f) (F.post kept.now.f) kept.now.kind kept.now.film.now }
-    requires justified { AreJustified (rules_of kept.now.kind kept.now.film.now) best.now.lines }
-    requires memo { IsMemo kept.now.kind kept.now.film.now memo.old }
+    requires keeps { Keeps (F.pre bounds.now.f) (F.post bounds.now.f) bounds.now.kind bounds.now.film.now }
+    requires justified { AreJustified (rules_of bounds.now.kind bounds.now.film.now) best.now.lines }
+    requires memo { IsMemo bounds.now.kind bounds.now.film.now memo.old }
     requires count { count ≡ length best.now.lines }
-    ensures memo { IsMemo kept.now.kind kept.now.film.now memo.new }
+    ensures memo { IsMemo bounds.now.kind bounds.now.film.now memo.new }
     ensures marked { IfOk result (λ marks. AreMarked
-        (rules_of kept.now.kind kept.now.film.now) best.now.lines marks.items) }
+        (rules_of bounds.now.kind bounds.now.film.now) best.now.lines marks.items) }
 {
     let mut marks = vec![in alloc; false; count]?;
-    mark_reached(kept, memo, best, &mut marks);
+    mark_reached(bounds, memo, best, &mut marks);
     Ok(marks)
 }
 
 /// Marks the lines that stay. A reached set leads only to smaller numbers, so one pass by falling set handles each set
 /// after all sets that lead to it.
 fn mark_reached<F: Fn(u64, u64) -> u64>(
-    kept: &StoredBound<F>,
+    bounds: &StoredBound<F>,
     memo: &mut Memo,
     best: &Best,
     marks: &mut [bool],
 )
-    requires keeps { Keeps (F.pre kept.now.f) (F.post kept.now.f) kept.now.kind kept.now.film.now }
-    requires justified { AreJustified (rules_of kept.now.kind kept.now.film.now) best.now.lines }
-    requires memo { IsMemo kept.now.kind kept.now.film.now memo.old }
+    requires keeps { Keeps (F.pre bounds.now.f) (F.post bounds.now.f) bounds.now.kind bounds.now.film.now }
+    requires justified { AreJustified (rules_of bounds.now.kind bounds.now.film.now) best.now.lines }
+    requires memo { IsMemo bounds.now.kind bounds.now.film.now memo.old }
     requires count { length marks.old ≡ length best.now.lines }
     requires none { (place : ℕ) → is_marked marks.old place ≡ false }
-    ensures memo { IsMemo kept.now.kind kept.now.film.now memo.new }
-    ensures marked { AreMarked (rules_of kept.now.kind kept.now.film.now) best.now.lines marks.new }
+    ensures memo { IsMemo bounds.now.kind bounds.now.film.now memo.new }
+    ensures marked { AreMarked (rules_of bounds.now.kind bounds.now.film.now) best.now.lines marks.new }
 {
-    mark(best, marks, kept.film().all());
+    mark(best, marks, bounds.film().all());
     for entry in best.entries().iter().rev() {
         if marks[entry.line] {
-            mark_followers(kept, memo, best, marks, entry);
+            mark_followers(bounds, memo, best, marks, entry);
         }
     }
 }
 
 /// Marks the lines that the bound of a set's best line depends on.
 fn mark_followers<F: Fn(u64, u64) -> u64>(
-    kept: &StoredBound<F>,
+    bounds: &StoredBound<F>,
     memo: &mut Memo,
     best: &Best,
     marks: &mut [bool],
     entry: &BestLine,
 )
-    requires keeps { Keeps (F.pre kept.now.f) (F.post kept.now.f) kept.now.kind kept.now.film.now }
-    requires memo { IsMemo kept.now.kind kept.now.film.now memo.old }
+    requires keeps { Keeps (F.pre bounds.now.f) (F.post bounds.now.f) bounds.now.kind bounds.now.film.now }
+    requires memo { IsMemo bounds.now.kind bounds.now.film.now memo.old }
     requires count { length marks.old ≡ length best.now.lines }
-    requires lies { LiesIn kept.now.film.now entry.now.set }
+    requires lies { LiesIn bounds.now.film.now entry.now.set }
     requires bound { entry.now.bound ≡ best_bound best.now.lines entry.now.set }
-    ensures memo { IsMemo kept.now.kind kept.now.film.now memo.new }
+    ensures memo { IsMemo bounds.now.kind bounds.now.film.now memo.new }
     ensures marked { MarksMore marks.old marks.new
-        (Follows (rules_of kept.now.kind kept.now.film.now) best.now.lines entry.now.set) }
+        (Follows (rules_of bounds.now.kind bounds.now.film.now) best.now.lines entry.now.set) }
 {
-    let film = kept.film();
+    let film = bounds.film();
     let q = Mask(entry.set);
-    if !is_below(kept, memo, q, entry.bound) {
+    if !is_below(bounds, memo, q, entry.bound) {
         return;
     }
     film.keeps_limits();
     for s in open_firsts(film, q).iter() {
         let rest = q.without(s);
         let need = entry.bound.saturating_sub(step(film, q, s));
-        mark_below(kept, memo, best, marks, rest, need);
+        mark_below(bounds, memo, best, marks, rest, need);
     }
 }
 
 /// Marks the best line of the set, if there is one and the set's static bound is below `need`. The bound is requested
 /// only if the line isn't marked yet.
 fn mark_below<F: Fn(u64, u64) -> u64>(
-    kept: &StoredBound<F>,
+    bounds: &StoredBound<F>,
     memo: &mut Memo,
     best: &Best,
     marks: &mut [bool],
     q: Mask,
     need: u64,
 )
-    requires keeps { Keeps (F.pre kept.now.f) (F.post kept.now.f) kept.now.kind kept.now.film.now }
-    requires memo { IsMemo kept.now.kind kept.now.film.now memo.old }
+    requires keeps { Keeps (F.pre bounds.now.f) (F.post bounds.now.f) bounds.now.kind bounds.now.film.now }
+    requires memo { IsMemo bounds.now.kind bounds.now.film.now memo.old }
     requires count { length marks.old ≡ length best.now.lines }
-    requires lies { LiesIn kept.now.film.now q.0 }
-    ensures memo { IsMemo kept.now.kind kept.now.film.now memo.new }
-    ensures marked { MarksMore marks.old marks.new (λ place. (bound kept.now.kind kept.now.film.now q.0 < need)
+    requires lies { LiesIn bounds.now.film.now q.0 }
+    ensures memo { IsMemo bounds.now.kind bounds.now.film.now memo.new }
+    ensures marked { MarksMore marks.old marks.new (λ place. (bound bounds.now.kind bounds.now.film.now q.0 < need)
         × IsBestOf best.now.lines q.0 place) }
 {
     if let Some(place) = best.place(q.0) {
         let line = best.entries()[place].line;
-        if !marks[line] && is_below(kept, memo, q, need) {
+        if !marks[line] && is_below(bounds, memo, q, need) {
             marks[line] = true;
         }
     }
@@ -120,18 +120,18 @@ fn mark_below<F: Fn(u64, u64) -> u64>(
 
 /// Tells whether the static bound of the set is below `need`.
 fn is_below<F: Fn(u64, u64) -> u64>(
-    kept: &StoredBound<F>,
+    bounds: &StoredBound<F>,
     memo: &mut Memo,
     q: Mask,
     need: u64,
 ) -> bool
-    requires keeps { Keeps (F.pre kept.now.f) (F.post kept.now.f) kept.now.kind kept.now.film.now }
-    requires memo { IsMemo kept.now.kind kept.now.film.now memo.old }
-    requires lies { LiesIn kept.now.film.now q.0 }
-    ensures memo { IsMemo kept.now.kind kept.now.film.now memo.new }
-    ensures below { IsTrue result ↔ (bound kept.now.kind kept.now.film.now q.0 < need) }
+    requires keeps { Keeps (F.pre bounds.now.f) (F.post bounds.now.f) bounds.now.kind bounds.now.film.now }
+    requires memo { IsMemo bounds.now.kind bounds.now.film.now memo.old }
+    requires lies { LiesIn bounds.now.film.now q.0 }
+    ensures memo { IsMemo bounds.now.kind bounds.now.film.now memo.new }
+    ensures below { IsTrue result ↔ (bound bounds.now.kind bounds.now.film.now q.0 < need) }
 {
-    memo.reach(kept, q, need) < need
+    memo.reach(bounds, q, need) < need
 }
 
 /// Marks the best line of the set, if there is one.

@@ -25,19 +25,19 @@ use strip_memo::Memo;
 /// each line that it leads to. The memo answers the bounds; the memo of the search that made the lines serves best.
 pub fn trim<F: Fn(u64, u64) -> u64>(
     alloc: Global,
-    kept: &StoredBound<F>,
+    bounds: &StoredBound<F>,
     memo: &mut Memo,
     lines: &[Line],
 ) -> Result<Vec<Line>, Memory>
-    requires keeps { Keeps (F.pre kept.now.f) (F.post kept.now.f) kept.now.kind kept.now.film.now }
-    requires memo { IsMemo kept.now.kind kept.now.film.now memo.old }
-    requires justified { AreJustified (rules_of kept.now.kind kept.now.film.now) lines.now }
-    ensures memo { IsMemo kept.now.kind kept.now.film.now memo.new }
+    requires keeps { Keeps (F.pre bounds.now.f) (F.post bounds.now.f) bounds.now.kind bounds.now.film.now }
+    requires memo { IsMemo bounds.now.kind bounds.now.film.now memo.old }
+    requires justified { AreJustified (rules_of bounds.now.kind bounds.now.film.now) lines.now }
+    ensures memo { IsMemo bounds.now.kind bounds.now.film.now memo.new }
     ensures trimmed { IfOk result (λ trimmed. AreTrimmed
-        (rules_of kept.now.kind kept.now.film.now) lines.now trimmed.items) }
+        (rules_of bounds.now.kind bounds.now.film.now) lines.now trimmed.items) }
 {
     let best = Best::of(alloc, lines)?;
-    let marks = marks_of(alloc, kept, memo, &best, lines.len())?;
+    let marks = marks_of(alloc, bounds, memo, &best, lines.len())?;
     marked(alloc, lines, &marks)
 }
 

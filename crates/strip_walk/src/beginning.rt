@@ -37,26 +37,26 @@ pub(crate) fn offer<H: Hand>(hand: &mut H, path: &Path) -> Found
 /// Reads the incumbent cost, and checks whether the static bound or the transposition table rules out a path with this
 /// remaining set and this pay. It doesn't need the path itself, so a child is checked before the path is extended.
 pub(crate) fn meet<H: Hand, F: Fn(u64, u64) -> u64>(
-    kept: &StoredBound<F>,
+    bounds: &StoredBound<F>,
     hand: &mut H,
     rest: Mask,
     paid: u64,
     memo: &mut Memo,
 ) -> Met
     requires sound { H.is_sound hand.old }
-    requires keeps { Keeps (F.pre kept.now.f) (F.post kept.now.f) kept.now.kind kept.now.film.now }
-    requires search { IsSearchOf kept.now.kind kept.now.film.now (H.shows hand.old) }
-    requires memo { IsMemo kept.now.kind kept.now.film.now memo.old }
-    requires lies { LiesIn kept.now.film.now rest.0 }
+    requires keeps { Keeps (F.pre bounds.now.f) (F.post bounds.now.f) bounds.now.kind bounds.now.film.now }
+    requires search { IsSearchOf bounds.now.kind bounds.now.film.now (H.shows hand.old) }
+    requires memo { IsMemo bounds.now.kind bounds.now.film.now memo.old }
+    requires lies { LiesIn bounds.now.film.now rest.0 }
     ensures sound { H.is_sound hand.new }
     ensures home { H.home hand.new ≡ H.home hand.old }
-    ensures memo { IsMemo kept.now.kind kept.now.film.now memo.new }
+    ensures memo { IsMemo bounds.now.kind bounds.now.film.now memo.new }
     ensures met { (path : PathData) → path.rest ≡ rest.0 → path.paid ≡ paid
         → Meets (H.shows hand.old) path result (H.shows hand.new) }
 {
     let told = hand.look();
     let room = told.saturating_sub(paid);
-    let bound = memo.reach(kept, rest, room);
+    let bound = memo.reach(bounds, rest, room);
     if bound >= room {
         return Met::Cut(Found {
             bound,

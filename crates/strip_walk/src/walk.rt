@@ -29,22 +29,22 @@ use strip_memo::Memo;
 /// Each path costs a look and a static bound. An enlisted path costs a probe, a raise, a note, and a step and a static
 /// bound for each open first. A child is checked before `running` moves to it. Only the hand takes memory.
 pub fn explore<H: Hand, F: Fn(u64, u64) -> u64>(
-    kept: &StoredBound<F>,
+    bounds: &StoredBound<F>,
     hand: &mut H,
     cursor: &mut Cursor,
     running: &mut Running,
     memo: &mut Memo,
 ) -> Result<Found, Memory>
     requires sound { H.is_sound hand.old }
-    requires keeps { Keeps (F.pre kept.now.f) (F.post kept.now.f) kept.now.kind kept.now.film.now }
-    requires search { IsSearchOf kept.now.kind kept.now.film.now (H.shows hand.old) }
-    requires memo { IsMemo kept.now.kind kept.now.film.now memo.old }
-    requires running { IsRunning kept.now.film.now (running_data running.old) }
+    requires keeps { Keeps (F.pre bounds.now.f) (F.post bounds.now.f) bounds.now.kind bounds.now.film.now }
+    requires search { IsSearchOf bounds.now.kind bounds.now.film.now (H.shows hand.old) }
+    requires memo { IsMemo bounds.now.kind bounds.now.film.now memo.old }
+    requires running { IsRunning bounds.now.film.now (running_data running.old) }
     requires may { MayExplore (H.shows hand.old) (cursor_data cursor.old) (running_data running.old).path }
     ensures sound { H.is_sound hand.new }
     ensures home { H.home hand.new ≡ H.home hand.old }
-    ensures memo { IsMemo kept.now.kind kept.now.film.now memo.new }
-    ensures running { IfOk result (λ _. IsRunning kept.now.film.now (running_data running.new)
+    ensures memo { IsMemo bounds.now.kind bounds.now.film.now memo.new }
+    ensures running { IfOk result (λ _. IsRunning bounds.now.film.now (running_data running.new)
         × ((running_data running.new).path ≡ (running_data running.old).path)) }
     ensures explored { Explores (H.shows hand.old) (cursor_data cursor.old) (running_data running.old).path result
         (H.shows hand.new) (cursor_data cursor.new) }
@@ -52,18 +52,18 @@ pub fn explore<H: Hand, F: Fn(u64, u64) -> u64>(
     if running.rest().is_empty() {
         return Ok(offer(hand, running.path()));
     }
-    let met = meet(kept, hand, running.rest(), running.paid(), memo);
+    let met = meet(bounds, hand, running.rest(), running.paid(), memo);
     hand.keeps_limits();
     match met {
         Met::Cut(found) => Ok(found),
-        Met::Through(passed) => walk_on(kept, hand, cursor, running, memo, &passed),
+        Met::Through(passed) => walk_on(bounds, hand, cursor, running, memo, &passed),
     }
 }
 
 /// Enlists a path that is not ruled out, searches its children, and raises its line.
 #[cycle(children)]
 fn walk_on<H: Hand, F: Fn(u64, u64) -> u64>(
-    kept: &StoredBound<F>,
+    bounds: &StoredBound<F>,
     hand: &mut H,
     cursor: &mut Cursor,
     running: &mut Running,
@@ -71,33 +71,33 @@ fn walk_on<H: Hand, F: Fn(u64, u64) -> u64>(
     passed: &Passed,
 ) -> Result<Found, Memory>
     requires sound { H.is_sound hand.old }
-    requires keeps { Keeps (F.pre kept.now.f) (F.post kept.now.f) kept.now.kind kept.now.film.now }
-    requires search { IsSearchOf kept.now.kind kept.now.film.now (H.shows hand.old) }
-    requires memo { IsMemo kept.now.kind kept.now.film.now memo.old }
-    requires running { IsRunning kept.now.film.now (running_data running.old) }
+    requires keeps { Keeps (F.pre bounds.now.f) (F.post bounds.now.f) bounds.now.kind bounds.now.film.now }
+    requires search { IsSearchOf bounds.now.kind bounds.now.film.now (H.shows hand.old) }
+    requires memo { IsMemo bounds.now.kind bounds.now.film.now memo.old }
+    requires running { IsRunning bounds.now.film.now (running_data running.old) }
     requires may { MayExplore (H.shows hand.old) (cursor_data cursor.old) (running_data running.old).path }
     requires some { (running_data running.old).path.rest ≢ 0 }
     requires through { IsThrough (H.shows hand.old) (running_data running.old).path passed.now }
     ensures sound { H.is_sound hand.new }
     ensures home { H.home hand.new ≡ H.home hand.old }
-    ensures memo { IsMemo kept.now.kind kept.now.film.now memo.new }
-    ensures running { IfOk result (λ _. IsRunning kept.now.film.now (running_data running.new)
+    ensures memo { IsMemo bounds.now.kind bounds.now.film.now memo.new }
+    ensures running { IfOk result (λ _. IsRunning bounds.now.film.now (running_data running.new)
         × ((running_data running.new).path ≡ (running_data running.old).path)) }
     ensures explored { Explores (H.shows hand.old) (cursor_data cursor.old) (running_data running.old).path result
         (H.shows hand.new) (cursor_data cursor.new) }
 {
-    let film = kept.film();
+    let film = bounds.film();
     film.keeps_limits();
     let opened = match list(hand, cursor, running.path(), passed)? {
         Begun::Answered(found) => return Ok(found),
         Begun::Enlisted(opened) => opened,
     };
     hand.keeps_limits();
-    let mut sifted = sift(kept, running, memo, opened.told);
+    let mut sifted = sift(bounds, running, memo, opened.told);
     let mut spent = false;
     while let Some(s) = sifted.visit.take_next() {
         let step = running.step(film, s);
-        let found = walk_child(kept, hand, cursor, running, memo, s, step)?;
+        let found = walk_child(bounds, hand, cursor, running, memo, s, step)?;
         hand.keeps_limits();
         sifted.least = sifted.least.min(step + found.bound);
         spent |= found.spent;
@@ -114,7 +114,7 @@ fn walk_on<H: Hand, F: Fn(u64, u64) -> u64>(
 /// remaining set and their pay, so `running` moves only to the others.
 #[cycle(children)]
 fn walk_child<H: Hand, F: Fn(u64, u64) -> u64>(
-    kept: &StoredBound<F>,
+    bounds: &StoredBound<F>,
     hand: &mut H,
     cursor: &mut Cursor,
     running: &mut Running,
@@ -123,24 +123,24 @@ fn walk_child<H: Hand, F: Fn(u64, u64) -> u64>(
     step: u64,
 ) -> Result<Found, Memory>
     requires sound { H.is_sound hand.old }
-    requires keeps { Keeps (F.pre kept.now.f) (F.post kept.now.f) kept.now.kind kept.now.film.now }
-    requires search { IsSearchOf kept.now.kind kept.now.film.now (H.shows hand.old) }
-    requires memo { IsMemo kept.now.kind kept.now.film.now memo.old }
-    requires running { IsRunning kept.now.film.now (running_data running.old) }
+    requires keeps { Keeps (F.pre bounds.now.f) (F.post bounds.now.f) bounds.now.kind bounds.now.film.now }
+    requires search { IsSearchOf bounds.now.kind bounds.now.film.now (H.shows hand.old) }
+    requires memo { IsMemo bounds.now.kind bounds.now.film.now memo.old }
+    requires running { IsRunning bounds.now.film.now (running_data running.old) }
     requires first { IsFirst (H.shows hand.old).search (running_data running.old).path s }
-    requires step { step ≡ step_cost kept.now.film.now (running_data running.old).path.rest s }
+    requires step { step ≡ step_cost bounds.now.film.now (running_data running.old).path.rest s }
     requires may { MayExplore (H.shows hand.old) (cursor_data cursor.old)
         (extended (H.shows hand.old).search.film (running_data running.old).path s) }
     ensures sound { H.is_sound hand.new }
     ensures home { H.home hand.new ≡ H.home hand.old }
-    ensures memo { IsMemo kept.now.kind kept.now.film.now memo.new }
-    ensures running { IfOk result (λ _. IsRunning kept.now.film.now (running_data running.new)
+    ensures memo { IsMemo bounds.now.kind bounds.now.film.now memo.new }
+    ensures running { IfOk result (λ _. IsRunning bounds.now.film.now (running_data running.new)
         × ((running_data running.new).path ≡ (running_data running.old).path)) }
     ensures explored { Explores (H.shows hand.old) (cursor_data cursor.old)
         (extended (H.shows hand.old).search.film (running_data running.old).path s) result
         (H.shows hand.new) (cursor_data cursor.new) }
 {
-    let film = kept.film();
+    let film = bounds.film();
     film.keeps_limits();
     let rest = running.rest().without(s);
     if rest.is_empty() {
@@ -149,13 +149,13 @@ fn walk_child<H: Hand, F: Fn(u64, u64) -> u64>(
         running.back(film);
         return Ok(found);
     }
-    let met = meet(kept, hand, rest, running.paid() + step, memo);
+    let met = meet(bounds, hand, rest, running.paid() + step, memo);
     hand.keeps_limits();
     match met {
         Met::Cut(found) => Ok(found),
         Met::Through(passed) => {
             running.take_with(film, s, step);
-            let found = walk_on(kept, hand, cursor, running, memo, &passed)?;
+            let found = walk_on(bounds, hand, cursor, running, memo, &passed)?;
             running.back(film);
             Ok(found)
         }

@@ -26,24 +26,24 @@ use strip_lines::laws::the_rules_are_true;
 /// which it raised the line of all scenes, in units of money. It fails with `Memory` only if the hand was refused
 /// memory.
 pub fn close<H: Hand, F: Fn(u64, u64) -> u64>(
-    kept: &StoredBound<F>,
+    bounds: &StoredBound<F>,
     hand: &mut H,
     front: &mut Front,
     walked: &Walked,
 ) -> Result<u64, Memory>
     requires sound { H.is_sound hand.old }
-    requires keeps { Keeps (F.pre kept.now.f) (F.post kept.now.f) kept.now.kind kept.now.film.now }
-    requires worked { HasWorkedOn kept.now.kind kept.now.film.now (H.shows hand.old) (front_data front.old)
+    requires keeps { Keeps (F.pre bounds.now.f) (F.post bounds.now.f) bounds.now.kind bounds.now.film.now }
+    requires worked { HasWorkedOn bounds.now.kind bounds.now.film.now (H.shows hand.old) (front_data front.old)
         walked.now.found.items walked.now.spent }
     requires all { HasAll (H.shows hand.old) }
     ensures sound { H.is_sound hand.new }
     ensures home { H.home hand.new ≡ H.home hand.old }
     ensures learns { Learns (H.shows hand.old) (H.shows hand.new) }
-    ensures closed { IfOk result (λ number. IsClosed kept.now.kind kept.now.film.now (H.shows hand.new)
+    ensures closed { IfOk result (λ number. IsClosed bounds.now.kind bounds.now.film.now (H.shows hand.new)
         walked.now.spent number) }
     ensures memory { IfErr result (λ _. Rose (H.shows hand.old).refusals (H.shows hand.new).refusals) }
 {
-    let number = close_up(kept, hand, front, &walked.found)?;
+    let number = close_up(bounds, hand, front, &walked.found)?;
     hand.keeps_limits();
     Ok(number)
 }
@@ -53,22 +53,22 @@ pub fn close<H: Hand, F: Fn(u64, u64) -> u64>(
 /// has closed and settled the search, `EndsFrom` holds of the result.
 pub fn tell<F: Fn(u64, u64) -> u64>(
     alloc: Global,
-    kept: &StoredBound<F>,
+    bounds: &StoredBound<F>,
     best: &Path,
     lines: Vec<Line>,
     number: u64,
     spent: bool,
 ) -> Result<Ended, Memory>
-    requires keeps { Keeps (F.pre kept.now.f) (F.post kept.now.f) kept.now.kind kept.now.film.now }
-    ensures ended { IfOk result (λ ended. (hand : HandData) → IsClosed kept.now.kind kept.now.film.now hand spent number
+    requires keeps { Keeps (F.pre bounds.now.f) (F.post bounds.now.f) bounds.now.kind bounds.now.film.now }
+    ensures ended { IfOk result (λ ended. (hand : HandData) → IsClosed bounds.now.kind bounds.now.film.now hand spent number
         → IsSettled hand (path_data best.now) lines.items
-        → EndsFrom kept.now.kind kept.now.film.now hand.search.start hand.search.cap (ended_data ended)) }
+        → EndsFrom bounds.now.kind bounds.now.film.now hand.search.start hand.search.cap (ended_data ended)) }
     ensures cost { IfOk result (λ ended. (hand : HandData) → IsSettled hand (path_data best.now) lines.items
         → ended.cost ≤ hand.told) }
 {
     the_rules_are_true();
     let order = best.scenes().to_vec(alloc)?;
-    let bound = whole_bound(kept, &lines, number, spent);
+    let bound = whole_bound(bounds, &lines, number, spent);
     Ok(Ended {
         order,
         cost: best.paid(),
@@ -82,32 +82,32 @@ pub fn tell<F: Fn(u64, u64) -> u64>(
 /// Returns the bound known of all scenes: the number that `close` returned. If the search was cut short, it looks
 /// through the lines instead, with a turn for each.
 fn whole_bound<F: Fn(u64, u64) -> u64>(
-    kept: &StoredBound<F>,
+    bounds: &StoredBound<F>,
     lines: &[Line],
     number: u64,
     spent: bool,
 ) -> u64
-    requires keeps { Keeps (F.pre kept.now.f) (F.post kept.now.f) kept.now.kind kept.now.film.now }
+    requires keeps { Keeps (F.pre bounds.now.f) (F.post bounds.now.f) bounds.now.kind bounds.now.film.now }
     ensures whole { spent ≡ false → result ≡ number }
-    ensures spent { spent ≡ true → result ≡ known (rules_of kept.now.kind kept.now.film.now) lines.now
-        (all_scenes kept.now.film.now) }
+    ensures spent { spent ≡ true → result ≡ known (rules_of bounds.now.kind bounds.now.film.now) lines.now
+        (all_scenes bounds.now.film.now) }
 {
     if spent {
-        known_of_all(kept, lines)
+        known_of_all(bounds, lines)
     } else {
         number
     }
 }
 
 /// Returns the greatest of the static bound of all scenes and the bounds of their lines.
-fn known_of_all<F: Fn(u64, u64) -> u64>(kept: &StoredBound<F>, lines: &[Line]) -> u64
-    requires { Keeps (F.pre kept.now.f) (F.post kept.now.f) kept.now.kind kept.now.film.now }
-    ensures { result ≡ known (rules_of kept.now.kind kept.now.film.now) lines.now (all_scenes kept.now.film.now) }
+fn known_of_all<F: Fn(u64, u64) -> u64>(bounds: &StoredBound<F>, lines: &[Line]) -> u64
+    requires { Keeps (F.pre bounds.now.f) (F.post bounds.now.f) bounds.now.kind bounds.now.film.now }
+    ensures { result ≡ known (rules_of bounds.now.kind bounds.now.film.now) lines.now (all_scenes bounds.now.film.now) }
 {
-    let film = kept.film();
+    let film = bounds.film();
     film.keeps_limits();
     let all = film.all();
-    let mut greatest = kept.at(all);
+    let mut greatest = bounds.at(all);
     for line in lines {
         if line.set == all.0 {
             greatest = greatest.max(line.bound);

@@ -27,13 +27,13 @@ use strip_walk::{Found, explore};
 /// and the calls of `go_down`.
 pub fn go_down_front<H: Hand, F: Fn(u64, u64) -> u64>(
     alloc: Global,
-    kept: &StoredBound<F>,
+    bounds: &StoredBound<F>,
     hand: &mut H,
     front: &mut Front,
 ) -> Result<Walked, Memory>
     requires sound { H.is_sound hand.old }
-    requires keeps { Keeps (F.pre kept.now.f) (F.post kept.now.f) kept.now.kind kept.now.film.now }
-    requires search { IsSearchOf kept.now.kind kept.now.film.now (H.shows hand.old) }
+    requires keeps { Keeps (F.pre bounds.now.f) (F.post bounds.now.f) bounds.now.kind bounds.now.film.now }
+    requires search { IsSearchOf bounds.now.kind bounds.now.film.now (H.shows hand.old) }
     requires may { MayStart (H.shows hand.old) (front_data front.old) }
     ensures sound { H.is_sound hand.new }
     ensures home { H.home hand.new ≡ H.home hand.old }
@@ -43,7 +43,7 @@ pub fn go_down_front<H: Hand, F: Fn(u64, u64) -> u64>(
         → HasWorked (H.shows hand.new) (front_data front.new) walked.found.items walked.spent) }
 {
     let mut walked = Walked::new(alloc, front)?;
-    let spent = go_down(kept, hand, &mut Cursor::of(0), front)?;
+    let spent = go_down(bounds, hand, &mut Cursor::of(0), front)?;
     walked.spent = spent;
     Ok(walked)
 }
@@ -59,7 +59,7 @@ pub fn asked_for(front: &Front) -> u32 {
 /// with `Memory` only if the hand was refused memory. The time may grow with the number of open paths that the initial
 /// path leaves.
 pub fn work<H: Hand, F: Fn(u64, u64) -> u64, G: Gate>(
-    kept: &StoredBound<F>,
+    bounds: &StoredBound<F>,
     hand: &mut H,
     front: &Front,
     worker: &Worker<G>,
@@ -67,27 +67,27 @@ pub fn work<H: Hand, F: Fn(u64, u64) -> u64, G: Gate>(
     walked: &mut Walked,
 ) -> Result<(), Memory>
     requires sound { H.is_sound hand.old }
-    requires keeps { Keeps (F.pre kept.now.f) (F.post kept.now.f) kept.now.kind kept.now.film.now }
-    requires memo { IsMemo kept.now.kind kept.now.film.now memo.old }
-    requires worked { HasWorkedOn kept.now.kind kept.now.film.now (H.shows hand.old) (front_data front.now)
+    requires keeps { Keeps (F.pre bounds.now.f) (F.post bounds.now.f) bounds.now.kind bounds.now.film.now }
+    requires memo { IsMemo bounds.now.kind bounds.now.film.now memo.old }
+    requires worked { HasWorkedOn bounds.now.kind bounds.now.film.now (H.shows hand.old) (front_data front.now)
         walked.old.found.items walked.old.spent }
     ensures sound { H.is_sound hand.new }
     ensures home { H.home hand.new ≡ H.home hand.old }
-    ensures memo { IsMemo kept.now.kind kept.now.film.now memo.new }
+    ensures memo { IsMemo bounds.now.kind bounds.now.film.now memo.new }
     ensures works_on { WorksOn (H.shows hand.old) (H.shows hand.new) }
     ensures ended { IfOk result (λ _. HasEnded (H.shows hand.new) (front_data front.now)
         walked.new.found.items walked.new.spent) }
     ensures memory { IfErr result (λ _. Rose (H.shows hand.old).refusals (H.shows hand.new).refusals) }
 {
     while let Some(part) = hand.claim() {
-        walk_part(kept, hand, front, worker, part, memo, walked)?;
+        walk_part(bounds, hand, front, worker, part, memo, walked)?;
     }
     Ok(())
 }
 
 /// Walks the task of a claimed part, if it is wanted.
 fn walk_part<H: Hand, F: Fn(u64, u64) -> u64, G: Gate>(
-    kept: &StoredBound<F>,
+    bounds: &StoredBound<F>,
     hand: &mut H,
     front: &Front,
     worker: &Worker<G>,
@@ -96,13 +96,13 @@ fn walk_part<H: Hand, F: Fn(u64, u64) -> u64, G: Gate>(
     walked: &mut Walked,
 ) -> Result<(), Memory>
     requires sound { H.is_sound hand.old }
-    requires keeps { Keeps (F.pre kept.now.f) (F.post kept.now.f) kept.now.kind kept.now.film.now }
-    requires memo { IsMemo kept.now.kind kept.now.film.now memo.old }
-    requires claimed { HasClaimed kept.now.kind kept.now.film.now (H.shows hand.old) (front_data front.now)
+    requires keeps { Keeps (F.pre bounds.now.f) (F.post bounds.now.f) bounds.now.kind bounds.now.film.now }
+    requires memo { IsMemo bounds.now.kind bounds.now.film.now memo.old }
+    requires claimed { HasClaimed bounds.now.kind bounds.now.film.now (H.shows hand.old) (front_data front.now)
         walked.old.found.items walked.old.spent part }
     ensures sound { H.is_sound hand.new }
     ensures home { H.home hand.new ≡ H.home hand.old }
-    ensures memo { IsMemo kept.now.kind kept.now.film.now memo.new }
+    ensures memo { IsMemo bounds.now.kind bounds.now.film.now memo.new }
     ensures walks { WalksPart (H.shows hand.old) part (H.shows hand.new) }
     ensures worked { IfOk result (λ _. HasWorked (H.shows hand.new) (front_data front.now)
         walked.new.found.items walked.new.spent) }
@@ -116,7 +116,7 @@ fn walk_part<H: Hand, F: Fn(u64, u64) -> u64, G: Gate>(
     let task = part as usize - 1;
     if front.wanted[task] {
         worker.begin(part, hand.tally());
-        let found = walk(kept, hand, &front.tasks()[task], part, memo)?;
+        let found = walk(bounds, hand, &front.tasks()[task], part, memo)?;
         hand.keeps_limits();
         walked.found[task] = found.bound;
         walked.spent |= found.spent;
@@ -126,23 +126,23 @@ fn walk_part<H: Hand, F: Fn(u64, u64) -> u64, G: Gate>(
 
 /// Walks a task from its path on. `part` is its number among the parts of the search.
 fn walk<H: Hand, F: Fn(u64, u64) -> u64>(
-    kept: &StoredBound<F>,
+    bounds: &StoredBound<F>,
     hand: &mut H,
     task: &Path,
     part: u32,
     memo: &mut Memo,
 ) -> Result<Found, Memory>
     requires sound { H.is_sound hand.old }
-    requires keeps { Keeps (F.pre kept.now.f) (F.post kept.now.f) kept.now.kind kept.now.film.now }
-    requires search { IsSearchOf kept.now.kind kept.now.film.now (H.shows hand.old) }
-    requires memo { IsMemo kept.now.kind kept.now.film.now memo.old }
+    requires keeps { Keeps (F.pre bounds.now.f) (F.post bounds.now.f) bounds.now.kind bounds.now.film.now }
+    requires search { IsSearchOf bounds.now.kind bounds.now.film.now (H.shows hand.old) }
+    requires memo { IsMemo bounds.now.kind bounds.now.film.now memo.old }
     requires may { MayExplore (H.shows hand.old) (beginning part) (path_data task.now) }
     ensures sound { H.is_sound hand.new }
     ensures home { H.home hand.new ≡ H.home hand.old }
-    ensures memo { IsMemo kept.now.kind kept.now.film.now memo.new }
+    ensures memo { IsMemo bounds.now.kind bounds.now.film.now memo.new }
     ensures walked { WalksTask (H.shows hand.old) part (path_data task.now) result (H.shows hand.new) }
 {
     let mut cursor = Cursor::of(part);
-    let mut running = Running::of(kept.film(), task);
-    explore(kept, hand, &mut cursor, &mut running, memo)
+    let mut running = Running::of(bounds.film(), task);
+    explore(bounds, hand, &mut cursor, &mut running, memo)
 }

@@ -31,13 +31,13 @@ use strip_rule::open_firsts;
 impl World {
     /// Returns whether the event is allowed: its worker exists, and its effect is justified. A path is checked from its
     /// start. For a bound it goes over the lines for each open first of the set. It allocates no memory.
-    pub fn allows<F: Fn(u64, u64) -> u64>(&self, kept: &StoredBound<F>, event: &Event) -> bool
+    pub fn allows<F: Fn(u64, u64) -> u64>(&self, bounds: &StoredBound<F>, event: &Event) -> bool
         requires sound { IsSound self.now }
-        requires keeps { Keeps (F.pre kept.now.f) (F.post kept.now.f) kept.now.kind kept.now.film.now }
-        requires search { GoesBy kept.now.kind kept.now.film.now self.now.search }
+        requires keeps { Keeps (F.pre bounds.now.f) (F.post bounds.now.f) bounds.now.kind bounds.now.film.now }
+        requires search { GoesBy bounds.now.kind bounds.now.film.now self.now.search }
         ensures { IsTrue result ↔ IsAllowed self.now event.now }
     {
-        self.has_worker(actor_of(event)) && self.is_fitting(kept, event)
+        self.has_worker(actor_of(event)) && self.is_fitting(bounds, event)
     }
 
     /// Returns whether worker `who` exists.
@@ -48,18 +48,18 @@ impl World {
     }
 
     /// Returns whether the event of an existing worker is allowed.
-    fn is_fitting<F: Fn(u64, u64) -> u64>(&self, kept: &StoredBound<F>, event: &Event) -> bool
+    fn is_fitting<F: Fn(u64, u64) -> u64>(&self, bounds: &StoredBound<F>, event: &Event) -> bool
         requires sound { IsSound self.now }
-        requires keeps { Keeps (F.pre kept.now.f) (F.post kept.now.f) kept.now.kind kept.now.film.now }
-        requires search { GoesBy kept.now.kind kept.now.film.now self.now.search }
+        requires keeps { Keeps (F.pre bounds.now.f) (F.post bounds.now.f) bounds.now.kind bounds.now.film.now }
+        requires search { GoesBy bounds.now.kind bounds.now.film.now self.now.search }
         requires worker { actor_of event.now < length self.now.workers }
         ensures { IsTrue result ↔ IsFitting self.now event.now }
     {
         match event {
             Event::Look { .. } | Event::Claim { .. } => true,
             Event::Offer { path, .. } => is_complete(&self.film, path),
-            Event::Enlist { who, task, path } => self.may_enlist(kept, *who, *task, path),
-            Event::Raise { line, bound, .. } => self.may_raise(kept, *line, *bound),
+            Event::Enlist { who, task, path } => self.may_enlist(bounds, *who, *task, path),
+            Event::Raise { line, bound, .. } => self.may_raise(bounds, *line, *bound),
             Event::Probe { set, .. } => lies_in_film(&self.film, Mask(*set)),
             Event::Note { known, .. } => self.may_note(known),
         }
@@ -68,23 +68,23 @@ impl World {
     /// Returns whether the worker may enlist the path in the part.
     fn may_enlist<F: Fn(u64, u64) -> u64>(
         &self,
-        kept: &StoredBound<F>,
+        bounds: &StoredBound<F>,
         who: u32,
         part: u32,
         path: &Path,
     ) -> bool
         requires sound { IsSound self.now }
-        requires keeps { Keeps (F.pre kept.now.f) (F.post kept.now.f) kept.now.kind kept.now.film.now }
-        requires search { GoesBy kept.now.kind kept.now.film.now self.now.search }
+        requires keeps { Keeps (F.pre bounds.now.f) (F.post bounds.now.f) bounds.now.kind bounds.now.film.now }
+        requires search { GoesBy bounds.now.kind bounds.now.film.now self.now.search }
         requires worker { who < length self.now.workers }
         ensures { IsTrue result ↔ WorkerMayEnlist self.now who part (path_data path.now) }
     {
         let worker = &self.workers[who as usize];
         self.is_in_part_of(who, part, path)
             && is_open(&self.film, path)
-            && self.comes_after(kept, part, path)
+            && self.comes_after(bounds, part, path)
             && !path.rest().is_empty()
-            && self.is_below(kept, path, worker.told)
+            && self.is_below(bounds, path, worker.told)
             && (part == 0 || lets_through(worker.asked, path, worker.told))
     }
 
@@ -107,20 +107,20 @@ impl World {
     /// begin with, and two ranks.
     fn comes_after<F: Fn(u64, u64) -> u64>(
         &self,
-        kept: &StoredBound<F>,
+        bounds: &StoredBound<F>,
         part: u32,
         path: &Path,
     ) -> bool
         requires sound { IsSound self.now }
-        requires keeps { Keeps (F.pre kept.now.f) (F.post kept.now.f) kept.now.kind kept.now.film.now }
-        requires search { GoesBy kept.now.kind kept.now.film.now self.now.search }
+        requires keeps { Keeps (F.pre bounds.now.f) (F.post bounds.now.f) bounds.now.kind bounds.now.film.now }
+        requires search { GoesBy bounds.now.kind bounds.now.film.now self.now.search }
         requires part { part < length self.now.parts }
         requires path { IsPath self.now.search.film (path_data path.now) }
         ensures { IsTrue result ↔ ComesAfter (search_rules self.now.search) (part_at self.now part).last
             (path_data path.now) }
     {
         match &self.parts[part as usize].last {
-            Some(last) => is_earlier(kept, self.film.all(), last.scenes(), path.scenes()),
+            Some(last) => is_earlier(bounds, self.film.all(), last.scenes(), path.scenes()),
             None => true,
         }
     }
@@ -128,33 +128,33 @@ impl World {
     /// Returns whether the path's pay plus the static bound of the rest is below a cost.
     fn is_below<F: Fn(u64, u64) -> u64>(
         &self,
-        kept: &StoredBound<F>,
+        bounds: &StoredBound<F>,
         path: &Path,
         cost: u64,
     ) -> bool
-        requires keeps { Keeps (F.pre kept.now.f) (F.post kept.now.f) kept.now.kind kept.now.film.now }
-        requires search { GoesBy kept.now.kind kept.now.film.now self.now.search }
+        requires keeps { Keeps (F.pre bounds.now.f) (F.post bounds.now.f) bounds.now.kind bounds.now.film.now }
+        requires search { GoesBy bounds.now.kind bounds.now.film.now self.now.search }
         requires path { IsPath self.now.search.film (path_data path.now) }
         ensures { IsTrue result ↔ ((path_data path.now).paid
             + bound self.now.search.kind self.now.search.film (path_data path.now).rest < cost) }
     {
-        self.bound(kept, path.rest()) < cost.saturating_sub(path.paid())
+        self.bound(bounds, path.rest()) < cost.saturating_sub(path.paid())
     }
 
     /// Returns whether the line may be raised to the bound.
     fn may_raise<F: Fn(u64, u64) -> u64>(
         &self,
-        kept: &StoredBound<F>,
+        bounds: &StoredBound<F>,
         line: u32,
         bound: u64,
     ) -> bool
         requires sound { IsSound self.now }
-        requires keeps { Keeps (F.pre kept.now.f) (F.post kept.now.f) kept.now.kind kept.now.film.now }
-        requires search { GoesBy kept.now.kind kept.now.film.now self.now.search }
+        requires keeps { Keeps (F.pre bounds.now.f) (F.post bounds.now.f) bounds.now.kind bounds.now.film.now }
+        requires search { GoesBy bounds.now.kind bounds.now.film.now self.now.search }
         ensures { IsTrue result ↔ WorkerMayRaise self.now line bound }
     {
         match self.lines.get(line as usize) {
-            Some(line) => self.is_justified(kept, Mask(line.set), bound),
+            Some(line) => self.is_justified(bounds, Mask(line.set), bound),
             None => false,
         }
     }
@@ -163,30 +163,30 @@ impl World {
     /// bound known of the rest for each open first.
     fn is_justified<F: Fn(u64, u64) -> u64>(
         &self,
-        kept: &StoredBound<F>,
+        bounds: &StoredBound<F>,
         set: Mask,
         bound: u64,
     ) -> bool
-        requires keeps { Keeps (F.pre kept.now.f) (F.post kept.now.f) kept.now.kind kept.now.film.now }
-        requires search { GoesBy kept.now.kind kept.now.film.now self.now.search }
+        requires keeps { Keeps (F.pre bounds.now.f) (F.post bounds.now.f) bounds.now.kind bounds.now.film.now }
+        requires search { GoesBy bounds.now.kind bounds.now.film.now self.now.search }
         requires lies { LiesIn self.now.search.film set.0 }
         ensures { IsTrue result ↔ IsJustified (search_rules self.now.search) self.now.lines
             (record { set = set.0; bound = bound }) }
     {
-        bound <= self.bound(kept, set)
-            || !set.is_empty() && self.each_first_reaches(kept, set, bound)
+        bound <= self.bound(bounds, set)
+            || !set.is_empty() && self.each_first_reaches(bounds, set, bound)
     }
 
     /// Returns whether the step plus the bound known of the rest reaches `bound` for each open first. For each first it
     /// takes a step cost, a static bound and a pass over the lines.
     fn each_first_reaches<F: Fn(u64, u64) -> u64>(
         &self,
-        kept: &StoredBound<F>,
+        bounds: &StoredBound<F>,
         set: Mask,
         bound: u64,
     ) -> bool
-        requires keeps { Keeps (F.pre kept.now.f) (F.post kept.now.f) kept.now.kind kept.now.film.now }
-        requires search { GoesBy kept.now.kind kept.now.film.now self.now.search }
+        requires keeps { Keeps (F.pre bounds.now.f) (F.post bounds.now.f) bounds.now.kind bounds.now.film.now }
+        requires search { GoesBy bounds.now.kind bounds.now.film.now self.now.search }
         requires lies { LiesIn self.now.search.film set.0 }
         ensures { IsTrue result ↔ ((scene : ℕ) → has (open_firsts self.now.search.film set.0) scene ≡ true
             → bound ≤ step_cost self.now.search.film set.0 scene
@@ -194,7 +194,7 @@ impl World {
     {
         self.film.keeps_limits();
         for scene in open_firsts(&self.film, set).iter() {
-            let rest = self.known(kept, set.without(scene));
+            let rest = self.known(bounds, set.without(scene));
             if bound.saturating_sub(step(&self.film, set, scene)) > rest {
                 return false;
             }
@@ -204,13 +204,13 @@ impl World {
 
     /// Returns the bound known of the set: the greatest of its static bound and its lines' bounds, in units of money.
     /// Time is linear in the number of lines.
-    pub fn known<F: Fn(u64, u64) -> u64>(&self, kept: &StoredBound<F>, set: Mask) -> u64
-        requires keeps { Keeps (F.pre kept.now.f) (F.post kept.now.f) kept.now.kind kept.now.film.now }
-        requires search { GoesBy kept.now.kind kept.now.film.now self.now.search }
+    pub fn known<F: Fn(u64, u64) -> u64>(&self, bounds: &StoredBound<F>, set: Mask) -> u64
+        requires keeps { Keeps (F.pre bounds.now.f) (F.post bounds.now.f) bounds.now.kind bounds.now.film.now }
+        requires search { GoesBy bounds.now.kind bounds.now.film.now self.now.search }
         requires lies { LiesIn self.now.search.film set.0 }
         ensures { result ≡ known (search_rules self.now.search) self.now.lines set.0 }
     {
-        let mut greatest = self.bound(kept, set);
+        let mut greatest = self.bound(bounds, set);
         for line in &self.lines {
             if line.set == set.0 {
                 greatest = greatest.max(line.bound);
@@ -220,13 +220,13 @@ impl World {
     }
 
     /// Returns the static bound of the set.
-    pub(crate) fn bound<F: Fn(u64, u64) -> u64>(&self, kept: &StoredBound<F>, set: Mask) -> u64
-        requires keeps { Keeps (F.pre kept.now.f) (F.post kept.now.f) kept.now.kind kept.now.film.now }
-        requires search { GoesBy kept.now.kind kept.now.film.now self.now.search }
+    pub(crate) fn bound<F: Fn(u64, u64) -> u64>(&self, bounds: &StoredBound<F>, set: Mask) -> u64
+        requires keeps { Keeps (F.pre bounds.now.f) (F.post bounds.now.f) bounds.now.kind bounds.now.film.now }
+        requires search { GoesBy bounds.now.kind bounds.now.film.now self.now.search }
         requires lies { LiesIn self.now.search.film set.0 }
         ensures { result ≡ bound self.now.search.kind self.now.search.film set.0 }
     {
-        kept.at(set)
+        bounds.at(set)
     }
 
     /// Returns whether the line may be inserted into the table: its bound is at most that of the recorded line with its

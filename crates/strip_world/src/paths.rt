@@ -85,18 +85,18 @@ fn is_in(set: Mask, scene: u8) -> bool
 /// Returns whether the first list of scenes comes before the second in the order of the search, if both are shot from
 /// the set. It compares the scenes that both begin with, and two ranks.
 pub(crate) fn is_earlier<F: Fn(u64, u64) -> u64>(
-    kept: &StoredBound<F>,
+    bounds: &StoredBound<F>,
     set: Mask,
     first: &[u8],
     second: &[u8],
 ) -> bool
-    requires keeps { Keeps (F.pre kept.now.f) (F.post kept.now.f) kept.now.kind kept.now.film.now }
-    requires lies { LiesIn kept.now.film.now set.0 }
-    requires first { Remained kept.now.film.now set.0 first.now }
-    requires second { Remained kept.now.film.now set.0 second.now }
-    ensures { IsTrue result ↔ IsEarlier (rules_of kept.now.kind kept.now.film.now) set.0 first.now second.now }
+    requires keeps { Keeps (F.pre bounds.now.f) (F.post bounds.now.f) bounds.now.kind bounds.now.film.now }
+    requires lies { LiesIn bounds.now.film.now set.0 }
+    requires first { Remained bounds.now.film.now set.0 first.now }
+    requires second { Remained bounds.now.film.now set.0 second.now }
+    ensures { IsTrue result ↔ IsEarlier (rules_of bounds.now.kind bounds.now.film.now) set.0 first.now second.now }
 {
-    kept.film().keeps_limits();
+    bounds.film().keeps_limits();
     let Some((other, after_other)) = second.split_first() else {
         return false;
     };
@@ -104,20 +104,20 @@ pub(crate) fn is_earlier<F: Fn(u64, u64) -> u64>(
         return true;
     };
     if one == other {
-        return is_earlier(kept, set.without(*one as u32), after_one, after_other);
+        return is_earlier(bounds, set.without(*one as u32), after_one, after_other);
     }
-    is_sooner(kept, set, *one as u32, *other as u32)
+    is_sooner(bounds, set, *one as u32, *other as u32)
 }
 
 /// Returns whether scene `s` of the set comes before scene `t`: by rank, or by number at equal ranks.
-fn is_sooner<F: Fn(u64, u64) -> u64>(kept: &StoredBound<F>, set: Mask, s: u32, t: u32) -> bool
-    requires keeps { Keeps (F.pre kept.now.f) (F.post kept.now.f) kept.now.kind kept.now.film.now }
-    requires lies { LiesIn kept.now.film.now set.0 }
+fn is_sooner<F: Fn(u64, u64) -> u64>(bounds: &StoredBound<F>, set: Mask, s: u32, t: u32) -> bool
+    requires keeps { Keeps (F.pre bounds.now.f) (F.post bounds.now.f) bounds.now.kind bounds.now.film.now }
+    requires lies { LiesIn bounds.now.film.now set.0 }
     requires one { has set.0 s ≡ true }
     requires other { has set.0 t ≡ true }
-    ensures { IsTrue result ↔ IsSooner (rank (rules_of kept.now.kind kept.now.film.now) set.0) s t }
+    ensures { IsTrue result ↔ IsSooner (rank (rules_of bounds.now.kind bounds.now.film.now) set.0) s t }
 {
-    let rank = kept.rank(set, s);
-    let other = kept.rank(set, t);
+    let rank = bounds.rank(set, s);
+    let other = bounds.rank(set, t);
     rank < other || rank == other && s < t
 }

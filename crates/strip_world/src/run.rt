@@ -18,10 +18,10 @@ use strip_bound::StoredBound;
 impl World {
     /// Applies the events in turn, up to the first that is not allowed, and returns the number applied. For any list,
     /// each table entry is then a valid lower bound, and the least cost is at least the optimum.
-    pub fn run<F: Fn(u64, u64) -> u64>(&mut self, kept: &StoredBound<F>, events: &[Event]) -> usize
+    pub fn run<F: Fn(u64, u64) -> u64>(&mut self, bounds: &StoredBound<F>, events: &[Event]) -> usize
         requires sound { IsSound self.old }
-        requires keeps { Keeps (F.pre kept.now.f) (F.post kept.now.f) kept.now.kind kept.now.film.now }
-        requires search { GoesBy kept.now.kind kept.now.film.now self.old.search }
+        requires keeps { Keeps (F.pre bounds.now.f) (F.post bounds.now.f) bounds.now.kind bounds.now.film.now }
+        requires search { GoesBy bounds.now.kind bounds.now.film.now self.old.search }
         ensures runs { Runs self.old events.now result self.new }
         ensures sound { IsSound self.new }
         ensures entries { (stripe bucket : ℕ) (entry : Known) → stripe < 16
@@ -33,10 +33,10 @@ impl World {
         a_sound_world_is_true();
         for count in 0..events.len() {
             let event = &events[count];
-            if !self.allows(kept, event) {
+            if !self.allows(bounds, event) {
                 return count;
             }
-            self.step(kept, event);
+            self.step(bounds, event);
         }
         events.len()
     }

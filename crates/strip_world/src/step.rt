@@ -14,10 +14,10 @@ use strip_mask::Mask;
 impl World {
     /// Applies an allowed event, and returns the reply. It allocates no memory. It takes constant time, and that of the
     /// static bound for an enlisted path.
-    pub fn step<F: Fn(u64, u64) -> u64>(&mut self, kept: &StoredBound<F>, event: &Event) -> Reply
+    pub fn step<F: Fn(u64, u64) -> u64>(&mut self, bounds: &StoredBound<F>, event: &Event) -> Reply
         requires sound { IsSound self.old }
-        requires keeps { Keeps (F.pre kept.now.f) (F.post kept.now.f) kept.now.kind kept.now.film.now }
-        requires search { GoesBy kept.now.kind kept.now.film.now self.old.search }
+        requires keeps { Keeps (F.pre bounds.now.f) (F.post bounds.now.f) bounds.now.kind bounds.now.film.now }
+        requires search { GoesBy bounds.now.kind bounds.now.film.now self.old.search }
         requires allowed { IsAllowed self.old event.now }
         ensures steps { Steps self.old event.now self.new result }
         ensures sound { IsSound self.new }
@@ -28,7 +28,7 @@ impl World {
             Event::Offer { who, path } => Reply::Least(self.offer_as(*who, path)),
             Event::Claim { who } => Reply::Task(self.claim_as(*who)),
             Event::Enlist { who: _, task, path } => {
-                let bound = self.bound(kept, path.rest());
+                let bound = self.bound(bounds, path.rest());
                 Reply::Listed(self.enlist_as(*task, path, bound))
             }
             Event::Raise {

@@ -43,10 +43,10 @@ pub(crate) fn kept_reach(film: &Film, tables: &BoundTables, set: Mask, need: u64
         return None;
     }
     let kind = Kind::Arrivals;
-    let kept = StoredBound::new(
+    let bounds = StoredBound::new(
         film,
         kind,
         |q, need| static_reach(film, tables, kind, Mask(q), need),
     );
-    Some(kept.reach(set, need))
+    Some(bounds.reach(set, need))
 }

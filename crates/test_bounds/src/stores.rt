@@ -40,17 +40,17 @@ fn all_of(film: &Film) -> Mask
 fn asked_thrice<R: Wait, N: Bounded, F: Fn(u64, u64) -> u64>(
     rt: &R,
     alloc: Global,
-    kept: &StoredBound<F>,
+    bounds: &StoredBound<F>,
 ) -> Result<[u64; 3], Fail>
-    requires kind { kept.now.kind ≡ N.kind }
-    requires film { kept.now.film.now ≡ N.film }
-    requires keeps { Keeps (F.pre kept.now.f) (F.post kept.now.f) kept.now.kind kept.now.film.now }
+    requires kind { bounds.now.kind ≡ N.kind }
+    requires film { bounds.now.film.now ≡ N.film }
+    requires keeps { Keeps (F.pre bounds.now.f) (F.post bounds.now.f) bounds.now.kind bounds.now.film.now }
 {
-    let store: Store<N> = Store::new(alloc, kept)?;
-    let all = all_of(kept.film());
-    let first = store.reach(rt, kept, all, 1);
-    let whole = store.reach(rt, kept, all, u64::MAX);
-    Ok([first, whole, store.reach(rt, kept, all, 1)])
+    let store: Store<N> = Store::new(alloc, bounds)?;
+    let all = all_of(bounds.film());
+    let first = store.reach(rt, bounds, all, 1);
+    let whole = store.reach(rt, bounds, all, u64::MAX);
+    Ok([first, whole, store.reach(rt, bounds, all, 1)])
 }
 
 /// Returns how often a store of this kind computes the bound if it is asked three times, or none if an answer is wrong.
@@ -70,11 +70,11 @@ fn times_asked_of<R: Wait>(
     requires { AreTables film.now tables.now }
 {
     let times = AtomicU64::new(0);
-    let kept = StoredBound::new(film, kind, |q, need| {
+    let bounds = StoredBound::new(film, kind, |q, need| {
         times.fetch_add(1, Ordering::SeqCst);
         static_reach(film, tables, kind, Mask(q), need)
     });
-    let [first, whole, again] = asked_thrice::<R, Brand, _>(rt, alloc, &kept)?;
+    let [first, whole, again] = asked_thrice::<R, Brand, _>(rt, alloc, &bounds)?;
     let bound = static_bound(film, tables, kind, all_of(film));
     if first == 0 || first > bound || whole != bound || again > bound {
         return Ok(None);
@@ -94,20 +94,20 @@ fn a_bound_is_worked_out_once(rt: HostRuntime) -> Result<(), Fail> {
 /// Returns the answers of a stored bound for a set, with one thread for each of these requests.
 fn reached<R: Threads + Wait + Sync, F: Fn(u64, u64) -> u64 + Sync>(
     rt: &R,
-    kept: &StoredBound<F>,
+    bounds: &StoredBound<F>,
     set: Mask,
     needs: Vec<u64>,
 ) -> Result<Vec<u64>, Fail>
-    requires keeps { Keeps (F.pre kept.now.f) (F.post kept.now.f) kept.now.kind kept.now.film.now }
-    requires lies { LiesIn kept.now.film.now set.0 }
+    requires keeps { Keeps (F.pre bounds.now.f) (F.post bounds.now.f) bounds.now.kind bounds.now.film.now }
+    requires lies { LiesIn bounds.now.film.now set.0 }
 {
     let all = thread::map_vec(
         rt,
         needs,
         &|need: u64| -> u64
-            requires { Keeps (F.pre kept.now.f) (F.post kept.now.f) kept.now.kind kept.now.film.now
-                × LiesIn kept.now.film.now set.0 }
-        { kept.reach(set, need) },
+            requires { Keeps (F.pre bounds.now.f) (F.post bounds.now.f) bounds.now.kind bounds.now.film.now
+                × LiesIn bounds.now.film.now set.0 }
+        { bounds.reach(set, need) },
     )?;
     Ok(all)
 }
@@ -117,18 +117,18 @@ fn reached_by_store<
     R: Threads + Wait + Sync,
     N: Bounded + Send + Sync,
     F: Fn(u64, u64) -> u64 + Sync,
->(rt: &R, alloc: Global, kept: &StoredBound<F>, needs: Vec<u64>) -> Result<Vec<u64>, Fail>
-    requires kind { kept.now.kind ≡ N.kind }
-    requires film { kept.now.film.now ≡ N.film }
-    requires keeps { Keeps (F.pre kept.now.f) (F.post kept.now.f) kept.now.kind kept.now.film.now }
+>(rt: &R, alloc: Global, bounds: &StoredBound<F>, needs: Vec<u64>) -> Result<Vec<u64>, Fail>
+    requires kind { bounds.now.kind ≡ N.kind }
+    requires film { bounds.now.film.now ≡ N.film }
+    requires keeps { Keeps (F.pre bounds.now.f) (F.post bounds.now.f) bounds.now.kind bounds.now.film.now }
 {
-    let store: Store<N> = Store::new(alloc, kept)?;
+    let store: Store<N> = Store::new(alloc, bounds)?;
     let stored = StoredBound::new(
-        kept.film(),
-        kept.kind(),
-        |q, need| store.reach(rt, kept, Mask(q), need),
+        bounds.film(),
+        bounds.kind(),
+        |q, need| store.reach(rt, bounds, Mask(q), need),
     );
-    reached(rt, &stored, all_of(kept.film()), needs)
+    reached(rt, &stored, all_of(bounds.film()), needs)
 }
 
 #[test]
@@ -153,13 +153,13 @@ fn is_shared_of<R: Threads + Wait + Sync>(
     requires { AreTables film.now tables.now }
 {
     let kind = Kind::Arrivals;
-    let kept = StoredBound::new(
+    let bounds = StoredBound::new(
         film,
         kind,
         |q, need| static_reach(film, tables, kind, Mask(q), need),
     );
     let needs = Vec::from_slice(alloc, &[u64::MAX, 12, u64::MAX, 1])?;
-    let all = reached_by_store::<R, Brand, _>(rt, alloc, &kept, needs)?;
+    let all = reached_by_store::<R, Brand, _>(rt, alloc, &bounds, needs)?;
     Ok(are_reached(&all, static_bound(film, tables, kind, all_of(film))))
 }
 

@@ -35,27 +35,27 @@ const ENTRIES: u32 = 65_536;
 /// Runs a search that drops its notes (table entries).
 fn without_notes<F: Fn(u64, u64) -> u64>(
     alloc: Global,
-    kept: &StoredBound<F>,
+    bounds: &StoredBound<F>,
     start: &Path,
 ) -> Result<Outcome, Fail>
-    requires keeps { Keeps (F.pre kept.now.f) (F.post kept.now.f) kept.now.kind kept.now.film.now }
-    requires start { IsComplete kept.now.film.now (path_data start.now) }
+    requires keeps { Keeps (F.pre bounds.now.f) (F.post bounds.now.f) bounds.now.kind bounds.now.film.now }
+    requires start { IsComplete bounds.now.film.now (path_data start.now) }
 {
-    let film = kept.film();
+    let film = bounds.film();
     film.keeps_limits();
     tasks_are_starts();
-    let mut front = make_front(alloc, kept, 2)?;
+    let mut front = make_front(alloc, bounds, 2)?;
     let limits = Limits {
         workers: 1,
         cap: CAP,
         entries: ENTRIES,
     };
-    let world = World::new(alloc, film, kept.kind(), start, front.tasks(), &limits)?;
+    let world = World::new(alloc, film, bounds.kind(), start, front.tasks(), &limits)?;
     let mut hand = Forgetful {
         world,
         last_note: None,
     };
-    let bound = search(alloc, kept, &mut hand, &mut front)?;
+    let bound = search(alloc, bounds, &mut hand, &mut front)?;
     Ok(Outcome {
         cost: hand.world.best(0).paid(),
         bound,
@@ -66,13 +66,13 @@ fn without_notes<F: Fn(u64, u64) -> u64>(
 /// Runs a search with notes.
 fn with_notes<F: Fn(u64, u64) -> u64>(
     alloc: Global,
-    kept: &StoredBound<F>,
+    bounds: &StoredBound<F>,
     start: &Path,
 ) -> Result<Outcome, Fail>
-    requires keeps { Keeps (F.pre kept.now.f) (F.post kept.now.f) kept.now.kind kept.now.film.now }
-    requires start { IsComplete kept.now.film.now (path_data start.now) }
+    requires keeps { Keeps (F.pre bounds.now.f) (F.post bounds.now.f) bounds.now.kind bounds.now.film.now }
+    requires start { IsComplete bounds.now.film.now (path_data start.now) }
 {
-    let ended = searched_by(alloc, kept, start, CAP, ENTRIES)?;
+    let ended = searched_by(alloc, bounds, start, CAP, ENTRIES)?;
     Ok(Outcome {
         cost: ended.cost,
         bound: ended.bound,
@@ -84,12 +84,12 @@ fn with_notes<F: Fn(u64, u64) -> u64>(
 /// first.
 fn both(alloc: Global, film: &Film, kind: Kind) -> Result<[Outcome; 2], Fail> {
     let tables = BoundTables::of(alloc, film)?;
-    let kept = StoredBound::new(film, kind, |q, need| {
+    let bounds = StoredBound::new(film, kind, |q, need| {
         static_reach(film, &tables, kind, Mask(q), need)
     });
     let start = improve(film, &greedy(film));
-    let noting = with_notes(alloc, &kept, &start)?;
-    let forgetful = without_notes(alloc, &kept, &start)?;
+    let noting = with_notes(alloc, &bounds, &start)?;
+    let forgetful = without_notes(alloc, &bounds, &start)?;
     Ok([noting, forgetful])
 }
 

@@ -28,25 +28,25 @@ pub(crate) fn searched(
     requires entries { (64 ≤ entries) × (entries ≤ 4194304) }
 {
     let tables = BoundTables::of(alloc, film)?;
-    let kept = StoredBound::new(film, kind, |q, need| {
+    let bounds = StoredBound::new(film, kind, |q, need| {
         static_reach(film, &tables, kind, Mask(q), need)
     });
-    searched_by(alloc, &kept, start, nodes, entries)
+    searched_by(alloc, &bounds, start, nodes, entries)
 }
 
 /// Runs a search with a stored bound, from this path.
 pub(crate) fn searched_by<F: Fn(u64, u64) -> u64>(
     alloc: Global,
-    kept: &StoredBound<F>,
+    bounds: &StoredBound<F>,
     start: &Path,
     nodes: u32,
     entries: u32,
 ) -> Result<Ended, Memory>
-    requires keeps { Keeps (F.pre kept.now.f) (F.post kept.now.f) kept.now.kind kept.now.film.now }
-    requires start { IsComplete kept.now.film.now (path_data start.now) }
+    requires keeps { Keeps (F.pre bounds.now.f) (F.post bounds.now.f) bounds.now.kind bounds.now.film.now }
+    requires start { IsComplete bounds.now.film.now (path_data start.now) }
     requires nodes { (1 ≤ nodes) × (nodes ≤ 16777216) }
     requires entries { (64 ≤ entries) × (entries ≤ 4194304) }
 {
-    let mut memo = Memo::new(alloc, kept)?;
-    alone(alloc, kept, &mut memo, start, nodes, entries)
+    let mut memo = Memo::new(alloc, bounds)?;
+    alone(alloc, bounds, &mut memo, start, nodes, entries)
 }

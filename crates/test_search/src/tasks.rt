@@ -36,22 +36,22 @@ fn has_tasks(
     requires { (2 ≤ most) × (most ≤ 4) }
 {
     let tables = BoundTables::of(alloc, film)?;
-    let kept = StoredBound::new(film, kind, |q, need| {
+    let bounds = StoredBound::new(film, kind, |q, need| {
         static_reach(film, &tables, kind, Mask(q), need)
     });
-    makes_tasks(alloc, &kept, most, scenes)
+    makes_tasks(alloc, &bounds, most, scenes)
 }
 
 fn makes_tasks<F: Fn(u64, u64) -> u64>(
     alloc: Global,
-    kept: &StoredBound<F>,
+    bounds: &StoredBound<F>,
     most: usize,
     scenes: &[&[u8]],
 ) -> Result<bool, Fail>
-    requires keeps { Keeps (F.pre kept.now.f) (F.post kept.now.f) kept.now.kind kept.now.film.now }
+    requires keeps { Keeps (F.pre bounds.now.f) (F.post bounds.now.f) bounds.now.kind bounds.now.film.now }
     requires most { (2 ≤ most) × (most ≤ 4) }
 {
-    let front = make_front(alloc, kept, most)?;
+    let front = make_front(alloc, bounds, most)?;
     Ok(are_along(&front, scenes))
 }
 

@@ -39,24 +39,24 @@ fn trimmed(alloc: Global, film: &Film, kind: Kind, lines: &[Line]) -> Result<Vec
     requires { AreJustified (rules_of kind film.now) lines.now }
 {
     let tables = BoundTables::of(alloc, film)?;
-    let kept = StoredBound::new(
+    let bounds = StoredBound::new(
         film,
         kind,
         |q, need| static_reach(film, &tables, kind, Mask(q), need),
     );
-    trimmed_by(alloc, &kept, lines)
+    trimmed_by(alloc, &bounds, lines)
 }
 
 fn trimmed_by<F: Fn(u64, u64) -> u64>(
     alloc: Global,
-    kept: &StoredBound<F>,
+    bounds: &StoredBound<F>,
     lines: &[Line],
 ) -> Result<Vec<Line>, Fail>
-    requires keeps { Keeps (F.pre kept.now.f) (F.post kept.now.f) kept.now.kind kept.now.film.now }
-    requires lines { AreJustified (rules_of kept.now.kind kept.now.film.now) lines.now }
+    requires keeps { Keeps (F.pre bounds.now.f) (F.post bounds.now.f) bounds.now.kind bounds.now.film.now }
+    requires lines { AreJustified (rules_of bounds.now.kind bounds.now.film.now) lines.now }
 {
-    let mut memo = Memo::new(alloc, kept)?;
-    let lines = trim(alloc, kept, &mut memo, lines)?;
+    let mut memo = Memo::new(alloc, bounds)?;
+    let lines = trim(alloc, bounds, &mut memo, lines)?;
     Ok(lines)
 }
 

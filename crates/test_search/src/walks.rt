@@ -21,46 +21,46 @@ use strip_walk::explore;
 /// Searches through a hand of a search in which nothing was claimed yet, and returns the resulting bound.
 pub(crate) fn search<H: Hand, F: Fn(u64, u64) -> u64>(
     alloc: Global,
-    kept: &StoredBound<F>,
+    bounds: &StoredBound<F>,
     hand: &mut H,
     front: &mut Front,
 ) -> Result<u64, Fail>
     requires sound { H.is_sound hand.old }
-    requires keeps { Keeps (F.pre kept.now.f) (F.post kept.now.f) kept.now.kind kept.now.film.now }
-    requires search { IsSearchOf kept.now.kind kept.now.film.now (H.shows hand.old) }
+    requires keeps { Keeps (F.pre bounds.now.f) (F.post bounds.now.f) bounds.now.kind bounds.now.film.now }
+    requires search { IsSearchOf bounds.now.kind bounds.now.film.now (H.shows hand.old) }
     requires tasks { (H.shows hand.old).search.tasks ≡ (front_data front.old).tasks }
-    requires front { IsEmptyFront (rules_of kept.now.kind kept.now.film.now) (front_data front.old) }
+    requires front { IsEmptyFront (rules_of bounds.now.kind bounds.now.film.now) (front_data front.old) }
     ensures sound { H.is_sound hand.new }
     ensures home { H.home hand.new ≡ H.home hand.old }
 {
-    let mut found = begin(alloc, kept, hand, front)?;
-    take_tasks(alloc, kept, hand, front, &mut found)?;
-    let bound = close_up(kept, hand, front, &found)?;
+    let mut found = begin(alloc, bounds, hand, front)?;
+    take_tasks(alloc, bounds, hand, front, &mut found)?;
+    let bound = close_up(bounds, hand, front, &found)?;
     Ok(bound)
 }
 
 /// Claims the front and goes down it. No task has a result yet.
 fn begin<H: Hand, F: Fn(u64, u64) -> u64>(
     alloc: Global,
-    kept: &StoredBound<F>,
+    bounds: &StoredBound<F>,
     hand: &mut H,
     front: &mut Front,
 ) -> Result<Vec<u64>, Fail>
     requires sound { H.is_sound hand.old }
-    requires keeps { Keeps (F.pre kept.now.f) (F.post kept.now.f) kept.now.kind kept.now.film.now }
-    requires search { IsSearchOf kept.now.kind kept.now.film.now (H.shows hand.old) }
+    requires keeps { Keeps (F.pre bounds.now.f) (F.post bounds.now.f) bounds.now.kind bounds.now.film.now }
+    requires search { IsSearchOf bounds.now.kind bounds.now.film.now (H.shows hand.old) }
     requires tasks { (H.shows hand.old).search.tasks ≡ (front_data front.old).tasks }
-    requires front { IsEmptyFront (rules_of kept.now.kind kept.now.film.now) (front_data front.old) }
+    requires front { IsEmptyFront (rules_of bounds.now.kind bounds.now.film.now) (front_data front.old) }
     ensures sound { H.is_sound hand.new }
     ensures home { H.home hand.new ≡ H.home hand.old }
-    ensures way { IfOk result (λ found. IsOnItsWay kept.now.kind kept.now.film.now (H.shows hand.new)
+    ensures way { IfOk result (λ found. IsOnItsWay bounds.now.kind bounds.now.film.now (H.shows hand.new)
         (front_data front.new) found.items) }
 {
     let part = claimed(hand)?;
     if part != 0 {
         return Err("the front first".into());
     }
-    go_down(kept, hand, &mut Cursor::of(0), front)?;
+    go_down(bounds, hand, &mut Cursor::of(0), front)?;
     let found = vec![in alloc; 0; front.tasks().len()]?;
     Ok(found)
 }
@@ -81,47 +81,47 @@ fn claimed<H: Hand>(hand: &mut H) -> Result<u32, Fail>
 /// Claims as many parts as there are tasks, and walks each wanted task.
 fn take_tasks<H: Hand, F: Fn(u64, u64) -> u64>(
     alloc: Global,
-    kept: &StoredBound<F>,
+    bounds: &StoredBound<F>,
     hand: &mut H,
     front: &Front,
     found: &mut Vec<u64>,
 ) -> Result<(), Fail>
     requires sound { H.is_sound hand.old }
-    requires keeps { Keeps (F.pre kept.now.f) (F.post kept.now.f) kept.now.kind kept.now.film.now }
-    requires way { IsOnItsWay kept.now.kind kept.now.film.now (H.shows hand.old)
+    requires keeps { Keeps (F.pre bounds.now.f) (F.post bounds.now.f) bounds.now.kind bounds.now.film.now }
+    requires way { IsOnItsWay bounds.now.kind bounds.now.film.now (H.shows hand.old)
         (front_data front.now) found.old.items }
     ensures sound { H.is_sound hand.new }
     ensures home { H.home hand.new ≡ H.home hand.old }
-    ensures way { IfOk result (λ _. IsOnItsWay kept.now.kind kept.now.film.now (H.shows hand.new)
+    ensures way { IfOk result (λ _. IsOnItsWay bounds.now.kind bounds.now.film.now (H.shows hand.new)
         (front_data front.now) found.new.items) }
 {
-    let mut memo = Memo::new(alloc, kept)?;
+    let mut memo = Memo::new(alloc, bounds)?;
     for _ in 0..front.tasks().len() {
-        take_task(kept, hand, front, found, &mut memo)?;
+        take_task(bounds, hand, front, found, &mut memo)?;
     }
     Ok(())
 }
 
 /// Claims a task, and walks it if it is wanted.
 fn take_task<H: Hand, F: Fn(u64, u64) -> u64>(
-    kept: &StoredBound<F>,
+    bounds: &StoredBound<F>,
     hand: &mut H,
     front: &Front,
     found: &mut Vec<u64>,
     memo: &mut Memo,
 ) -> Result<(), Fail>
     requires sound { H.is_sound hand.old }
-    requires keeps { Keeps (F.pre kept.now.f) (F.post kept.now.f) kept.now.kind kept.now.film.now }
-    requires way { IsOnItsWay kept.now.kind kept.now.film.now (H.shows hand.old)
+    requires keeps { Keeps (F.pre bounds.now.f) (F.post bounds.now.f) bounds.now.kind bounds.now.film.now }
+    requires way { IsOnItsWay bounds.now.kind bounds.now.film.now (H.shows hand.old)
         (front_data front.now) found.old.items }
-    requires memo { IsMemo kept.now.kind kept.now.film.now memo.old }
+    requires memo { IsMemo bounds.now.kind bounds.now.film.now memo.old }
     ensures sound { H.is_sound hand.new }
     ensures home { H.home hand.new ≡ H.home hand.old }
-    ensures memo { IsMemo kept.now.kind kept.now.film.now memo.new }
-    ensures way { IfOk result (λ _. IsOnItsWay kept.now.kind kept.now.film.now (H.shows hand.new)
+    ensures memo { IsMemo bounds.now.kind bounds.now.film.now memo.new }
+    ensures way { IfOk result (λ _. IsOnItsWay bounds.now.kind bounds.now.film.now (H.shows hand.new)
         (front_data front.now) found.new.items) }
 {
-    kept.film().keeps_limits();
+    bounds.film().keeps_limits();
     let part = claimed(hand)?;
     if part == 0 {
         return Err("a task after the front".into());
@@ -129,8 +129,8 @@ fn take_task<H: Hand, F: Fn(u64, u64) -> u64>(
     let task = part as usize - 1;
     if front.wanted[task] {
         let mut cursor = Cursor::of(part);
-        let mut running = Running::of(kept.film(), &front.tasks()[task]);
-        found[task] = explore(kept, hand, &mut cursor, &mut running, memo)?.bound;
+        let mut running = Running::of(bounds.film(), &front.tasks()[task]);
+        found[task] = explore(bounds, hand, &mut cursor, &mut running, memo)?.bound;
     }
     Ok(())
 }

@@ -25,17 +25,17 @@ use strip_world::{Event, Reply, World};
 
 fn world<F: Fn(u64, u64) -> u64>(
     alloc: Global,
-    kept: &StoredBound<F>,
+    bounds: &StoredBound<F>,
     start: &Path,
     cap: u32,
 ) -> Result<World, Fail>
-    requires keeps { Keeps (F.pre kept.now.f) (F.post kept.now.f) kept.now.kind kept.now.film.now }
-    requires start { IsComplete kept.now.film.now (path_data start.now) }
+    requires keeps { Keeps (F.pre bounds.now.f) (F.post bounds.now.f) bounds.now.kind bounds.now.film.now }
+    requires start { IsComplete bounds.now.film.now (path_data start.now) }
     requires cap { (1 ≤ cap) × (cap ≤ 16777216) }
     ensures sound { IfOk result IsSound }
-    ensures search { IfOk result (λ world. GoesBy kept.now.kind kept.now.film.now world.search) }
+    ensures search { IfOk result (λ world. GoesBy bounds.now.kind bounds.now.film.now world.search) }
 {
-    let film = kept.film();
+    let film = bounds.film();
     film.keeps_limits();
     tasks_are_starts();
     let limits = Limits {
@@ -43,8 +43,8 @@ fn world<F: Fn(u64, u64) -> u64>(
         cap,
         entries: 64,
     };
-    let front = make_front(alloc, kept, 2)?;
-    let world = World::new(alloc, film, kept.kind(), start, front.tasks(), &limits)?;
+    let front = make_front(alloc, bounds, 2)?;
+    let world = World::new(alloc, film, bounds.kind(), start, front.tasks(), &limits)?;
     Ok(world)
 }
 
@@ -61,19 +61,19 @@ fn order(film: &Film, scenes: &[u32]) -> Result<Path, Fail>
 
 /// Returns the reply to an event, or none if the event isn't allowed.
 fn reply<F: Fn(u64, u64) -> u64>(
-    kept: &StoredBound<F>,
+    bounds: &StoredBound<F>,
     world: &mut World,
     event: &Event,
 ) -> Option<Reply>
     requires sound { IsSound world.old }
-    requires keeps { Keeps (F.pre kept.now.f) (F.post kept.now.f) kept.now.kind kept.now.film.now }
-    requires search { GoesBy kept.now.kind kept.now.film.now world.old.search }
+    requires keeps { Keeps (F.pre bounds.now.f) (F.post bounds.now.f) bounds.now.kind bounds.now.film.now }
+    requires search { GoesBy bounds.now.kind bounds.now.film.now world.old.search }
     ensures sound { IsSound world.new }
-    ensures search { GoesBy kept.now.kind kept.now.film.now world.new.search }
+    ensures search { GoesBy bounds.now.kind bounds.now.film.now world.new.search }
 {
     what_was_seen_stays_true();
-    if world.allows(kept, event) {
-        Some(world.step(kept, event))
+    if world.allows(bounds, event) {
+        Some(world.step(bounds, event))
     } else {
         None
     }
@@ -89,18 +89,18 @@ struct Step(Event, Option<Reply>);
 
 /// Tells whether the events get these replies in turn.
 fn are_replied<F: Fn(u64, u64) -> u64>(
-    kept: &StoredBound<F>,
+    bounds: &StoredBound<F>,
     world: &mut World,
     steps: &[Step],
 ) -> bool
     requires sound { IsSound world.old }
-    requires keeps { Keeps (F.pre kept.now.f) (F.post kept.now.f) kept.now.kind kept.now.film.now }
-    requires search { GoesBy kept.now.kind kept.now.film.now world.old.search }
+    requires keeps { Keeps (F.pre bounds.now.f) (F.post bounds.now.f) bounds.now.kind bounds.now.film.now }
+    requires search { GoesBy bounds.now.kind bounds.now.film.now world.old.search }
     ensures sound { IsSound world.new }
-    ensures search { GoesBy kept.now.kind kept.now.film.now world.new.search }
+    ensures search { GoesBy bounds.now.kind bounds.now.film.now world.new.search }
 {
     for Step(event, expected) in steps {
-        if reply(kept, world, event) != *expected {
+        if reply(bounds, world, event) != *expected {
             return false;
         }
     }
@@ -158,26 +158,26 @@ fn nine_steps(start: Path) -> [Step; 9] {
 // A run takes the eight allowed events, and stops at the ninth.
 fn runs_eight_of_nine<F: Fn(u64, u64) -> u64>(
     alloc: Global,
-    kept: &StoredBound<F>,
+    bounds: &StoredBound<F>,
 ) -> Result<bool, Fail>
-    requires { Keeps (F.pre kept.now.f) (F.post kept.now.f) kept.now.kind kept.now.film.now }
+    requires { Keeps (F.pre bounds.now.f) (F.post bounds.now.f) bounds.now.kind bounds.now.film.now }
 {
-    let film = kept.film();
-    let mut world = world(alloc, kept, &order(film, &[0, 1, 2])?, 1)?;
-    let count = world.run(kept, &nine_events(Path::start(film)));
+    let film = bounds.film();
+    let mut world = world(alloc, bounds, &order(film, &[0, 1, 2])?, 1)?;
+    let count = world.run(bounds, &nine_events(Path::start(film)));
     Ok(count == 8 && has_line_of_13(&world))
 }
 
 fn replies_to_nine_events<F: Fn(u64, u64) -> u64>(
     alloc: Global,
-    kept: &StoredBound<F>,
+    bounds: &StoredBound<F>,
 ) -> Result<bool, Fail>
-    requires { Keeps (F.pre kept.now.f) (F.post kept.now.f) kept.now.kind kept.now.film.now }
+    requires { Keeps (F.pre bounds.now.f) (F.post bounds.now.f) bounds.now.kind bounds.now.film.now }
 {
-    let film = kept.film();
-    let mut world = world(alloc, kept, &order(film, &[0, 1, 2])?, 1)?;
+    let film = bounds.film();
+    let mut world = world(alloc, bounds, &order(film, &[0, 1, 2])?, 1)?;
     let steps = nine_steps(Path::start(film));
-    Ok(are_replied(kept, &mut world, &steps) && has_line_of_13(&world))
+    Ok(are_replied(bounds, &mut world, &steps) && has_line_of_13(&world))
 }
 
 fn has_line_of_13(world: &World) -> bool {
@@ -187,27 +187,27 @@ fn has_line_of_13(world: &World) -> bool {
 // The first scene pays 3, and finishing costs at least 10: the sum reaches 13, the cost that was told.
 fn rules_out_by_its_bound<F: Fn(u64, u64) -> u64>(
     alloc: Global,
-    kept: &StoredBound<F>,
+    bounds: &StoredBound<F>,
 ) -> Result<bool, Fail>
-    requires { Keeps (F.pre kept.now.f) (F.post kept.now.f) kept.now.kind kept.now.film.now }
+    requires { Keeps (F.pre bounds.now.f) (F.post bounds.now.f) bounds.now.kind bounds.now.film.now }
 {
-    let film = kept.film();
-    let mut world = world(alloc, kept, &greedy(film), 9)?;
-    reply(kept, &mut world, &Event::Claim { who: 0 });
-    reply(kept, &mut world, &enlist(0, 0, path(film, &[])?));
-    Ok(!world.allows(kept, &enlist(0, 0, path(film, &[0])?)))
+    let film = bounds.film();
+    let mut world = world(alloc, bounds, &greedy(film), 9)?;
+    reply(bounds, &mut world, &Event::Claim { who: 0 });
+    reply(bounds, &mut world, &enlist(0, 0, path(film, &[])?));
+    Ok(!world.allows(bounds, &enlist(0, 0, path(film, &[0])?)))
 }
 
 fn are_as_worked_by_pairs<F: Fn(u64, u64) -> u64>(
     alloc: Global,
-    kept: &StoredBound<F>,
+    bounds: &StoredBound<F>,
 ) -> Result<bool, Fail>
-    requires { Keeps (F.pre kept.now.f) (F.post kept.now.f) kept.now.kind kept.now.film.now }
+    requires { Keeps (F.pre bounds.now.f) (F.post bounds.now.f) bounds.now.kind bounds.now.film.now }
 {
     Ok(
-        replies_to_nine_events(alloc, kept)?
-            && runs_eight_of_nine(alloc, kept)?
-            && rules_out_by_its_bound(alloc, kept)?,
+        replies_to_nine_events(alloc, bounds)?
+            && runs_eight_of_nine(alloc, bounds)?
+            && rules_out_by_its_bound(alloc, bounds)?,
     )
 }
 
@@ -216,24 +216,24 @@ fn worlds_by_pairs(rt: HostRuntime) -> Result<(), Fail> {
     let alloc = rt.alloc();
     let film = plain_triangle(alloc)?;
     let tables = BoundTables::of(alloc, &film)?;
-    let kept = StoredBound::new(
+    let bounds = StoredBound::new(
         &film,
         Kind::Pairs,
         |q, need| static_reach(&film, &tables, Kind::Pairs, Mask(q), need),
     );
-    assert!(&rt; are_as_worked_by_pairs(alloc, &kept)?);
+    assert!(&rt; are_as_worked_by_pairs(alloc, &bounds)?);
     Ok(())
 }
 
 // With at most one line, the second is refused. These events follow the first four.
 fn spends_its_lines<F: Fn(u64, u64) -> u64>(
     alloc: Global,
-    kept: &StoredBound<F>,
+    bounds: &StoredBound<F>,
 ) -> Result<bool, Fail>
-    requires { Keeps (F.pre kept.now.f) (F.post kept.now.f) kept.now.kind kept.now.film.now }
+    requires { Keeps (F.pre bounds.now.f) (F.post bounds.now.f) bounds.now.kind bounds.now.film.now }
 {
-    let film = kept.film();
-    let mut world = world(alloc, kept, &order(film, &[0, 1, 2])?, 1)?;
+    let film = bounds.film();
+    let mut world = world(alloc, bounds, &order(film, &[0, 1, 2])?, 1)?;
     let [look, front, task, whole, ..] = nine_events(Path::start(film));
     let steps = [
         Step(look, Some(Reply::Least(13))),
@@ -245,31 +245,31 @@ fn spends_its_lines<F: Fn(u64, u64) -> u64>(
             Some(Reply::Listed(Listed::Spent { lines: 1 })),
         ),
     ];
-    Ok(are_replied(kept, &mut world, &steps))
+    Ok(are_replied(bounds, &mut world, &steps))
 }
 
 /// Takes the events that are allowed.
-fn take_all<F: Fn(u64, u64) -> u64>(kept: &StoredBound<F>, world: &mut World, events: &[Event])
+fn take_all<F: Fn(u64, u64) -> u64>(bounds: &StoredBound<F>, world: &mut World, events: &[Event])
     requires sound { IsSound world.old }
-    requires keeps { Keeps (F.pre kept.now.f) (F.post kept.now.f) kept.now.kind kept.now.film.now }
-    requires search { GoesBy kept.now.kind kept.now.film.now world.old.search }
+    requires keeps { Keeps (F.pre bounds.now.f) (F.post bounds.now.f) bounds.now.kind bounds.now.film.now }
+    requires search { GoesBy bounds.now.kind bounds.now.film.now world.old.search }
     ensures sound { IsSound world.new }
-    ensures search { GoesBy kept.now.kind kept.now.film.now world.new.search }
+    ensures search { GoesBy bounds.now.kind bounds.now.film.now world.new.search }
 {
     for event in events {
-        reply(kept, world, event);
+        reply(bounds, world, event);
     }
 }
 
 // The world of the triangle with plain bounds and an order of cost 14. Worker 0 has claimed the front, and worker 1 the
 // first task. The empty path and that of scene 1 are enlisted, with the bounds 12 and 9.
-fn begun<F: Fn(u64, u64) -> u64>(alloc: Global, kept: &StoredBound<F>) -> Result<World, Fail>
-    requires keeps { Keeps (F.pre kept.now.f) (F.post kept.now.f) kept.now.kind kept.now.film.now }
+fn begun<F: Fn(u64, u64) -> u64>(alloc: Global, bounds: &StoredBound<F>) -> Result<World, Fail>
+    requires keeps { Keeps (F.pre bounds.now.f) (F.post bounds.now.f) bounds.now.kind bounds.now.film.now }
     ensures sound { IfOk result IsSound }
-    ensures search { IfOk result (λ world. GoesBy kept.now.kind kept.now.film.now world.search) }
+    ensures search { IfOk result (λ world. GoesBy bounds.now.kind bounds.now.film.now world.search) }
 {
-    let film = kept.film();
-    let mut world = world(alloc, kept, &order(film, &[0, 2, 1])?, 9)?;
+    let film = bounds.film();
+    let mut world = world(alloc, bounds, &order(film, &[0, 2, 1])?, 9)?;
     let events = [
         Event::Look { who: 0 },
         Event::Claim { who: 0 },
@@ -277,7 +277,7 @@ fn begun<F: Fn(u64, u64) -> u64>(alloc: Global, kept: &StoredBound<F>) -> Result
         enlist(0, 0, path(film, &[])?),
         enlist(0, 0, path(film, &[0])?),
     ];
-    take_all(kept, &mut world, &events);
+    take_all(bounds, &mut world, &events);
     Ok(world)
 }
 
@@ -347,16 +347,16 @@ fn unfit(unfinished: Path) -> [Event; 9] {
 }
 
 fn none_may_come<F: Fn(u64, u64) -> u64>(
-    kept: &StoredBound<F>,
+    bounds: &StoredBound<F>,
     world: &World,
     events: &[Event],
 ) -> bool
     requires sound { IsSound world.now }
-    requires keeps { Keeps (F.pre kept.now.f) (F.post kept.now.f) kept.now.kind kept.now.film.now }
-    requires search { GoesBy kept.now.kind kept.now.film.now world.now.search }
+    requires keeps { Keeps (F.pre bounds.now.f) (F.post bounds.now.f) bounds.now.kind bounds.now.film.now }
+    requires search { GoesBy bounds.now.kind bounds.now.film.now world.now.search }
 {
     for event in events {
-        if world.allows(kept, event) {
+        if world.allows(bounds, event) {
             return false;
         }
     }
@@ -365,15 +365,15 @@ fn none_may_come<F: Fn(u64, u64) -> u64>(
 
 fn refuses_events<F: Fn(u64, u64) -> u64>(
     alloc: Global,
-    kept: &StoredBound<F>,
+    bounds: &StoredBound<F>,
 ) -> Result<bool, Fail>
-    requires { Keeps (F.pre kept.now.f) (F.post kept.now.f) kept.now.kind kept.now.film.now }
+    requires { Keeps (F.pre bounds.now.f) (F.post bounds.now.f) bounds.now.kind bounds.now.film.now }
 {
-    let film = kept.film();
+    let film = bounds.film();
     let unknown = unknown_workers(greedy(film), path(film, &[1])?);
     let unfit = unfit(path(film, &[0, 1])?);
-    let world = begun(alloc, kept)?;
-    Ok(none_may_come(kept, &world, &unknown) && none_may_come(kept, &world, &unfit))
+    let world = begun(alloc, bounds)?;
+    Ok(none_may_come(bounds, &world, &unknown) && none_may_come(bounds, &world, &unfit))
 }
 
 // Paths that may not be enlisted: in a task of another worker, in an unclaimed task, in an unknown one; the last path
@@ -390,13 +390,13 @@ static PATHS: [(u32, u32, &'static [u32]); 9] = [
     (1, 1, &[0, 1]),
 ];
 
-fn refuses_paths<F: Fn(u64, u64) -> u64>(alloc: Global, kept: &StoredBound<F>) -> Result<bool, Fail>
-    requires { Keeps (F.pre kept.now.f) (F.post kept.now.f) kept.now.kind kept.now.film.now }
+fn refuses_paths<F: Fn(u64, u64) -> u64>(alloc: Global, bounds: &StoredBound<F>) -> Result<bool, Fail>
+    requires { Keeps (F.pre bounds.now.f) (F.post bounds.now.f) bounds.now.kind bounds.now.film.now }
 {
-    let world = begun(alloc, kept)?;
+    let world = begun(alloc, bounds)?;
     for (who, task, scenes) in &PATHS {
-        let event = enlist(*who, *task, path(kept.film(), scenes)?);
-        if world.allows(kept, &event) {
+        let event = enlist(*who, *task, path(bounds.film(), scenes)?);
+        if world.allows(bounds, &event) {
             return Ok(false);
         }
     }
@@ -405,9 +405,9 @@ fn refuses_paths<F: Fn(u64, u64) -> u64>(alloc: Global, kept: &StoredBound<F>) -
 
 fn refuses_paths_of_other_films<F: Fn(u64, u64) -> u64>(
     alloc: Global,
-    kept: &StoredBound<F>,
+    bounds: &StoredBound<F>,
 ) -> Result<bool, Fail>
-    requires { Keeps (F.pre kept.now.f) (F.post kept.now.f) kept.now.kind kept.now.film.now }
+    requires { Keeps (F.pre bounds.now.f) (F.post bounds.now.f) bounds.now.kind bounds.now.film.now }
 {
     let other = triangle(alloc, &[1, 2, 4], &[1, 2, 4], &[])?;
     let finished = Event::Offer {
@@ -415,40 +415,40 @@ fn refuses_paths_of_other_films<F: Fn(u64, u64) -> u64>(
         path: greedy(&other),
     };
     let events = [finished, enlist(0, 0, path(&other, &[1])?)];
-    let own = enlist(0, 0, path(kept.film(), &[2])?);
-    let world = begun(alloc, kept)?;
-    Ok(none_may_come(kept, &world, &events) && world.allows(kept, &own))
+    let own = enlist(0, 0, path(bounds.film(), &[2])?);
+    let world = begun(alloc, bounds)?;
+    Ok(none_may_come(bounds, &world, &events) && world.allows(bounds, &own))
 }
 
 // The path of a task may be enlisted once its remaining set was looked up.
 fn asks_for_a_probe<F: Fn(u64, u64) -> u64>(
     alloc: Global,
-    kept: &StoredBound<F>,
+    bounds: &StoredBound<F>,
 ) -> Result<bool, Fail>
-    requires { Keeps (F.pre kept.now.f) (F.post kept.now.f) kept.now.kind kept.now.film.now }
+    requires { Keeps (F.pre bounds.now.f) (F.post bounds.now.f) bounds.now.kind bounds.now.film.now }
 {
-    let event = enlist(1, 1, path(kept.film(), &[0, 1])?);
-    let mut world = begun(alloc, kept)?;
-    reply(kept, &mut world, &Event::Probe { who: 1, set: 2 });
-    if world.allows(kept, &event) {
+    let event = enlist(1, 1, path(bounds.film(), &[0, 1])?);
+    let mut world = begun(alloc, bounds)?;
+    reply(bounds, &mut world, &Event::Probe { who: 1, set: 2 });
+    if world.allows(bounds, &event) {
         return Ok(false);
     }
-    reply(kept, &mut world, &Event::Probe { who: 1, set: 4 });
-    Ok(world.allows(kept, &event))
+    reply(bounds, &mut world, &Event::Probe { who: 1, set: 4 });
+    Ok(world.allows(bounds, &event))
 }
 
 fn are_as_worked_by_plain_bounds<F: Fn(u64, u64) -> u64>(
     alloc: Global,
-    kept: &StoredBound<F>,
+    bounds: &StoredBound<F>,
 ) -> Result<bool, Fail>
-    requires { Keeps (F.pre kept.now.f) (F.post kept.now.f) kept.now.kind kept.now.film.now }
+    requires { Keeps (F.pre bounds.now.f) (F.post bounds.now.f) bounds.now.kind bounds.now.film.now }
 {
     Ok(
-        spends_its_lines(alloc, kept)?
-            && refuses_events(alloc, kept)?
-            && refuses_paths(alloc, kept)?
-            && refuses_paths_of_other_films(alloc, kept)?
-            && asks_for_a_probe(alloc, kept)?,
+        spends_its_lines(alloc, bounds)?
+            && refuses_events(alloc, bounds)?
+            && refuses_paths(alloc, bounds)?
+            && refuses_paths_of_other_films(alloc, bounds)?
+            && asks_for_a_probe(alloc, bounds)?,
     )
 }
 
@@ -457,27 +457,27 @@ fn worlds_by_plain_bounds(rt: HostRuntime) -> Result<(), Fail> {
     let alloc = rt.alloc();
     let film = plain_triangle(alloc)?;
     let tables = BoundTables::of(alloc, &film)?;
-    let kept = StoredBound::new(
+    let bounds = StoredBound::new(
         &film,
         Kind::Plain,
         |q, need| static_reach(&film, &tables, Kind::Plain, Mask(q), need),
     );
-    assert!(&rt; are_as_worked_by_plain_bounds(alloc, &kept)?);
+    assert!(&rt; are_as_worked_by_plain_bounds(alloc, &bounds)?);
     Ok(())
 }
 
 fn lets_open_paths_through<F: Fn(u64, u64) -> u64>(
     alloc: Global,
-    kept: &StoredBound<F>,
+    bounds: &StoredBound<F>,
 ) -> Result<bool, Fail>
-    requires { Keeps (F.pre kept.now.f) (F.post kept.now.f) kept.now.kind kept.now.film.now }
+    requires { Keeps (F.pre bounds.now.f) (F.post bounds.now.f) bounds.now.kind bounds.now.film.now }
 {
-    let film = kept.film();
+    let film = bounds.film();
     let closed = enlist(0, 0, path(film, &[2])?);
     let opening = enlist(0, 0, path(film, &[1])?);
-    let mut world = world(alloc, kept, &greedy(film), 9)?;
-    reply(kept, &mut world, &Event::Claim { who: 0 });
-    Ok(!world.allows(kept, &closed) && world.allows(kept, &opening))
+    let mut world = world(alloc, bounds, &greedy(film), 9)?;
+    reply(bounds, &mut world, &Event::Claim { who: 0 });
+    Ok(!world.allows(bounds, &closed) && world.allows(bounds, &opening))
 }
 
 /// Returns the reply for a new line with this number.
@@ -489,11 +489,11 @@ fn listed(line: u32) -> Option<Reply> {
 // order.
 fn enlists_by_rank<F: Fn(u64, u64) -> u64>(
     alloc: Global,
-    kept: &StoredBound<F>,
+    bounds: &StoredBound<F>,
 ) -> Result<bool, Fail>
-    requires { Keeps (F.pre kept.now.f) (F.post kept.now.f) kept.now.kind kept.now.film.now }
+    requires { Keeps (F.pre bounds.now.f) (F.post bounds.now.f) bounds.now.kind bounds.now.film.now }
 {
-    let film = kept.film();
+    let film = bounds.film();
     let steps = [
         Step(Event::Claim { who: 0 }, Some(Reply::Task(Some(0)))),
         Step(enlist(0, 0, path(film, &[])?), listed(0)),
@@ -504,8 +504,8 @@ fn enlists_by_rank<F: Fn(u64, u64) -> u64>(
         Step(enlist(0, 0, path(film, &[3])?), None),
         Step(enlist(0, 0, path(film, &[1])?), listed(4)),
     ];
-    let mut world = world(alloc, kept, &order(film, &[1, 3, 2, 0])?, 9)?;
-    Ok(are_replied(kept, &mut world, &steps))
+    let mut world = world(alloc, bounds, &order(film, &[1, 3, 2, 0])?, 9)?;
+    Ok(are_replied(bounds, &mut world, &steps))
 }
 
 #[test]
@@ -518,12 +518,12 @@ fn worlds_by_groups(rt: HostRuntime) -> Result<(), Fail> {
         &[4, 3, 2, 1],
     )?;
     let tables = BoundTables::of(alloc, &film)?;
-    let kept = StoredBound::new(
+    let bounds = StoredBound::new(
         &film,
         Kind::Groups,
         |q, need| static_reach(&film, &tables, Kind::Groups, Mask(q), need),
     );
-    assert!(&rt; enlists_by_rank(alloc, &kept)?);
+    assert!(&rt; enlists_by_rank(alloc, &bounds)?);
     Ok(())
 }
 
@@ -533,11 +533,11 @@ fn paths_that_are_not_open(rt: HostRuntime) -> Result<(), Fail> {
     let alloc = rt.alloc();
     let film = film(alloc, &[0b01, 0b10, 0b11], &[1, 1, 1], &[10, 20])?;
     let tables = BoundTables::of(alloc, &film)?;
-    let kept = StoredBound::new(
+    let bounds = StoredBound::new(
         &film,
         Kind::Plain,
         |q, need| static_reach(&film, &tables, Kind::Plain, Mask(q), need),
     );
-    assert!(&rt; lets_open_paths_through(alloc, &kept)?);
+    assert!(&rt; lets_open_paths_through(alloc, &bounds)?);
     Ok(())
 }

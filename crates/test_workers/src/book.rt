@@ -53,14 +53,14 @@ impl Enlisted {
 /// Enlists the empty path in the front, and then the path of scene `first`. It returns none if either isn't allowed, or
 /// the empty path gets no line.
 fn enlist_two<F: Fn(u64, u64) -> u64>(
-    kept: &StoredBound<F>,
+    bounds: &StoredBound<F>,
     book: &Book,
     pass: &mut BookPass,
     first: u32,
 ) -> Option<Enlisted>
-    requires keeps { Keeps (F.pre kept.now.f) (F.post kept.now.f) kept.now.kind kept.now.film.now }
+    requires keeps { Keeps (F.pre bounds.now.f) (F.post bounds.now.f) bounds.now.kind bounds.now.film.now }
     requires pass { IsPassOf book.now pass.old }
-    requires goes_by { GoesBy kept.now.kind kept.now.film.now (known pass.old).search }
+    requires goes_by { GoesBy bounds.now.kind bounds.now.film.now (known pass.old).search }
     requires start { (known pass.old).search.start ≡ 14 }
     requires deep { 2 ≤ depth_of (known pass.old).search }
     requires stands { record_at 0 (known pass.old).entries ≡ Some no_path_yet }
@@ -68,13 +68,13 @@ fn enlist_two<F: Fn(u64, u64) -> u64>(
     ensures weight { (known pass.new).weight ≡ (known pass.old).weight }
     ensures search { (known pass.new).search ≡ (known pass.old).search }
     ensures there { IfSome result (λ two. two.line < length (known pass.new).lines) }
-    ensures made { IfSome result (λ two. (line_at (known pass.new).lines two.line).set ≡ all_scenes kept.now.film.now) }
+    ensures made { IfSome result (λ two. (line_at (known pass.new).lines two.line).set ≡ all_scenes bounds.now.film.now) }
 {
-    let film = kept.film();
+    let film = bounds.film();
     film.keeps_limits();
     let whole = Path::start(film);
     let all = whole.rest();
-    let bound = kept.at(all);
+    let bound = bounds.at(all);
     if all.is_empty() || bound >= 14 || first >= 64 {
         return None;
     }
@@ -87,7 +87,7 @@ fn enlist_two<F: Fn(u64, u64) -> u64>(
     };
     let path = whole.extend(film, first);
     let rest = path.rest();
-    let later = kept.at(rest);
+    let later = bounds.at(rest);
     if rest.is_empty() || path.paid() >= 14 || later >= 14 - path.paid() {
         return None;
     }
@@ -101,18 +101,18 @@ fn enlist_two<F: Fn(u64, u64) -> u64>(
 }
 
 /// Tells whether the step of each open first of all scenes, plus the bound of the rest, reaches the number.
-pub(crate) fn each_first_reaches<F: Fn(u64, u64) -> u64>(kept: &StoredBound<F>, number: u64) -> bool
-    requires keeps { Keeps (F.pre kept.now.f) (F.post kept.now.f) kept.now.kind kept.now.film.now }
-    ensures { IsTrue result → (scene : ℕ) → has (open_firsts kept.now.film.now (all_scenes kept.now.film.now)) scene
+pub(crate) fn each_first_reaches<F: Fn(u64, u64) -> u64>(bounds: &StoredBound<F>, number: u64) -> bool
+    requires keeps { Keeps (F.pre bounds.now.f) (F.post bounds.now.f) bounds.now.kind bounds.now.film.now }
+    ensures { IsTrue result → (scene : ℕ) → has (open_firsts bounds.now.film.now (all_scenes bounds.now.film.now)) scene
         ≡ true
-        → number ≤ step_cost kept.now.film.now (all_scenes kept.now.film.now) scene
-        + bound kept.now.kind kept.now.film.now (without (all_scenes kept.now.film.now) scene) }
+        → number ≤ step_cost bounds.now.film.now (all_scenes bounds.now.film.now) scene
+        + bound bounds.now.kind bounds.now.film.now (without (all_scenes bounds.now.film.now) scene) }
 {
-    let film = kept.film();
+    let film = bounds.film();
     film.keeps_limits();
     let all = film.all();
     for scene in open_firsts(film, all).iter() {
-        let rest = kept.at(all.without(scene));
+        let rest = bounds.at(all.without(scene));
         if number.saturating_sub(step(film, all, scene)) > rest {
             return false;
         }
@@ -122,25 +122,25 @@ pub(crate) fn each_first_reaches<F: Fn(u64, u64) -> u64>(kept: &StoredBound<F>, 
 
 /// Raises the line of all scenes to the number, if each first step justifies that.
 pub(crate) fn raise_whole<F: Fn(u64, u64) -> u64>(
-    kept: &StoredBound<F>,
+    bounds: &StoredBound<F>,
     book: &Book,
     pass: &mut BookPass,
     line: u32,
     number: u64,
 ) -> bool
-    requires keeps { Keeps (F.pre kept.now.f) (F.post kept.now.f) kept.now.kind kept.now.film.now }
+    requires keeps { Keeps (F.pre bounds.now.f) (F.post bounds.now.f) bounds.now.kind bounds.now.film.now }
     requires pass { IsPassOf book.now pass.old }
-    requires goes_by { GoesBy kept.now.kind kept.now.film.now (known pass.old).search }
+    requires goes_by { GoesBy bounds.now.kind bounds.now.film.now (known pass.old).search }
     requires there { line < length (known pass.old).lines }
-    requires made { (line_at (known pass.old).lines line).set ≡ all_scenes kept.now.film.now }
+    requires made { (line_at (known pass.old).lines line).set ≡ all_scenes bounds.now.film.now }
     ensures pass { IsPassOf book.now pass.new }
     ensures weight { (known pass.new).weight ≡ (known pass.old).weight }
     ensures search { (known pass.new).search ≡ (known pass.old).search }
     ensures entries { (known pass.new).entries ≡ (known pass.old).entries }
     ensures knows { IsTrue result → Knows (known pass.new).lines
-        (record { line = line; set = all_scenes kept.now.film.now; bound = number }) }
+        (record { line = line; set = all_scenes bounds.now.film.now; bound = number }) }
 {
-    if kept.film().all().is_empty() || !each_first_reaches(kept, number) {
+    if bounds.film().all().is_empty() || !each_first_reaches(bounds, number) {
         return false;
     }
     pass.raise(book, line, number);
@@ -183,19 +183,19 @@ fn is_found<R: Wait, N: Named>(
 fn lines_of_one<R: Wait, F: Fn(u64, u64) -> u64>(
     rt: &R,
     alloc: Global,
-    kept: &StoredBound<F>,
+    bounds: &StoredBound<F>,
 ) -> Result<Vec<Line>, Fail>
-    requires { Keeps (F.pre kept.now.f) (F.post kept.now.f) kept.now.kind kept.now.film.now }
+    requires { Keeps (F.pre bounds.now.f) (F.post bounds.now.f) bounds.now.kind bounds.now.film.now }
 {
-    let film = kept.film();
+    let film = bounds.film();
     let task = task_of_two(film).ok_or("a task")?;
-    let (book, mut pass) = Book::new(alloc, film, kept.kind(), 14, &[task], 1)?;
+    let (book, mut pass) = Book::new(alloc, film, bounds.kind(), 14, &[task], 1)?;
     pass.begin(&book, 0);
-    let two = enlist_two(kept, &book, &mut pass, 0).ok_or("a candidate")?;
+    let two = enlist_two(bounds, &book, &mut pass, 0).ok_or("a candidate")?;
     if !two.are_as_worked() {
         return Err("one line".into());
     }
-    if !raise_whole(kept, &book, &mut pass, two.line, 13) {
+    if !raise_whole(bounds, &book, &mut pass, two.line, 13) {
         return Err("each first step reaches 13".into());
     }
     let line = Known {
@@ -215,12 +215,12 @@ fn a_book_of_one_line(rt: HostRuntime) -> Result<(), Fail> {
     let alloc = rt.alloc();
     let film = triangle(alloc)?;
     let tables = BoundTables::of(alloc, &film)?;
-    let kept = StoredBound::new(
+    let bounds = StoredBound::new(
         &film,
         Kind::Pairs,
         |q, need| static_reach(&film, &tables, Kind::Pairs, Mask(q), need),
     );
-    let lines = lines_of_one(&rt, alloc, &kept)?;
+    let lines = lines_of_one(&rt, alloc, &bounds)?;
     assert!(&rt; lines.as_slice() == [Line { set: 7, bound: 13 }].as_slice());
     Ok(())
 }

@@ -81,25 +81,25 @@ fn claim_front<H: Hand>(hand: &mut H) -> Result<Cursor, Fail>
 
 /// Makes a line of all scenes, with their static bound.
 fn enlist_whole<H: Hand, F: Fn(u64, u64) -> u64>(
-    kept: &StoredBound<F>,
+    bounds: &StoredBound<F>,
     hand: &mut H,
     cursor: &mut Cursor,
 ) -> Result<u32, Fail>
     requires sound { H.is_sound hand.old }
-    requires keeps { Keeps (F.pre kept.now.f) (F.post kept.now.f) kept.now.kind kept.now.film.now }
-    requires goes_by { GoesBy kept.now.kind kept.now.film.now (H.shows hand.old).search }
+    requires keeps { Keeps (F.pre bounds.now.f) (F.post bounds.now.f) bounds.now.kind bounds.now.film.now }
+    requires goes_by { GoesBy bounds.now.kind bounds.now.film.now (H.shows hand.old).search }
     requires deep { 2 ≤ depth_of (H.shows hand.old).search }
     requires front { cursor_data cursor.old ≡ record { task = 0; last = None } }
     requires stands { StandsAt (H.shows hand.old) (cursor_data cursor.old) }
     ensures sound { H.is_sound hand.new }
     ensures search { IfOk result (λ _. (H.shows hand.new).search ≡ (H.shows hand.old).search) }
-    ensures made { IfOk result (HasWhole kept.now.film.now (H.shows hand.new)) }
+    ensures made { IfOk result (HasWhole bounds.now.film.now (H.shows hand.new)) }
 {
-    let film = kept.film();
+    let film = bounds.film();
     film.keeps_limits();
     let whole = Path::start(film);
     let all = whole.rest();
-    let bound = kept.at(all);
+    let bound = bounds.at(all);
     if all.is_empty() || bound >= hand.look() {
         return Err("a candidate".into());
     }
@@ -111,21 +111,21 @@ fn enlist_whole<H: Hand, F: Fn(u64, u64) -> u64>(
 
 /// Raises the line of all scenes, if each first step justifies the bound.
 fn raise_to<H: Hand, F: Fn(u64, u64) -> u64>(
-    kept: &StoredBound<F>,
+    bounds: &StoredBound<F>,
     hand: &mut H,
     line: u32,
     bound: u64,
 ) -> Result<(), Fail>
     requires sound { H.is_sound hand.old }
-    requires keeps { Keeps (F.pre kept.now.f) (F.post kept.now.f) kept.now.kind kept.now.film.now }
-    requires goes_by { GoesBy kept.now.kind kept.now.film.now (H.shows hand.old).search }
-    requires made { HasWhole kept.now.film.now (H.shows hand.old) line }
+    requires keeps { Keeps (F.pre bounds.now.f) (F.post bounds.now.f) bounds.now.kind bounds.now.film.now }
+    requires goes_by { GoesBy bounds.now.kind bounds.now.film.now (H.shows hand.old).search }
+    requires made { HasWhole bounds.now.film.now (H.shows hand.old) line }
     ensures sound { H.is_sound hand.new }
     ensures search { IfOk result (λ _. (H.shows hand.new).search ≡ (H.shows hand.old).search) }
     ensures knows { IfOk result (λ _. Knows (H.shows hand.new).lines
-        (record { line = line; set = all_scenes kept.now.film.now; bound = bound })) }
+        (record { line = line; set = all_scenes bounds.now.film.now; bound = bound })) }
 {
-    if kept.film().all().is_empty() || !each_first_reaches(kept, bound) {
+    if bounds.film().all().is_empty() || !each_first_reaches(bounds, bound) {
         return Err("a bound that each first step reaches".into());
     }
     hand.raise(line, bound)?;
@@ -134,23 +134,23 @@ fn raise_to<H: Hand, F: Fn(u64, u64) -> u64>(
 
 /// Makes a line of all scenes in the front, raises it to 60, and notes it.
 fn note_whole<H: Hand, F: Fn(u64, u64) -> u64>(
-    kept: &StoredBound<F>,
+    bounds: &StoredBound<F>,
     hand: &mut H,
 ) -> Result<Noted, Fail>
     requires sound { H.is_sound hand.old }
-    requires keeps { Keeps (F.pre kept.now.f) (F.post kept.now.f) kept.now.kind kept.now.film.now }
-    requires goes_by { GoesBy kept.now.kind kept.now.film.now (H.shows hand.old).search }
+    requires keeps { Keeps (F.pre bounds.now.f) (F.post bounds.now.f) bounds.now.kind bounds.now.film.now }
+    requires goes_by { GoesBy bounds.now.kind bounds.now.film.now (H.shows hand.old).search }
     requires deep { 2 ≤ depth_of (H.shows hand.old).search }
     ensures sound { H.is_sound hand.new }
     ensures search { IfOk result (λ _. (H.shows hand.new).search ≡ (H.shows hand.old).search) }
 {
     let mut cursor = claim_front(hand)?;
-    let line = enlist_whole(kept, hand, &mut cursor)?;
-    raise_to(kept, hand, line, 60)?;
-    kept.film().keeps_limits();
+    let line = enlist_whole(bounds, hand, &mut cursor)?;
+    raise_to(bounds, hand, line, 60)?;
+    bounds.film().keeps_limits();
     let known = Known {
         line,
-        set: kept.film().all().0,
+        set: bounds.film().all().0,
         bound: 60,
     };
     let noted = hand.note(&known)?;
@@ -159,20 +159,20 @@ fn note_whole<H: Hand, F: Fn(u64, u64) -> u64>(
 
 /// The first worker makes and notes a line, and then offers a path; the second asks after each of these.
 fn take_turns<H: Hand, F: Fn(u64, u64) -> u64>(
-    kept: &StoredBound<F>,
+    bounds: &StoredBound<F>,
     first: &mut H,
     second: &mut H,
     path: &Path,
 ) -> Result<Told, Fail>
     requires sound { (H.is_sound first.old) × (H.is_sound second.old) }
-    requires keeps { Keeps (F.pre kept.now.f) (F.post kept.now.f) kept.now.kind kept.now.film.now }
-    requires goes_by { GoesBy kept.now.kind kept.now.film.now (H.shows first.old).search }
+    requires keeps { Keeps (F.pre bounds.now.f) (F.post bounds.now.f) bounds.now.kind bounds.now.film.now }
+    requires goes_by { GoesBy bounds.now.kind bounds.now.film.now (H.shows first.old).search }
     requires deep { 2 ≤ depth_of (H.shows first.old).search }
     requires same { (H.shows second.old).search ≡ (H.shows first.old).search }
-    requires path { IsComplete kept.now.film.now (path_data path.now) }
+    requires path { IsComplete bounds.now.film.now (path_data path.now) }
 {
-    let noted = note_whole(kept, first)?;
-    let probed = second.probe(kept.film().all())?;
+    let noted = note_whole(bounds, first)?;
+    let probed = second.probe(bounds.film().all())?;
     let before = second.look();
     let offered = first.offer(path);
     Ok(Told {
@@ -188,20 +188,20 @@ fn take_turns<H: Hand, F: Fn(u64, u64) -> u64>(
 fn share<N: Named, R: Wait, F: Fn(u64, u64) -> u64>(
     rt: &R,
     alloc: Global,
-    kept: &StoredBound<F>,
+    bounds: &StoredBound<F>,
     least: &Least,
     book: &Book,
     passes: HubParts,
     path: &Path,
 ) -> Result<Told, Fail>
-    requires keeps { Keeps (F.pre kept.now.f) (F.post kept.now.f) kept.now.kind kept.now.film.now }
+    requires keeps { Keeps (F.pre bounds.now.f) (F.post bounds.now.f) bounds.now.kind bounds.now.film.now }
     requires named { table_of book.now ≡ N.table }
     requires passes { ArePassesOf least.now book.now passes }
     requires counter { passes.source ≡ Counter }
     requires weight { (rest : ℕ) × Weigh (suc (suc rest)) passes }
-    requires goes_by { GoesBy kept.now.kind kept.now.film.now (known passes.lines).search }
+    requires goes_by { GoesBy bounds.now.kind bounds.now.film.now (known passes.lines).search }
     requires deep { 2 ≤ depth_of (known passes.lines).search }
-    requires path { IsComplete kept.now.film.now (path_data path.now) }
+    requires path { IsComplete bounds.now.film.now (path_data path.now) }
 {
     let HubParts {
         mut told,
@@ -226,32 +226,32 @@ fn share<N: Named, R: Wait, F: Fn(u64, u64) -> u64>(
         },
     );
     let mut second = Hub::of(rt, least, book, &stripes, other);
-    take_turns(kept, &mut first, &mut second, path)
+    take_turns(bounds, &mut first, &mut second, path)
 }
 
 /// Returns the replies to two workers in a search from `start`, with the front and one task of two scenes.
 fn shared<R: Wait, F: Fn(u64, u64) -> u64>(
     rt: &R,
     alloc: Global,
-    kept: &StoredBound<F>,
+    bounds: &StoredBound<F>,
     start: &Path,
     path: &Path,
 ) -> Result<Told, Fail>
-    requires keeps { Keeps (F.pre kept.now.f) (F.post kept.now.f) kept.now.kind kept.now.film.now }
-    requires start { IsComplete kept.now.film.now (path_data start.now) }
-    requires path { IsComplete kept.now.film.now (path_data path.now) }
+    requires keeps { Keeps (F.pre bounds.now.f) (F.post bounds.now.f) bounds.now.kind bounds.now.film.now }
+    requires start { IsComplete bounds.now.film.now (path_data start.now) }
+    requires path { IsComplete bounds.now.film.now (path_data path.now) }
 {
-    let film = kept.film();
+    let film = bounds.film();
     film.keeps_limits();
     let task = task_of_two(film).ok_or("a task")?;
     let (least, told) = Least::new(alloc, film, start, 2)?;
-    let (book, lines) = Book::new(alloc, film, kept.kind(), start.paid(), &[task], 1)?;
+    let (book, lines) = Book::new(alloc, film, bounds.kind(), start.paid(), &[task], 1)?;
     let passes = HubParts {
         told,
         lines,
         source: Source::Counter,
     };
-    share::<Brand, R, F>(rt, alloc, kept, &least, &book, passes, path)
+    share::<Brand, R, F>(rt, alloc, bounds, &least, &book, passes, path)
 }
 
 #[test]
@@ -261,12 +261,12 @@ fn another_worker_is_told_of_a_line_and_a_path(rt: HostRuntime) -> Result<(), Fa
     let start = path(&film, &[0, 1, 2])?;
     let better = path(&film, &[0, 2, 1])?;
     let tables = BoundTables::of(alloc, &film)?;
-    let kept = StoredBound::new(
+    let bounds = StoredBound::new(
         &film,
         Kind::Pairs,
         |q, need| static_reach(&film, &tables, Kind::Pairs, Mask(q), need),
     );
-    let told = shared(&rt, alloc, &kept, &start, &better)?;
+    let told = shared(&rt, alloc, &bounds, &start, &better)?;
     assert!(&rt; told.is_as_worked());
     Ok(())
 }

@@ -49,7 +49,7 @@ fn raced<R: Threads + Wait + Sync>(
     let film = ring(alloc)?;
     let start = path(&film, &[0, 1, 2, 3, 4])?;
     let tables = BoundTables::of(alloc, &film)?;
-    let kept = StoredBound::new(
+    let bounds = StoredBound::new(
         &film,
         Kind::Plain,
         |q, need| static_reach(&film, &tables, Kind::Plain, Mask(q), need),
@@ -59,24 +59,24 @@ fn raced<R: Threads + Wait + Sync>(
         cap,
         entries: 64,
     };
-    raced_by(rt, alloc, &kept, &start, limits, steal)
+    raced_by(rt, alloc, &bounds, &start, limits, steal)
 }
 
 /// Runs a race with a stored bound.
 fn raced_by<R: Threads + Wait + Sync, F: Fn(u64, u64) -> u64 + Sync>(
     rt: &R,
     alloc: Global,
-    kept: &StoredBound<F>,
+    bounds: &StoredBound<F>,
     start: &Path,
     limits: Limits,
     steal: bool,
 ) -> Result<Ended, Fail>
-    requires keeps { Keeps (F.pre kept.now.f) (F.post kept.now.f) kept.now.kind kept.now.film.now }
-    requires start { IsComplete kept.now.film.now (path_data start.now) }
+    requires keeps { Keeps (F.pre bounds.now.f) (F.post bounds.now.f) bounds.now.kind bounds.now.film.now }
+    requires start { IsComplete bounds.now.film.now (path_data start.now) }
     requires limits { AreLimits limits }
 {
-    let mut memo = Memo::among(alloc, kept, limits.workers + 1)?;
-    let ended = race(rt, alloc, kept, &mut memo, start, limits, steal, &OpenGate)?;
+    let mut memo = Memo::among(alloc, bounds, limits.workers + 1)?;
+    let ended = race(rt, alloc, bounds, &mut memo, start, limits, steal, &OpenGate)?;
     Ok(ended)
 }
 

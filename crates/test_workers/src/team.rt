@@ -26,14 +26,14 @@ const SHARE: u32 = 2500;
 
 /// Begins a part, makes a line of the empty path, and raises it to 13. It tells whether all of this succeeded.
 fn make_line<F: Fn(u64, u64) -> u64>(
-    kept: &StoredBound<F>,
+    bounds: &StoredBound<F>,
     book: &Book,
     pass: &mut BookPass,
     part: u32,
 ) -> bool
-    requires keeps { Keeps (F.pre kept.now.f) (F.post kept.now.f) kept.now.kind kept.now.film.now }
+    requires keeps { Keeps (F.pre bounds.now.f) (F.post bounds.now.f) bounds.now.kind bounds.now.film.now }
     requires pass { IsPassOf book.now pass.old }
-    requires search { IsOfWholes kept.now.kind kept.now.film.now 2500 (known pass.old).search }
+    requires search { IsOfWholes bounds.now.kind bounds.now.film.now 2500 (known pass.old).search }
     requires part { (0 < part) × (part ≤ 2500) }
     requires fresh { AreFreshFrom part (known pass.old).entries }
     ensures pass { IsPassOf book.now pass.new }
@@ -41,34 +41,34 @@ fn make_line<F: Fn(u64, u64) -> u64>(
     ensures search { (known pass.new).search ≡ (known pass.old).search }
     ensures fresh { AreFreshFrom (part + 1) (known pass.new).entries }
 {
-    let film = kept.film();
+    let film = bounds.film();
     film.keeps_limits();
     pass.begin(book, part);
     let whole = Path::start(film);
     let all = whole.rest();
-    let bound = kept.at(all);
+    let bound = bounds.at(all);
     if all.is_empty() || bound >= 14 {
         return false;
     }
     let Listed::Line(line) = pass.enlist(book, part, &whole, bound) else {
         return false;
     };
-    raise_whole(kept, book, pass, line, 13)
+    raise_whole(bounds, book, pass, line, 13)
 }
 
 /// Makes a line in each part, and returns the pass if all succeeded.
 fn make_lines<F: Fn(u64, u64) -> u64>(
-    kept: &StoredBound<F>,
+    bounds: &StoredBound<F>,
     book: &Book,
     pass: BookPass,
 ) -> Option<BookPass>
-    requires keeps { Keeps (F.pre kept.now.f) (F.post kept.now.f) kept.now.kind kept.now.film.now }
-    requires worker { IsWorker kept.now.kind kept.now.film.now 2500 book.now pass }
+    requires keeps { Keeps (F.pre bounds.now.f) (F.post bounds.now.f) bounds.now.kind bounds.now.film.now }
+    requires worker { IsWorker bounds.now.kind bounds.now.film.now 2500 book.now pass }
     ensures { IfSome result (IsOne book.now) }
 {
     let mut pass = pass;
     for part in 0..SHARE {
-        if !make_line(kept, book, &mut pass, part + 1) {
+        if !make_line(bounds, book, &mut pass, part + 1) {
             return None;
         }
     }
@@ -78,12 +78,12 @@ fn make_lines<F: Fn(u64, u64) -> u64>(
 /// Each pass makes its lines in a thread of its own.
 fn make_beside<R: Threads + Sync, F: Fn(u64, u64) -> u64 + Sync>(
     rt: &R,
-    kept: &StoredBound<F>,
+    bounds: &StoredBound<F>,
     book: &Book,
     passes: Vec<BookPass>,
 ) -> Result<Vec<Option<BookPass>>, AllocError>
-    requires keeps { Keeps (F.pre kept.now.f) (F.post kept.now.f) kept.now.kind kept.now.film.now }
-    requires workers { All (IsWorker kept.now.kind kept.now.film.now 2500 book.now) passes.items }
+    requires keeps { Keeps (F.pre bounds.now.f) (F.post bounds.now.f) bounds.now.kind bounds.now.film.now }
+    requires workers { All (IsWorker bounds.now.kind bounds.now.film.now 2500 book.now) passes.items }
     ensures count { IfOk result (λ all. vec_len all ≡ vec_len passes) }
     ensures each { IfOk result (λ all. All (λ one. IfSome one (IsOne book.now)) all.items) }
 {
@@ -91,10 +91,10 @@ fn make_beside<R: Threads + Sync, F: Fn(u64, u64) -> u64 + Sync>(
         rt,
         passes,
         &|pass: BookPass| -> Option<BookPass>
-            requires { Keeps (F.pre kept.now.f) (F.post kept.now.f) kept.now.kind kept.now.film.now
-                × IsWorker kept.now.kind kept.now.film.now 2500 book.now pass }
+            requires { Keeps (F.pre bounds.now.f) (F.post bounds.now.f) bounds.now.kind bounds.now.film.now
+                × IsWorker bounds.now.kind bounds.now.film.now 2500 book.now pass }
             ensures { IfSome result (IsOne book.entry.now) }
-        { make_lines(kept, book, pass) },
+        { make_lines(bounds, book, pass) },
     )
 }
 
@@ -102,12 +102,12 @@ fn make_beside<R: Threads + Sync, F: Fn(u64, u64) -> u64 + Sync>(
 fn make_all<R: Threads + Sync, F: Fn(u64, u64) -> u64 + Sync>(
     rt: &R,
     alloc: Global,
-    kept: &StoredBound<F>,
+    bounds: &StoredBound<F>,
     book: &Book,
     pass: &mut BookPass,
 ) -> Result<Vec<Option<BookPass>>, AllocError>
-    requires keeps { Keeps (F.pre kept.now.f) (F.post kept.now.f) kept.now.kind kept.now.film.now }
-    requires pass { IsNew kept.now.kind kept.now.film.now 2500 book.now pass.old }
+    requires keeps { Keeps (F.pre bounds.now.f) (F.post bounds.now.f) bounds.now.kind bounds.now.film.now }
+    requires pass { IsNew bounds.now.kind bounds.now.film.now 2500 book.now pass.old }
     requires full { (known pass.old).weight ≡ full_weight }
     ensures pass { IfOk result (λ _. IsPassOf book.now pass.new) }
     ensures weight { IfOk result (λ all. (known pass.new).weight + vec_len all ≡ full_weight) }
@@ -117,7 +117,7 @@ fn make_all<R: Threads + Sync, F: Fn(u64, u64) -> u64 + Sync>(
     for desk in 0..WORKERS {
         passes.push(pass.split(book, desk))?;
     }
-    make_beside(rt, kept, book, passes)
+    make_beside(rt, bounds, book, passes)
 }
 
 /// Joins the passes of all workers, if each made its lines.
@@ -139,14 +139,14 @@ fn gather(book: &Book, pass: BookPass, passes: Vec<Option<BookPass>>) -> Option<
 fn lines_of_four<R: Threads + Sync, F: Fn(u64, u64) -> u64 + Sync>(
     rt: &R,
     alloc: Global,
-    kept: &StoredBound<F>,
+    bounds: &StoredBound<F>,
 ) -> Result<Vec<Line>, Fail>
-    requires { Keeps (F.pre kept.now.f) (F.post kept.now.f) kept.now.kind kept.now.film.now }
+    requires { Keeps (F.pre bounds.now.f) (F.post bounds.now.f) bounds.now.kind bounds.now.film.now }
 {
-    let film = kept.film();
+    let film = bounds.film();
     let tasks = vec![in alloc; Path::start(film); SHARE as usize]?;
-    let (book, mut pass) = Book::new(alloc, film, kept.kind(), 14, &tasks, WORKERS * SHARE)?;
-    let passes = make_all(rt, alloc, kept, &book, &mut pass)?;
+    let (book, mut pass) = Book::new(alloc, film, bounds.kind(), 14, &tasks, WORKERS * SHARE)?;
+    let passes = make_all(rt, alloc, bounds, &book, &mut pass)?;
     let pass = gather(&book, pass, passes).ok_or("all lines")?;
     let lines = book.into_lines(alloc, pass)?;
     Ok(lines)
@@ -181,12 +181,12 @@ fn four_workers_make_ten_thousand_lines(rt: HostRuntime) -> Result<(), Fail> {
     let alloc = rt.alloc();
     let film = triangle(alloc)?;
     let tables = BoundTables::of(alloc, &film)?;
-    let kept = StoredBound::new(
+    let bounds = StoredBound::new(
         &film,
         Kind::Pairs,
         |q, need| static_reach(&film, &tables, Kind::Pairs, Mask(q), need),
     );
-    let lines = lines_of_four(&rt, alloc, &kept)?;
+    let lines = lines_of_four(&rt, alloc, &bounds)?;
     assert!(&rt; are_all_raised(lines.as_slice()));
     assert!(&rt; is_accepted(alloc, lines)?);
     Ok(())

@@ -18,7 +18,7 @@ use Rattle.strip_alone.proofs.search.alone_through.Goals as goal
 
 pub go_down_front-requires-clause-search : goal.go_down_front-requires-clause-search
 go_down_front-requires-clause-search g c =
-    search_by c.args.kept.now.film.now c.args.kept.now.kind c.in_ok-world.world.search c.args.cap (path_data c.args.start.now).paid (front_data c.in_ok-front.front).tasks
+    search_by c.args.bounds.now.film.now c.args.bounds.now.kind c.in_ok-world.world.search c.args.cap (path_data c.args.start.now).paid (front_data c.in_ok-front.front).tasks
     c.in_ok-world.ensures.search
 
 pub go_down_front-requires-clause-may : goal.go_down_front-requires-clause-may
@@ -33,8 +33,8 @@ go_down_front-requires-clause-may g c = record {
 
 pub work-requires-clause-worked : goal.work-requires-clause-worked
 work-requires-clause-worked g c = λ κs outlives. record {
-  search = subst (GoesBy c.args.kept.now.kind c.args.kept.now.film.now) (sym (ap (λ (h : HandData). h.search) c.go_down_front.ensures.down.1.only))
-      (search_by c.args.kept.now.film.now c.args.kept.now.kind c.in_ok-world.world.search c.args.cap (path_data c.args.start.now).paid (front_data c.in_ok-front.front).tasks
+  search = subst (GoesBy c.args.bounds.now.kind c.args.bounds.now.film.now) (sym (ap (λ (h : HandData). h.search) c.go_down_front.ensures.down.1.only))
+      (search_by c.args.bounds.now.film.now c.args.bounds.now.kind c.in_ok-world.world.search c.args.cap (path_data c.args.start.now).paid (front_data c.in_ok-front.front).tasks
       c.in_ok-world.ensures.search);
   worked = c.in_ok-walked.ensures.worked
       (front_has_all (hand_data c.go_down_front.new.hand)
@@ -44,9 +44,9 @@ work-requires-clause-worked g c = λ κs outlives. record {
 
 pub close-requires-clause-worked : goal.close-requires-clause-worked
 close-requires-clause-worked g c = record {
-  search = subst (GoesBy c.args.kept.now.kind c.args.kept.now.film.now)
+  search = subst (GoesBy c.args.bounds.now.kind c.args.bounds.now.film.now)
       (sym (c.work.ensures.works_on.goes_on.search ∙ ap (λ (h : HandData). h.search) c.go_down_front.ensures.down.1.only))
-      (search_by c.args.kept.now.film.now c.args.kept.now.kind c.in_ok-world.world.search c.args.cap (path_data c.args.start.now).paid (front_data c.in_ok-front.front).tasks
+      (search_by c.args.bounds.now.film.now c.args.bounds.now.kind c.in_ok-world.world.search c.args.cap (path_data c.args.start.now).paid (front_data c.in_ok-front.front).tasks
       c.in_ok-world.ensures.search);
   worked = c.in_ok-work.ensures.ended.worked;
 }
@@ -58,8 +58,8 @@ close-requires-clause-all g c =
 
 pub returns-clause-ended : goal.returns-clause-ended
 returns-clause-ended g c =
-    let kind = c.args.kept.now.kind in
-    let film = c.args.kept.now.film.now in
+    let kind = c.args.bounds.now.kind in
+    let film = c.args.bounds.now.film.now in
     let world = c.close.new.hand in
     let one_worker = c.close.ensures.home ∙ c.work.ensures.home ∙ c.go_down_front.ensures.home ∙ c.in_ok-world.ensures.one_worker in
     let same_search = search_stays (search_of film kind (path_data c.args.start.now) (front_data c.in_ok-front.front).tasks (record { workers = 1; cap = c.args.cap; entries = c.args.entries }))

@@ -15,7 +15,7 @@ pub returns-then-not-step_reaches-clause-reach : goal.returns-then-not-step_reac
 returns-then-not-step_reaches-clause-reach g c = (
   λ yes. (cc),
   λ each. (let reaches : c.step_reaches.result ≡ true = c.step_reaches.ensures.reach.1
-      (at_turn (λ (scene : ℕ). c.args.bound ≤ step_cost c.args.kept.now.film.now c.args.q.0 scene + known (rules_of c.args.kept.now.kind c.args.kept.now.film.now) c.args.best.now.lines (without c.args.q.0 scene))
+      (at_turn (λ (scene : ℕ). c.args.bound ≤ step_cost c.args.bounds.now.film.now c.args.q.0 scene + known (rules_of c.args.bounds.now.kind c.args.bounds.now.film.now) c.args.best.now.lines (without c.args.q.0 scene))
       (members c.args.firsts.0) c.loop-scene.yielded (rest_of c.loop-scene.scene-iterator) (rest_of c.next.new.self) c.in-Some.scene c.loop-scene.invariant.turns c.in-Some.ensures.steps each) in
       let turned : c.step_reaches.result ≡ false = c.if-not-step_reaches.true in
       cc),
@@ -23,7 +23,7 @@ returns-then-not-step_reaches-clause-reach g c = (
 
 pub returns-clause-reach : goal.returns-clause-reach
 returns-clause-reach g c = (
-  λ yes. subst (All (λ (scene : ℕ). c.args.bound ≤ step_cost c.args.kept.now.film.now c.args.q.0 scene + known (rules_of c.args.kept.now.kind c.args.kept.now.film.now) c.args.best.now.lines (without c.args.q.0 scene)))
+  λ yes. subst (All (λ (scene : ℕ). c.args.bound ≤ step_cost c.args.bounds.now.film.now c.args.q.0 scene + known (rules_of c.args.bounds.now.kind c.args.bounds.now.film.now) c.args.best.now.lines (without c.args.q.0 scene)))
       (turns_all c.args.firsts.0 c.loop-scene.yielded (rest_of c.loop-scene.scene-iterator) c.loop-scene.invariant.turns c.in-None.ensures.steps.0) c.loop-scene.invariant.reach,
   λ each. refl,
 )

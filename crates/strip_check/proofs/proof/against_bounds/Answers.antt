@@ -9,14 +9,14 @@ use Rattle.strip_check.proofs.proof.against_bounds.Goals as goal
 
 pub returns-in-Some : goal.returns-in-Some
 returns-in-Some g c =
-    let rules = rules_of c.args.kept.now.kind c.args.kept.now.film.now in
+    let rules = rules_of c.args.bounds.now.kind c.args.bounds.now.film.now in
     let lines : List Line = c.args.plan.now.lines.items in
     found_before (below (length lines) (line_check rules lines)) (end_checks rules c.args.apart (plan_data c.args.plan.now)) c.in-Some.reason
     (subst (λ (list : List Line). Some c.in-Some.reason ≡ first_fault (below (length list) (line_check rules list))) c.deref-2.ensures.value c.in-Some.ensures.first)
 
 pub returns : goal.returns
 returns g c =
-    let rules = rules_of c.args.kept.now.kind c.args.kept.now.film.now in
+    let rules = rules_of c.args.bounds.now.kind c.args.bounds.now.film.now in
     let lines : List Line = c.args.plan.now.lines.items in
     c.against_end.ensures
     ∙ past_before (below (length lines) (line_check rules lines)) (end_checks rules c.args.apart (plan_data c.args.plan.now))

@@ -9,7 +9,7 @@ use Rattle.strip_check.proofs.proof.against_lines.Goals as goal
 
 pub returns-then-not-is_justified-clause-first : goal.returns-then-not-is_justified-clause-first
 returns-then-not-is_justified-clause-first g c =
-    let rules = rules_of c.args.kept.now.kind c.args.kept.now.film.now in
+    let rules = rules_of c.args.bounds.now.kind c.args.bounds.now.film.now in
     let lines : List Line = c.args.lines.now in
     let place = c.loop-place.place in
     let set : ℕ = (line_at lines place).set in
@@ -22,7 +22,7 @@ returns-then-not-is_justified-clause-first g c =
 
 pub loop-place-preserved : goal.loop-place-preserved
 loop-place-preserved g c =
-    let rules = rules_of c.args.kept.now.kind c.args.kept.now.film.now in
+    let rules = rules_of c.args.bounds.now.kind c.args.bounds.now.film.now in
     let lines : List Line = c.args.lines.now in
     let place = c.loop-place.place in
     let set : ℕ = (line_at lines place).set in

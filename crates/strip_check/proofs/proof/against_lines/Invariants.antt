@@ -8,6 +8,6 @@ use Rattle.strip_check.proofs.proof.against_lines.Given as goal
 -- the lines so far are justified
 abbrev pub invariant-loop-place : goal.invariant-loop-place
 invariant-loop-place g l = record {
-  memo : IsMemo l.kept.kind l.kept.film.now l.memo;
-  pass : first_fault (below l.place (line_check (rules_of l.kept.kind l.kept.film.now) l.lines)) ≡ None;
+  memo : IsMemo l.bounds.kind l.bounds.film.now l.memo;
+  pass : first_fault (below l.place (line_check (rules_of l.bounds.kind l.bounds.film.now) l.lines)) ≡ None;
 }

@@ -12,7 +12,7 @@ pub returns-clause-ended : goal.returns-clause-ended
 returns-clause-ended g c = λ paid room opening.
     let same : (shown c.in_ok-passes.passes).search ≡ (shown c.args.opening.passes).search
     = c.in_ok-passes.ensures.closed.search ∙ ap (λ (v : ViewData). v.search) c.new.ensures.same in
-    subst (λ (start : ℕ). IfOk c.end.result (λ ended. EndsFrom c.args.kept.now.kind c.args.kept.now.film.now start room (ended_data ended)))
+    subst (λ (start : ℕ). IfOk c.end.result (λ ended. EndsFrom c.args.bounds.now.kind c.args.bounds.now.film.now start room (ended_data ended)))
     (ap (λ (s : SearchData). s.start) same ∙ opening.start)
-    (subst (λ (cap : ℕ). IfOk c.end.result (λ ended. EndsFrom c.args.kept.now.kind c.args.kept.now.film.now (shown c.in_ok-passes.passes).search.start cap (ended_data ended)))
+    (subst (λ (cap : ℕ). IfOk c.end.result (λ ended. EndsFrom c.args.bounds.now.kind c.args.bounds.now.film.now (shown c.in_ok-passes.passes).search.start cap (ended_data ended)))
     (ap (λ (s : SearchData). s.cap) same ∙ opening.cap) c.end.ensures)

@@ -12,8 +12,8 @@ use Rattle.strip_crew.proofs.racing.race.Goals as goal
 
 pub returns-clause-ended : goal.returns-clause-ended
 returns-clause-ended g c =
-    let kind : Kind = c.args.kept.now.kind in
-    let film : FilmData = c.args.kept.now.film.now in
+    let kind : Kind = c.args.bounds.now.kind in
+    let film : FilmData = c.args.bounds.now.film.now in
     let start : PathData = path_data c.args.start.now in
     let is_film : IsFilm film = subst IsFilm c.film.ensures c.keeps_limits.ensures in
     let classes : c.scenes.result ≡ length film.casts = c.scenes.ensures ∙ ap (λ (f : FilmData). length f.casts) c.film-2.ensures in

@@ -4,13 +4,13 @@ use Rattle.strip_crew.proofs.racing.walk_all.Goals as goal
 
 pub work_all-requires-clause-worked : goal.work_all-requires-clause-worked
 work_all-requires-clause-worked g c = λ κs outlives. record {
-  search = subst (GoesBy c.args.kept.now.kind c.args.kept.now.film.now) (sym c.in_ok-passes.ensures.search) c.requires.begin.search;
+  search = subst (GoesBy c.args.bounds.now.kind c.args.bounds.now.film.now) (sym c.in_ok-passes.ensures.search) c.requires.begin.search;
   worked = c.in_ok-passes.ensures.worked;
 }
 
 pub close_front-requires-clause-worked : goal.close_front-requires-clause-worked
 close_front-requires-clause-worked g c = record {
-  search = subst (GoesBy c.args.kept.now.kind c.args.kept.now.film.now)
+  search = subst (GoesBy c.args.bounds.now.kind c.args.bounds.now.film.now)
       (sym (c.in_ok-passes-2.ensures.worked.goes_on.search ∙ c.in_ok-passes.ensures.search)) c.requires.begin.search;
   worked = c.in_ok-passes-2.ensures.worked.worked;
 }

@@ -21,7 +21,7 @@ pub work_beside-requires-clause-worked : goal.work_beside-requires-clause-worked
 work_beside-requires-clause-worked g c κs within =
     let ready = c.in_ok-passes.ensures in
     record {
-      search = subst (GoesBy c.args.kept.now.kind c.args.kept.now.film.now) (sym ready.goes_on.search) c.requires.worked.search;
+      search = subst (GoesBy c.args.bounds.now.kind c.args.bounds.now.film.now) (sym ready.goes_on.search) c.requires.worked.search;
       worked = moved_same (shown c.args.passes) (shown c.in_ok-passes.passes) ready.goes_on (front_data c.args.front.now) c.args.walked.now.found.items c.args.walked.now.spent
           c.requires.worked.worked (λ _. ready.passes.book_pass.few) ready.records;
     }

@@ -24,8 +24,8 @@ pub loop-desk-preserved : goal.loop-desk-preserved
 loop-desk-preserved g c =
     let was = c.loop-desk.invariant in
     let split = c.in_ok-split.ensures in
-    let kind = c.args.kept.now.kind in
-    let film = c.args.kept.now.film.now in
+    let kind = c.args.bounds.now.kind in
+    let film = c.args.bounds.now.film.now in
     let front = front_data c.args.front.now in
     let home = split_home c.args.passes.now.source in
     record {
@@ -50,5 +50,5 @@ loop-desk-preserved g c =
 
 pub returns : goal.returns
 returns g c =
-    subst (λ (n : ℕ). AreDealt c.args.kept.now.kind c.args.kept.now.film.now (front_data c.args.front.now) c.args.tables.now.least c.args.tables.now.book c.args.passes.now c.loop-desk.passes
+    subst (λ (n : ℕ). AreDealt c.args.bounds.now.kind c.args.bounds.now.film.now (front_data c.args.front.now) c.args.tables.now.least c.args.tables.now.book c.args.passes.now c.loop-desk.passes
     c.loop-desk.jobs.items n) (omega (arith, c.loop-desk-test.false, c.loop-desk.auto.desk-end)) c.loop-desk.invariant

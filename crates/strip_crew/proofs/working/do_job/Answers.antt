@@ -11,7 +11,7 @@ returns g c =
         light = done.weight c.requires.job.light;
         worker = c.in_ok-passes.ensures.worker;
         from = c.in_ok-passes.ensures.home ∙ c.requires.job.from;
-        search = subst (GoesBy c.args.kept.now.kind c.args.kept.now.film.now) (sym done.goes_on.search) c.requires.job.search;
+        search = subst (GoesBy c.args.bounds.now.kind c.args.bounds.now.film.now) (sym done.goes_on.search) c.requires.job.search;
         worked = done.worked;
         memo = c.work_alone.ensures.memo;
       };

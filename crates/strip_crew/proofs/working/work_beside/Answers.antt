@@ -41,41 +41,41 @@ is_done P before after one job all items is = subst (λ (r : Result Job Memory).
 
 pub gather-requires-clause-other : goal.gather-requires-clause-other
 gather-requires-clause-other g c =
-    (is_done (IsDone c.args.kept.now.kind c.args.kept.now.film.now (front_data c.args.front.now) c.args.tables.now.least c.args.tables.now.book g.S.Rooted.home)
+    (is_done (IsDone c.args.bounds.now.kind c.args.bounds.now.film.now (front_data c.args.front.now) c.args.tables.now.least c.args.tables.now.book g.S.Rooted.home)
     c.loop-one.all.items c.pop.new.self.items c.in-Some.one c.in_ok-one.field-0 c.loop-one.invariant.all c.in-Some.ensures.items c.in_ok-one.was).is_job.passes
 
 pub gather-requires-clause-long : goal.gather-requires-clause-long
 gather-requires-clause-long g c =
-    c.loop-one.invariant.worked.long ∙ sym (is_done (IsDone c.args.kept.now.kind c.args.kept.now.film.now (front_data c.args.front.now) c.args.tables.now.least c.args.tables.now.book g.S.Rooted.home)
+    c.loop-one.invariant.worked.long ∙ sym (is_done (IsDone c.args.bounds.now.kind c.args.bounds.now.film.now (front_data c.args.front.now) c.args.tables.now.least c.args.tables.now.book g.S.Rooted.home)
     c.loop-one.all.items c.pop.new.self.items c.in-Some.one c.in_ok-one.field-0 c.loop-one.invariant.all c.in-Some.ensures.items c.in_ok-one.was).is_job.worked.long
 
 pub gather-requires-clause-from : goal.gather-requires-clause-from
 gather-requires-clause-from g c =
-    (is_done (IsDone c.args.kept.now.kind c.args.kept.now.film.now (front_data c.args.front.now) c.args.tables.now.least c.args.tables.now.book g.S.Rooted.home)
+    (is_done (IsDone c.args.bounds.now.kind c.args.bounds.now.film.now (front_data c.args.front.now) c.args.tables.now.least c.args.tables.now.book g.S.Rooted.home)
     c.loop-one.all.items c.pop.new.self.items c.in-Some.one c.in_ok-one.field-0 c.loop-one.invariant.all c.in-Some.ensures.items c.in_ok-one.was).is_job.from
     ∙ sym c.loop-one.invariant.home
 
 pub do_jobs-requires-clause-jobs : goal.do_jobs-requires-clause-jobs
 do_jobs-requires-clause-jobs g c = λ κs outlives.
-    subst (λ (home : SourceHome). All (IsJob c.args.kept.now.kind c.args.kept.now.film.now (front_data c.args.front.now) c.args.tables.now.least c.args.tables.now.book home) c.in_ok-jobs.jobs.items)
+    subst (λ (home : SourceHome). All (IsJob c.args.bounds.now.kind c.args.bounds.now.film.now (front_data c.args.front.now) c.args.tables.now.least c.args.tables.now.book home) c.in_ok-jobs.jobs.items)
     c.requires.split.home_is c.in_ok-jobs.ensures.jobs_are
 
 pub loop-one-preserved : goal.loop-one-preserved
 loop-one-preserved g c =
     let was = c.loop-one.invariant in
-    let done = is_done (IsDone c.args.kept.now.kind c.args.kept.now.film.now (front_data c.args.front.now) c.args.tables.now.least c.args.tables.now.book g.S.Rooted.home)
+    let done = is_done (IsDone c.args.bounds.now.kind c.args.bounds.now.film.now (front_data c.args.front.now) c.args.tables.now.least c.args.tables.now.book g.S.Rooted.home)
     c.loop-one.all.items c.pop.new.self.items c.in-Some.one c.in_ok-one.field-0 was.all c.in-Some.ensures.items c.in_ok-one.was in
     let gathered = c.gather.ensures.gathered in
     record {
-      memo = subst (IsMemo c.args.kept.now.kind c.args.kept.now.film.now) (sym c.gather.ensures.memo) done.is_job.memo;
+      memo = subst (IsMemo c.args.bounds.now.kind c.args.bounds.now.film.now) (sym c.gather.ensures.memo) done.is_job.memo;
       passes = gathered.passes;
       goes_on = goes_after (shown c.args.passes.now) (shown c.loop-one.passes) (shown c.gather.new.passes) was.goes_on gathered.goes_on;
       weight = λ total weigh. (
           let got = was.weight total weigh in
           (got.0 + 1, omega (arith, got.1, ap length c.in-Some.ensures.items, c.in-Some.ensures.len), gathered.weight got.0 got.2 done.is_job.light));
       worked = gathered.worked (front_data c.args.front.now) was.worked done.is_job.worked;
-      all = all_before (λ r. IfOk r (IsDone c.args.kept.now.kind c.args.kept.now.film.now (front_data c.args.front.now) c.args.tables.now.least c.args.tables.now.book g.S.Rooted.home)) c.pop.new.self.items c.in-Some.one
-          (subst (All (λ r. IfOk r (IsDone c.args.kept.now.kind c.args.kept.now.film.now (front_data c.args.front.now) c.args.tables.now.least c.args.tables.now.book g.S.Rooted.home))) c.in-Some.ensures.items was.all);
+      all = all_before (λ r. IfOk r (IsDone c.args.bounds.now.kind c.args.bounds.now.film.now (front_data c.args.front.now) c.args.tables.now.least c.args.tables.now.book g.S.Rooted.home)) c.pop.new.self.items c.in-Some.one
+          (subst (All (λ r. IfOk r (IsDone c.args.bounds.now.kind c.args.bounds.now.film.now (front_data c.args.front.now) c.args.tables.now.least c.args.tables.now.book g.S.Rooted.home))) c.in-Some.ensures.items was.all);
       home = gathered.home ∙ was.home;
       left = inr (gathered.left done.left);
     }

@@ -8,12 +8,12 @@ use Rattle.strip_crew.proofs.working.work_beside.Given as goal
 
 abbrev pub invariant-loop-one : goal.invariant-loop-one
 invariant-loop-one g l = record {
-  memo : IsMemo l.fn.kept.kind l.fn.kept.film.now l.memo;
+  memo : IsMemo l.fn.bounds.kind l.fn.bounds.film.now l.memo;
   passes : ArePassesOf l.fn.tables.least l.fn.tables.book l.passes;
   goes_on : GoesOn (shown l.fn.passes) (shown l.passes);
   weight : (total : ℕ) → Weigh total l.fn.passes → (rest : ℕ) × (rest + vec_len l.all ≡ total) × Weigh rest l.passes;
   worked : HasWorked (shown l.passes) (front_data l.fn.front) l.walked.found.items l.walked.spent;
-  all : All (λ one. IfOk one (IsDone l.fn.kept.kind l.fn.kept.film.now (front_data l.fn.front) l.fn.tables.least l.fn.tables.book g.S.Rooted.home)) l.all.items;
+  all : All (λ one. IfOk one (IsDone l.fn.bounds.kind l.fn.bounds.film.now (front_data l.fn.front) l.fn.tables.least l.fn.tables.book g.S.Rooted.home)) l.all.items;
   home : split_home l.passes.source ≡ g.S.Rooted.home;
   left : (vec_len l.all ≡ l.fn.workers) ⊎ NoPartLeft l.passes;
 }

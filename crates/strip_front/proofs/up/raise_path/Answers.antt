@@ -38,10 +38,10 @@ own_lies g c =
     (rest_in (g.H.Hand.shows c.args.hand.now) c.keeps_limits-2.ensures (front_data c.args.front.now) c.requires.raised.walked.front_of (facts g c) c.requires.raised.walked.filled c.args.found.now
     c.requires.raised.walked.known_of c.args.front.now.numbers.items c.args.place c.requires.place (deeper g c))
 
-static_is : (g : Over) (c : goal.After-index g) (x : ℕ) → x ≡ bound c.args.kept.now.kind c.args.kept.now.film.now c.rest-rest.result.0
+static_is : (g : Over) (c : goal.After-index g) (x : ℕ) → x ≡ bound c.args.bounds.now.kind c.args.bounds.now.film.now c.rest-rest.result.0
     → x ≡ bound (g.H.Hand.shows c.args.hand.now).search.kind (g.H.Hand.shows c.args.hand.now).search.film (path_at (front_data c.args.front.now) c.args.place).rest
 static_is g c x is =
-    is ∙ ap (λ (k : Kind). bound k c.args.kept.now.film.now c.rest-rest.result.0) (sym c.requires.search.1)
+    is ∙ ap (λ (k : Kind). bound k c.args.bounds.now.film.now c.rest-rest.result.0) (sym c.requires.search.1)
     ∙ ap (λ (f : FilmData). bound (g.H.Hand.shows c.args.hand.now).search.kind f c.rest-rest.result.0) (sym c.requires.search.0)
     ∙ ap (bound (g.H.Hand.shows c.args.hand.now).search.kind (g.H.Hand.shows c.args.hand.now).search.film) (rest_is g c)
 

@@ -8,5 +8,5 @@ use Rattle.strip_trim.proofs.marks.mark_below.Goals as goal
 pub returns-in_default-clause-marked : goal.returns-in_default-clause-marked
 returns-in_default-clause-marked g c =
     marked_none c.args.marks.now
-    (λ place. (bound c.args.kept.now.kind c.args.kept.now.film.now c.args.q.0 < c.args.need) × IsBestOf c.args.best.now.lines c.args.q.0 place)
+    (λ place. (bound c.args.bounds.now.kind c.args.bounds.now.film.now c.args.q.0 < c.args.need) × IsBestOf c.args.best.now.lines c.args.q.0 place)
     (λ place holds. no_entry c.args.best.now.lines c.args.best.now.entries c.in_default.ensures.best c.args.q.0 place c.in_default.ensures.place holds.1)

@@ -5,6 +5,6 @@ use Rattle.strip_trim.proofs.marks.mark_reached.Given as goal
 
 abbrev pub invariant-loop-entry : goal.invariant-loop-entry
 invariant-loop-entry g l = record {
-  memo : IsMemo l.kept.kind l.kept.film.now l.memo;
-  way : IsUnderWay (rules_of l.kept.kind l.kept.film.now) l.best.lines l.best.entries l.entry-iterator.iter.rest.now l.marks;
+  memo : IsMemo l.bounds.kind l.bounds.film.now l.memo;
+  way : IsUnderWay (rules_of l.bounds.kind l.bounds.film.now) l.best.lines l.best.entries l.entry-iterator.iter.rest.now l.marks;
 }

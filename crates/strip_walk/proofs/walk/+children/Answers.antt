@@ -44,11 +44,11 @@ walk_on-loop-s-init g t c =
       path = refl;
       walks = opened.0;
       line = record { there = opened.1.there; set = opened.1.set };
-      ranks = (sifted_by c.args.kept.now.kind c.args.kept.now.film.now (g.H.Hand.shows c.args.hand.now).search path c.in-Enlisted.opened.told c.sift-sifted.result
+      ranks = (sifted_by c.args.bounds.now.kind c.args.bounds.now.film.now (g.H.Hand.shows c.args.hand.now).search path c.in-Enlisted.opened.told c.sift-sifted.result
           c.requires.search c.sift-sifted.ensures.sifted).ranks;
       settled = settled_none (g.H.Hand.shows c.args.hand.now).search (g.H.Hand.shows c.list.new.hand) (cursor_data c.list.new.cursor) path c.in-Enlisted.opened
           c.sift-sifted.result opened.1
-          (sifted_by c.args.kept.now.kind c.args.kept.now.film.now (g.H.Hand.shows c.args.hand.now).search path c.in-Enlisted.opened.told c.sift-sifted.result
+          (sifted_by c.args.bounds.now.kind c.args.bounds.now.film.now (g.H.Hand.shows c.args.hand.now).search path c.in-Enlisted.opened.told c.sift-sifted.result
           c.requires.search c.sift-sifted.ensures.sifted);
     }
 
@@ -87,7 +87,7 @@ walk_on-walk_child-requires g t c κs within =
             (
               c.requires.keeps,
               (
-                subst (λ (of : SearchData). (of.film ≡ c.args.kept.now.film.now) × (of.kind ≡ c.args.kept.now.kind)) (sym c.loop-s.invariant.walks.search) c.requires.search,
+                subst (λ (of : SearchData). (of.film ≡ c.args.bounds.now.film.now) × (of.kind ≡ c.args.bounds.now.kind)) (sym c.loop-s.invariant.walks.search) c.requires.search,
                 (
                   c.loop-s.invariant.memo,
                   (
@@ -251,9 +251,9 @@ pub walk_child-without-rest-requires : goal.walk_child-without-rest-requires
 walk_child-without-rest-requires g t c =
     let search : SearchData = (g.H.Hand.shows c.args.hand.now).search in
     let path : PathData = path_data c.args.running.now.path in
-    let is : IsFilm c.args.kept.now.film.now = subst IsFilm c.film-film.ensures c.keeps_limits.ensures in
+    let is : IsFilm c.args.bounds.now.film.now = subst IsFilm c.film-film.ensures c.keeps_limits.ensures in
     below_64 path.rest c.args.s
-    (rest_set c.args.kept.now.film.now path c.requires.running.path is)
+    (rest_set c.args.bounds.now.film.now path c.requires.running.path is)
     (first_there search.film path.rest c.args.s c.requires.first)
 
 pub walk_child-take_with-requires-clause-ready : goal.walk_child-take_with-requires-clause-ready
@@ -281,7 +281,7 @@ walk_child-meet-met-requires-clause-lies g t c =
     let search : SearchData = (g.H.Hand.shows c.args.hand.now).search in
     let path : PathData = path_data c.args.running.now.path in
     let rest_is : without path.rest c.args.s ≡ c.without-rest.result.0 = sym (c.without-rest.ensures ∙ ap (λ (q : ℕ). without q c.args.s) c.rest.ensures) in
-    subst (LiesIn c.args.kept.now.film.now) rest_is
+    subst (LiesIn c.args.bounds.now.film.now) rest_is
     (subst (λ (film : FilmData). LiesIn film (without path.rest c.args.s)) c.requires.search.0
     (rest_lies search.film (extended search.film path c.args.s) c.requires.may.is_open.0))
 
@@ -326,7 +326,7 @@ walk_child-walk_on-requires g t c κs within =
             (
               c.requires.keeps,
               (
-                subst (λ (of : SearchData). (of.film ≡ c.args.kept.now.film.now) × (of.kind ≡ c.args.kept.now.kind)) (sym met.0.search) c.requires.search,
+                subst (λ (of : SearchData). (of.film ≡ c.args.bounds.now.film.now) × (of.kind ≡ c.args.bounds.now.kind)) (sym met.0.search) c.requires.search,
                 (
                   c.in-Through.ensures.memo,
                   (

@@ -21,7 +21,7 @@ loop-part-preserved g c = record {
       c.in-Some.ensures.claimed c.walk_part.ensures.walks);
   refusals = omega (arith, c.loop-part.invariant.refusals, ap (λ (h : HandData). h.refusals) c.in-Some.ensures.claimed.0, c.walk_part.ensures.walks.2.refusals);
   worked = record {
-    search = subst (GoesBy c.args.kept.now.kind c.args.kept.now.film.now)
+    search = subst (GoesBy c.args.bounds.now.kind c.args.bounds.now.film.now)
         (sym (c.walk_part.ensures.walks.2.search ∙ ap (λ (h : HandData). h.search) c.in-Some.ensures.claimed.0)) c.loop-part.invariant.worked.search;
     worked = c.in_ok-walk_part.ensures.worked;
   };

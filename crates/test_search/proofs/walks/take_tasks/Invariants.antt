@@ -9,6 +9,6 @@ abbrev pub invariant-loop : goal.invariant-loop
 invariant-loop g l = record {
   sound : g.H.Hand.is_sound l.hand;
   home : g.H.Hand.home l.hand ≡ g.H.Hand.home l.fn.hand;
-  way : IsOnItsWay l.kept.kind l.kept.film.now (g.H.Hand.shows l.hand) (front_data l.front) l.found.items;
-  memo : IsMemo l.kept.kind l.kept.film.now l.memo;
+  way : IsOnItsWay l.bounds.kind l.bounds.film.now (g.H.Hand.shows l.hand) (front_data l.front) l.found.items;
+  memo : IsMemo l.bounds.kind l.bounds.film.now l.memo;
 }

@@ -15,8 +15,8 @@ use Rattle.test_workers.proofs.book.enlist_two.Goals as goal
 
 pub at-bound-requires-clause-lies : goal.at-bound-requires-clause-lies
 at-bound-requires-clause-lies g c =
-    subst (LiesIn c.args.kept.now.film.now) (sym c.rest-all.ensures)
-    (rest_lies c.args.kept.now.film.now (path_data c.start-whole.result)
+    subst (LiesIn c.args.bounds.now.film.now) (sym c.rest-all.ensures)
+    (rest_lies c.args.bounds.now.film.now (path_data c.start-whole.result)
     (subst (λ (f : FilmData). IsPath f (path_data c.start-whole.result)) c.film-film.ensures c.start-whole.ensures.path))
 
 pub open_firsts-firsts-requires : goal.open_firsts-firsts-requires
@@ -29,18 +29,18 @@ ready-requires g c =
 
 pub at-later-requires-clause-lies : goal.at-later-requires-clause-lies
 at-later-requires-clause-lies g c =
-    subst (LiesIn c.args.kept.now.film.now) (sym c.rest-rest.ensures)
-    (rest_lies c.args.kept.now.film.now (path_data c.extend-path.result)
+    subst (LiesIn c.args.bounds.now.film.now) (sym c.rest-rest.ensures)
+    (rest_lies c.args.bounds.now.film.now (path_data c.extend-path.result)
     (subst (λ (f : FilmData). IsPath f (path_data c.extend-path.result)) c.film-film.ensures c.extend-path.ensures.path))
 
 pub enlist-requires-clause-may : goal.enlist-requires-clause-may
 enlist-requires-clause-may g c =
-    let film : FilmData = c.args.kept.now.film.now in
+    let film : FilmData = c.args.bounds.now.film.now in
     let paid : (path_data c.start-whole.result).paid ≡ 0 = ap (λ (p : PathData). p.paid) c.start-whole.ensures.start in
-    may_enlist_whole c.args.kept.now.kind film c.args.pass.now.seat.me.0 c.requires.goes_by (path_data c.start-whole.result) c.at-bound.result c.requires.start
+    may_enlist_whole c.args.bounds.now.kind film c.args.pass.now.seat.me.0 c.requires.goes_by (path_data c.start-whole.result) c.at-bound.result c.requires.start
     (subst (λ (f : FilmData). IsPath f (path_data c.start-whole.result)) c.film-film.ensures c.start-whole.ensures.path)
     (λ zero. false≢true (c.if-is_empty.ensures.1 (c.rest-all.ensures ∙ zero)))
-    (c.at-bound.ensures ∙ ap (bound c.args.kept.now.kind film) c.rest-all.ensures)
+    (c.at-bound.ensures ∙ ap (bound c.args.bounds.now.kind film) c.rest-all.ensures)
     (omega (arith, paid, c.if-bound-ge14.false))
     c.requires.stands
     (ap (λ (p : PathData). p.scenes) c.start-whole.ensures.start)
@@ -56,7 +56,7 @@ extend-path-requires-clause-ready g c =
 
 pub enlist-then-requires-clause-may : goal.enlist-then-requires-clause-may
 enlist-then-requires-clause-may g c =
-    let film : FilmData = c.args.kept.now.film.now in
+    let film : FilmData = c.args.bounds.now.film.now in
     let made = c.in-Line.ensures.listed in
     let path : PathData = path_data c.extend-path.result in
     let none : (path_data c.start-whole.result).scenes ≡ [] = ap (λ (p : PathData). p.scenes) c.start-whole.ensures.start in
@@ -64,12 +64,12 @@ enlist-then-requires-clause-may g c =
     let opens : has (open_firsts c.film-film.result.now (all_scenes c.film-film.result.now)) c.args.first ≡ true
     = ap (λ (q : ℕ). has (open_firsts c.film-film.result.now q) c.args.first) (sym all)
     ∙ ap (λ (q : ℕ). has q c.args.first) (sym c.open_firsts-firsts.ensures.«open») ∙ sym c.if-not-has.ensures in
-    may_enlist_one c.args.kept.now.kind film c.enlist.new.self.seat.me.0
+    may_enlist_one c.args.bounds.now.kind film c.enlist.new.self.seat.me.0
     (ap (λ (s : SearchData). s.film) made.stays.search ∙ c.requires.goes_by.0, ap (λ (s : SearchData). s.kind) made.stays.search ∙ c.requires.goes_by.1)
     path c.at-later.result (ap (λ (s : SearchData). s.start) made.stays.search ∙ c.requires.start)
     (subst (λ (f : FilmData). IsPath f path) c.film-film.ensures c.extend-path.ensures.path)
     (λ zero. false≢true (c.if-is_empty-2.ensures.1 (c.rest-rest.ensures ∙ zero)))
-    (c.at-later.ensures ∙ ap (bound c.args.kept.now.kind film) c.rest-rest.ensures)
+    (c.at-later.ensures ∙ ap (bound c.args.bounds.now.kind film) c.rest-rest.ensures)
     (omega (arith, c.paid.ensures, c.paid-else-paid-ge14.ensures, c.if-paid-ge14.false, c.if-later-paid.false))
     (path_data c.start-whole.result) _ c.args.first made.counted.is none
     (ap (λ (p : PathData). p.scenes) c.extend-path.ensures.extended ∙ ap (λ (xs : List ℕ). xs ++ c.args.first ∷ []) none)

@@ -8,6 +8,6 @@ use Rattle.test_workers.proofs.hubs.enlist_whole.Goals as goal
 
 pub at-bound-requires-clause-lies : goal.at-bound-requires-clause-lies
 at-bound-requires-clause-lies g c =
-    subst (LiesIn c.args.kept.now.film.now) (sym c.rest-all.ensures)
-    (rest_lies c.args.kept.now.film.now (path_data c.start-whole.result)
+    subst (LiesIn c.args.bounds.now.film.now) (sym c.rest-all.ensures)
+    (rest_lies c.args.bounds.now.film.now (path_data c.start-whole.result)
     (subst (λ (f : FilmData). IsPath f (path_data c.start-whole.result)) c.film-film.ensures c.start-whole.ensures.path))

@@ -10,5 +10,5 @@ at-requires-clause-lies g c = subst (λ (f : FilmData). LiesIn f c.args.set.0) c
 
 pub returns : goal.returns
 returns g c =
-    c.at.ensures ∙ ap (λ (f : FilmData). bound c.args.kept.now.kind f c.args.set.0) (sym c.requires.search.0)
+    c.at.ensures ∙ ap (λ (f : FilmData). bound c.args.bounds.now.kind f c.args.set.0) (sym c.requires.search.0)
     ∙ ap (λ (k : Kind). bound k c.args.self.now.search.film c.args.set.0) (sym c.requires.search.1)
