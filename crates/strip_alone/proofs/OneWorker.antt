@@ -120,6 +120,6 @@ front_claimed film kind start tasks limits world after reply is step claims =
     }
 
 -- its search is one of the film
-pub search_by : (film : FilmData) (kind : Kind) (search : SearchData) (cap start : ℕ) (tasks : List PathData)
-    → search ≡ record { film = film; kind = kind; cap = cap; start = start; tasks = tasks } → GoesBy kind film search
-search_by film kind search cap start tasks is = (ap (λ (s : SearchData). s.film) is, ap (λ (s : SearchData). s.kind) is)
+pub search_by : (film : FilmData) (kind : Kind) (search : SearchData) (nodes start : ℕ) (tasks : List PathData)
+    → search ≡ record { film = film; kind = kind; nodes = nodes; start = start; tasks = tasks } → GoesBy kind film search
+search_by film kind search nodes start tasks is = (ap (λ (s : SearchData). s.film) is, ap (λ (s : SearchData). s.kind) is)

@@ -29,7 +29,7 @@ use strip_world::World;
 const TASK_SCENES: usize = 2;
 
 /// Searches for a cheapest order of the film with one worker: it goes down the front, walks each wanted task, and
-/// raises the front's lines. It begins with a complete path and holds at most `cap` lines, at most 16,777,216. Its
+/// raises the front's lines. It begins with a complete path and holds at most `nodes` lines, at most 16,777,216. Its
 /// table has `entries` entries, 64 to 4,194,304. The time may grow with the number of open paths that the initial path
 /// leaves. Afterwards the memo has the static bounds that were requested last.
 pub fn alone<F: Fn(u64, u64) -> u64>(
@@ -37,21 +37,21 @@ pub fn alone<F: Fn(u64, u64) -> u64>(
     bounds: &StoredBound<F>,
     memo: &mut Memo,
     start: &Path,
-    cap: u32,
+    nodes: u32,
     entries: u32,
 ) -> Result<Ended, Memory>
     requires keeps { Keeps (F.pre bounds.now.f) (F.post bounds.now.f) bounds.now.kind bounds.now.film.now }
     requires memo { IsMemo bounds.now.kind bounds.now.film.now memo.old }
     requires start { IsComplete bounds.now.film.now (path_data start.now) }
-    requires some_lines { 1 ≤ cap }
-    requires few_lines { cap ≤ 16777216 }
+    requires some_lines { 1 ≤ nodes }
+    requires few_lines { nodes ≤ 16777216 }
     requires some_entries { 64 ≤ entries }
     requires few_entries { entries ≤ 4194304 }
     ensures memo { IsMemo bounds.now.kind bounds.now.film.now memo.new }
-    ensures ended { IfOk result (λ ended. IsEnded bounds.now.kind bounds.now.film.now (path_data start.now) cap
+    ensures ended { IfOk result (λ ended. IsEnded bounds.now.kind bounds.now.film.now (path_data start.now) nodes
         (ended_data ended)) }
 {
-    alone_through(alloc, bounds, memo, start, cap, entries, &OpenGate)
+    alone_through(alloc, bounds, memo, start, nodes, entries, &OpenGate)
 }
 
 /// Searches as `alone` does, and reports progress to the gate. The worker's number is 0.
@@ -60,25 +60,25 @@ pub fn alone_through<F: Fn(u64, u64) -> u64, G: Gate>(
     bounds: &StoredBound<F>,
     memo: &mut Memo,
     start: &Path,
-    cap: u32,
+    nodes: u32,
     entries: u32,
     gate: &G,
 ) -> Result<Ended, Memory>
     requires keeps { Keeps (F.pre bounds.now.f) (F.post bounds.now.f) bounds.now.kind bounds.now.film.now }
     requires memo { IsMemo bounds.now.kind bounds.now.film.now memo.old }
     requires start { IsComplete bounds.now.film.now (path_data start.now) }
-    requires some_lines { 1 ≤ cap }
-    requires few_lines { cap ≤ 16777216 }
+    requires some_lines { 1 ≤ nodes }
+    requires few_lines { nodes ≤ 16777216 }
     requires some_entries { 64 ≤ entries }
     requires few_entries { entries ≤ 4194304 }
     ensures memo { IsMemo bounds.now.kind bounds.now.film.now memo.new }
-    ensures ended { IfOk result (λ ended. IsEnded bounds.now.kind bounds.now.film.now (path_data start.now) cap
+    ensures ended { IfOk result (λ ended. IsEnded bounds.now.kind bounds.now.film.now (path_data start.now) nodes
         (ended_data ended)) }
 {
     let mut front = make_front(alloc, bounds, TASK_SCENES)?;
     let limits = Limits {
         workers: 1,
-        cap,
+        nodes,
         entries,
     };
     let mut world = open(alloc, bounds, start, &front, &limits)?;

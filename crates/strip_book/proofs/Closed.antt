@@ -50,7 +50,7 @@ module _ (search : SearchData) (s : State Path ViewData) (k : IsBook search s) (
   ]
 
   -- lines that were read from the words are all lines
-  pub read : (lines : List Line) → length lines ≡ min (slice_index s.words count_word) search.cap → ((number : ℕ) → number < length lines → line_at lines number ≡ line_in s.words number)
+  pub read : (lines : List Line) → length lines ≡ min (slice_index s.words count_word) search.nodes → ((number : ℕ) → number < length lines → line_at lines number ≡ line_in s.words number)
       → lines ≡ k.lines
   read lines count each =
       let long : length lines ≡ length k.lines = omega (arith, count, k.head, k.long) in
@@ -70,7 +70,7 @@ module _ (search : SearchData) (s : State Path ViewData) (k : IsBook search s) (
 
 -- what is read where a table is closed with a pass of full weight
 pub closes : (search : SearchData) (id : ℕ) (me : ViewData) (words : List ℕ) (xs : List Path) → Final (Seen (IsBook search) id me) words xs → me.writing ≡ false
-    → me.weight ≡ full_weight → (lines : List Line) → length lines ≡ min (slice_index words count_word) search.cap
+    → me.weight ≡ full_weight → (lines : List Line) → length lines ≡ min (slice_index words count_word) search.nodes
     → ((number : ℕ) → number < length lines → line_at lines number ≡ line_in words number) → AreAll me lines
 closes search id me words xs final idle whole lines count each =
     let s : State Path ViewData = final.0 in
@@ -78,7 +78,7 @@ closes search id me words xs final idle whole lines count each =
     let at : get_elem? s.views id ≡ some me = final.1.1 in
     let same : s.words ≡ words = final.2 in
     let here : lines ≡ k.lines
-    = read search s k id me at idle whole lines (count ∙ ap (λ (ws : List ℕ). min (slice_index ws count_word) search.cap) (sym same))
+    = read search s k id me at idle whole lines (count ∙ ap (λ (ws : List ℕ). min (slice_index ws count_word) search.nodes) (sym same))
     (λ number lt. each number lt ∙ ap (λ (ws : List ℕ). line_in ws number) (sym same)) in
     subst (AreAll me) (sym here) (all search s k id me at idle whole)
 

@@ -105,7 +105,7 @@ module _ (search : SearchData) (s : State Path ViewData) (k : IsBook search s) (
   bound_then : (number : ℕ) → slice_index counted (bound_word number) ≡ slice_index s.words (bound_word number)
   bound_then number = others_then (bound_word number) (λ e. absurd (omega (arith, e)))
 
-  module _ (room : k.count < search.cap) (next : IsNext me.search me.entries me.about.part me.about.path) where
+  module _ (room : k.count < search.nodes) (next : IsNext me.search me.entries me.about.part me.about.path) where
     abbrev line : Line
     line = draft_line me
 
@@ -209,10 +209,10 @@ module _ (search : SearchData) (s : State Path ViewData) (k : IsBook search s) (
         entries = subst (λ (q : SearchData). All (IsEntry q) (enlisted me.about.part me.about.path me.entries)) (sym same) entries_then;
         only = refl;
       };
-      none_left = λ none. absurd (let cap : me.search.cap ≡ search.cap = ap (λ (q : SearchData). q.cap) same in omega (arith, none, cap, room));
+      none_left = λ none. absurd (let nodes : me.search.nodes ≡ search.nodes = ap (λ (q : SearchData). q.nodes) same in omega (arith, none, nodes, room));
     }
 
-  module _ (none : search.cap ≤ k.count) (unspent : me.spent ≡ false) where
+  module _ (none : search.nodes ≤ k.count) (unspent : me.spent ≡ false) where
     abbrev used : ViewData
     used = record me { lines = k.lines; heard = []; spent = true }
 
@@ -246,15 +246,15 @@ module _ (search : SearchData) (s : State Path ViewData) (k : IsBook search s) (
 
     pub told_spent : HasDrawn me k.count used
     told_spent =
-        let cap : me.search.cap ≡ search.cap = ap (λ (q : SearchData). q.cap) same in
+        let nodes : me.search.nodes ≡ search.nodes = ap (λ (q : SearchData). q.nodes) same in
         record {
-          made = λ below. absurd (omega (arith, below, cap, none));
-          none_left = λ _. record { lines = k.lines; learnt = learnt search s k id me at heavy; count = omega (arith, k.long, none, cap); only = refl };
+          made = λ below. absurd (omega (arith, below, nodes, none));
+          none_left = λ _. record { lines = k.lines; learnt = learnt search s k id me at heavy; count = omega (arith, k.long, none, nodes); only = refl };
         }
 
   pub draws_here : (unspent : me.spent ≡ false) → IsNext me.search me.entries me.about.part me.about.path
       → (w : ViewData) × (IsBook search (record { words = counted; homes = s.homes; views = set s.views id w }) × HasDrawn me (slice_index s.words count_word) w)
-  draws_here unspent next = elim (cases_lt k.count search.cap) [
+  draws_here unspent next = elim (cases_lt k.count search.nodes) [
     | inl room ↦ (
       mine room next,
       (

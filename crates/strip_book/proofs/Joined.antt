@@ -83,7 +83,7 @@ joins search id me other w heavy idle other_idle s k at apart there =
       entries = All-append (IsEntry search) me.entries w.entries mine.entries theirs.entries;
       writes = λ is. never_writes me.writing idle is;
       light = λ none. absurd (omega (arith, none, heavy));
-      spent = λ is. one_spent me.spent w.spent (length k.lines ≡ search.cap) is mine.spent theirs.spent;
+      spent = λ is. one_spent me.spent w.spent (length k.lines ≡ search.nodes) is mine.spent theirs.spent;
     })
     refl
     (total-append number_of me.entries w.entries)

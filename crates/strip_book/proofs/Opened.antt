@@ -24,12 +24,12 @@ each_first P first holds (suc id) view at = absurd (some-ne-none view (sym at))
 pub none_justified : (search : SearchData) → AreJustified (search_rules search) []
 none_justified search = All-nil (λ (line : Line). LiesIn search.film line.set × IsJustified (search_rules search) [] line)
 
-pub opens : (search : SearchData) (words : List ℕ) → IsFilm search.film → search.cap ≤ 16777216 → words ≡ replicate (word_count search.cap) 0
+pub opens : (search : SearchData) (words : List ℕ) → IsFilm search.film → search.nodes ≤ 16777216 → words ≡ replicate (word_count search.nodes) 0
     → IsBook search (opening {S = Path} words [] (first_view search))
 opens search words film small are = record {
   lines = [];
   count = 0;
-  words = ap (λ (ws : List ℕ). length ws) are ∙ length-replicate (word_count search.cap) 0;
+  words = ap (λ (ws : List ℕ). length ws) are ∙ length-replicate (word_count search.nodes) 0;
   head = zeros count_word (omega arith);
   film = film;
   long = omega arith;
@@ -52,5 +52,5 @@ opens search words film small are = record {
   small = small;
 }
   where
-    zeros : (i : ℕ) → i < word_count search.cap → slice_index words i ≡ 0
-    zeros i lt = ap (λ (ws : List ℕ). slice_index ws i) are ∙ get_or-replicate (word_count search.cap) i 0 0 lt
+    zeros : (i : ℕ) → i < word_count search.nodes → slice_index words i ≡ 0
+    zeros i lt = ap (λ (ws : List ℕ). slice_index ws i) are ∙ get_or-replicate (word_count search.nodes) i 0 0 lt

@@ -26,7 +26,7 @@ use Rattle.strip_book.proofs.Told.{new_is_entry}
 
 -- a pass of the same words whose view is sound is one of the book
 pub passes_on : (book : Book) (pass after : BookPass) (v : ViewData) → IsPassOf book pass → after.seat.table_id ≡ pass.seat.table_id → after.seat.me.1 ≡ [] → known after ≡ v
-    → v.search ≡ (known pass).search → 0 < v.weight → v.writing ≡ false → AreJustified (search_rules (known pass).search) v.lines → length v.lines ≤ (known pass).search.cap
+    → v.search ≡ (known pass).search → 0 < v.weight → v.writing ≡ false → AreJustified (search_rules (known pass).search) v.lines → length v.lines ≤ (known pass).search.nodes
     → All (IsEntry (known pass).search) v.entries → IsPassOf book after
 passes_on book pass after v is table slots view search weight idle justified few entries = record {
   table = table ∙ is.table;
@@ -37,8 +37,8 @@ passes_on book pass after v is table slots view search weight idle justified few
   justified = subst (λ (u : ViewData). AreJustified (search_rules u.search) u.lines) (sym view)
       (subst (λ (q : SearchData). AreJustified (search_rules q) v.lines) (sym search) justified);
   few = (
-      let cap : (known after).search.cap ≡ (known pass).search.cap = ap (λ (u : ViewData). u.search.cap) view ∙ ap (λ (q : SearchData). q.cap) search in
-      let count : length (known after).lines ≡ length v.lines = ap (λ (u : ViewData). length u.lines) view in omega (arith, cap, count, few));
+      let nodes : (known after).search.nodes ≡ (known pass).search.nodes = ap (λ (u : ViewData). u.search.nodes) view ∙ ap (λ (q : SearchData). q.nodes) search in
+      let count : length (known after).lines ≡ length v.lines = ap (λ (u : ViewData). length u.lines) view in omega (arith, nodes, count, few));
   entries = subst (λ (u : ViewData). All (IsEntry u.search) u.entries) (sym view) (subst (λ (q : SearchData). All (IsEntry q) v.entries) (sym search) entries);
 }
 
@@ -49,7 +49,7 @@ pub learnt_pass : (book : Book) (pass after : BookPass) (before : ViewData) (lin
 learnt_pass book pass after before lines is table slots view search weight idle entries learnt =
     passes_on book pass after (knowing before lines) is table slots view search weight idle
     (subst (λ (q : SearchData). AreJustified (search_rules q) lines) search learnt.justified)
-    (let cap : before.search.cap ≡ (known pass).search.cap = ap (λ (q : SearchData). q.cap) search in omega (arith, cap, learnt.few))
+    (let nodes : before.search.nodes ≡ (known pass).search.nodes = ap (λ (q : SearchData). q.nodes) search in omega (arith, nodes, learnt.few))
     entries
 
 pub seen_pass : (book : Book) (pass after : BookPass) → IsPassOf book pass → after.seat.table_id ≡ pass.seat.table_id → after.seat.me.1 ≡ pass.seat.me.1
@@ -70,7 +70,7 @@ begun_pass book pass after part is table slots may view =
 
 -- after a line was drawn and written
 pub made_pass : (book : Book) (pass after : BookPass) (part : ℕ) (path : PathData) (number : ℕ) (u : ViewData) → IsPassOf book pass → after.seat.table_id ≡ pass.seat.table_id
-    → after.seat.me.1 ≡ [] → HasMade (about (known pass) part path) number u → number < (known pass).search.cap → known after ≡ written (half_written u) → IsPassOf book after
+    → after.seat.me.1 ≡ [] → HasMade (about (known pass) part path) number u → number < (known pass).search.nodes → known after ≡ written (half_written u) → IsPassOf book after
 made_pass book pass after part path number u is table slots made below view =
     let v : ViewData = written (half_written (drawn (about (known pass) part path) made.lines number)) in
     passes_on book pass after v is table slots (view ∙ ap (λ (w : ViewData). written (half_written w)) made.only) refl is.some_weight refl made.justified
@@ -103,7 +103,7 @@ heard_pass book pass after other u is table slots view seen =
 
 -- a copy of these words whose view is sound is one of the table
 pub copies_on : (table : TableData) (copy : BookCopy) (v : ViewData) → copy.seat.table_id ≡ table.words → copy.seat.me.1 ≡ [] → copy.seat.me.0 ≡ v → v.search ≡ table.search
-    → v.weight ≡ 0 → v.writing ≡ false → IsFilm table.search.film → AreJustified (search_rules table.search) v.lines → length v.lines ≤ table.search.cap → IsCopyOf table copy
+    → v.weight ≡ 0 → v.writing ≡ false → IsFilm table.search.film → AreJustified (search_rules table.search) v.lines → length v.lines ≤ table.search.nodes → IsCopyOf table copy
 copies_on table copy v words slots view search weight idle film justified few = record {
   words = words;
   search = ap (λ (u : ViewData). u.search) view ∙ search;
@@ -112,7 +112,7 @@ copies_on table copy v words slots view search weight idle film justified few = 
   no_weight = ap (λ (u : ViewData). u.weight) view ∙ weight;
   idle = ap (λ (u : ViewData). u.writing) view ∙ idle;
   justified = subst (λ (u : ViewData). AreJustified (search_rules table.search) u.lines) (sym view) justified;
-  few = subst (λ (u : ViewData). length u.lines ≤ table.search.cap) (sym view) few;
+  few = subst (λ (u : ViewData). length u.lines ≤ table.search.nodes) (sym view) few;
 }
 
 -- one of a pass, and one of a copy
@@ -121,7 +121,7 @@ pub copied_pass : (book : Book) (pass : BookPass) (copy : BookCopy) → IsPassOf
 copied_pass book pass copy is words me =
     copies_on (table_of book) copy (copied (known pass)) (words ∙ is.table) (ap (λ (m : Me Path ViewData). m.1) me) (ap (λ (m : Me Path ViewData). m.0) me) is.search refl refl
     book.film (subst (λ (q : SearchData). AreJustified (search_rules q) (known pass).lines) is.search is.justified)
-    (subst (λ (q : SearchData). length (known pass).lines ≤ q.cap) is.search is.few)
+    (subst (λ (q : SearchData). length (known pass).lines ≤ q.nodes) is.search is.few)
 
 pub copied_copy : (table : TableData) (copy other : BookCopy) → IsCopyOf table copy → other.seat.table_id ≡ copy.seat.table_id → other.seat.me ≡ (copied copy.seat.me.0, [])
     → IsCopyOf table other
@@ -143,7 +143,7 @@ heard_copy table copy after other u is words slots view compared =
     copies_on table after (knowing (heard_from copy.seat.me.0 other) compared.lines) (words ∙ is.words) slots
     (compared.only ∙ ap (λ (w : ViewData). knowing w compared.lines) view) is.search is.no_weight is.idle is.film
     (subst (λ (q : SearchData). AreJustified (search_rules q) compared.lines) is.search learnt.justified)
-    (subst (λ (q : SearchData). length compared.lines ≤ q.cap) is.search learnt.few)
+    (subst (λ (q : SearchData). length compared.lines ≤ q.nodes) is.search learnt.few)
 
 -- ---- what the calls make of what is known
 
@@ -203,7 +203,7 @@ makes_so before u after part path bound number may made view =
       };
     })
 
-pub spends_so : (before after : ViewData) (part : ℕ) (path : PathData) (count : ℕ) → count ≡ before.search.cap → HasSpent (about before part path) after → ViewIsSpent before count after
+pub spends_so : (before after : ViewData) (part : ℕ) (path : PathData) (count : ℕ) → count ≡ before.search.nodes → HasSpent (about before part path) after → ViewIsSpent before count after
 spends_so before after part path count full spent =
     subst (ViewIsSpent before count) (sym spent.only)
     (record {
@@ -213,7 +213,7 @@ spends_so before after part path count full spent =
       full = full;
     })
 
-pub spent_so : (before after : ViewData) (count : ℕ) → count ≡ before.search.cap → before.spent ≡ true → HasSeen before after → ViewIsSpent before count after
+pub spent_so : (before after : ViewData) (count : ℕ) → count ≡ before.search.nodes → before.spent ≡ true → HasSeen before after → ViewIsSpent before count after
 spent_so before after count full spent seen =
     subst (ViewIsSpent before count) (sym seen.only)
     (record {

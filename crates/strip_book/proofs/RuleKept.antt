@@ -32,17 +32,17 @@ module _ (search : SearchData) (s : State Path ViewData) (k : IsBook search s) (
   pub record Step (words : List ℕ) (lines : List Line) (count : ℕ) (w : ViewData) : Type 0 where
     pub long_words : length words ≡ length s.words
     pub head : slice_index words count_word ≡ count
-    pub long : length lines ≡ min count search.cap
+    pub long : length lines ≡ min count search.nodes
     pub justified : AreJustified (search_rules search) lines
     pub grow : GrowTo k.lines lines
     pub writes : (u : ViewData) → IsWriting s.words k.lines u → IsWriting words lines u
     pub mine : Fits search words lines w
     pub places : (number : ℕ) → number < length lines → Stands words (line_at lines number) number ⊎ IsWritten (set s.views id w) number
-    pub fresh : (number : ℕ) → length lines ≤ number → number < search.cap → slice_index words (bound_word number) ≡ 0
+    pub fresh : (number : ℕ) → length lines ≤ number → number < search.nodes → slice_index words (bound_word number) ≡ 0
     pub weight : w.weight ≡ me.weight
     pub numbers : numbers_of w + length k.lines ≡ numbers_of me + length lines
     pub sets : (q : ℕ) → lines_of q lines + candidates_of search q me ≤ lines_of q k.lines + candidates_of search q w
-    pub few : count ≤ search.cap + total spent_weight (set s.views id w)
+    pub few : count ≤ search.nodes + total spent_weight (set s.views id w)
 
   pub stepped_by : (words : List ℕ) (lines : List Line) (count : ℕ) (w : ViewData) → Step words lines count w
       → IsBook search (record { words = words; homes = s.homes; views = set s.views id w })
@@ -126,13 +126,13 @@ module _ (search : SearchData) (s : State Path ViewData) (k : IsBook search s) (
   -- what a view learns that goes by the search
   pub learnt_by : me.search ≡ search → HasLearnt me k.lines
   learnt_by same =
-      let cap : me.search.cap ≡ search.cap = ap (λ (q : SearchData). q.cap) same in
+      let nodes : me.search.nodes ≡ search.nodes = ap (λ (q : SearchData). q.nodes) same in
       record {
         knew = mine_fits.knows;
         heard = mine_fits.heard;
         justified = subst (λ (q : SearchData). AreJustified (search_rules q) k.lines) (sym same) k.justified;
-        few = omega (arith, k.long, cap);
-        full = λ is. omega (arith, mine_fits.spent is, cap);
+        few = omega (arith, k.long, nodes);
+        full = λ is. omega (arith, mine_fits.spent is, nodes);
       }
 
   -- as one with weight does

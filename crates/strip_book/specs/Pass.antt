@@ -49,7 +49,7 @@ pub record IsPassOf (book : Book) (pass : BookPass) : Type 0 where
   pub some_weight : 0 < (known pass).weight
   pub idle : (known pass).writing ≡ false
   pub justified : AreJustified (search_rules (known pass).search) (known pass).lines
-  pub few : length (known pass).lines ≤ (known pass).search.cap
+  pub few : length (known pass).lines ≤ (known pass).search.nodes
   pub entries : All (IsEntry (known pass).search) (known pass).entries
 
 -- a seat of these words that holds no slot and has weight
@@ -76,7 +76,7 @@ pub record IsCopyOf (table : TableData) (copy : BookCopy) : Type 0 where
   pub no_weight : copy.seat.me.0.weight ≡ 0
   pub idle : copy.seat.me.0.writing ≡ false
   pub justified : AreJustified (search_rules table.search) (known_lines copy)
-  pub few : length (known_lines copy) ≤ table.search.cap
+  pub few : length (known_lines copy) ≤ table.search.nodes
 
 -- the words are new, and this is their one pass
 pub record IsFirst (search : SearchData) (book : Book) (pass : BookPass) : Type 0 where
@@ -139,7 +139,7 @@ pub record ViewIsSpent (before : ViewData) (count : ℕ) (after : ViewData) : Ty
   pub stays : KeepsView before after
   pub entries : after.entries ≡ before.entries
   pub counted : length after.lines ≡ count
-  pub full : count ≡ before.search.cap
+  pub full : count ≡ before.search.nodes
 
 -- enlist
 abbrev pub Enlists : ViewData → ℕ → PathData → ℕ → Listed → ViewData → Type 0
@@ -181,7 +181,7 @@ pub record Hears (before : ViewData) (others : List LineData) (after : ViewData)
 -- of the pass's entries
 pub record AreAll (view : ViewData) (lines : List LineData) : Type 0 where
   pub justified : AreJustified (search_rules view.search) lines
-  pub few : length lines ≤ view.search.cap
+  pub few : length lines ≤ view.search.nodes
   pub grow : GrowTo view.lines lines
   pub numbers : numbers_of view ≡ length lines
   pub sets : (set : ℕ) → lines_of set lines ≤ candidates_of view.search set view

@@ -79,7 +79,7 @@ pub record Fits (search : SearchData) (words : List ℕ) (lines : List Line) (vi
   pub entries : All (IsEntry search) view.entries
   pub writes : view.writing ≡ true → IsWriting words lines view
   pub light : view.weight ≡ 0 → (view.writing ≡ false) × (view.entries ≡ [])
-  pub spent : view.spent ≡ true → length lines ≡ search.cap
+  pub spent : view.spent ≡ true → length lines ≡ search.nodes
 
 -- a line stands in its words
 abbrev pub Stands : List ℕ → Line → ℕ → Type 0
@@ -99,21 +99,21 @@ IsWritten views number = (id : ℕ) × (view : ViewData) × (get_elem? views id 
 pub record IsBook (search : SearchData) (state : State Path ViewData) : Type 0 where
   pub lines : List Line
   pub count : ℕ
-  pub words : length state.words ≡ word_count search.cap
+  pub words : length state.words ≡ word_count search.nodes
   pub head : slice_index state.words count_word ≡ count
   pub film : IsFilm search.film
-  pub long : length lines ≡ min count search.cap
+  pub long : length lines ≡ min count search.nodes
   pub justified : AreJustified (search_rules search) lines
   pub fits : (id : ℕ) (view : ViewData) → get_elem? state.views id ≡ some view → Fits search state.words lines view
   pub places : (number : ℕ) → number < length lines → Stands state.words (line_at lines number) number
       ⊎ IsWritten state.views number
-  pub fresh : (number : ℕ) → length lines ≤ number → number < search.cap
+  pub fresh : (number : ℕ) → length lines ≤ number → number < search.nodes
       → slice_index state.words (bound_word number) ≡ 0
   pub whole : total weight_of state.views ≡ full_weight
   pub numbers : total numbers_of state.views ≡ length lines
   pub sets : (set : ℕ) → lines_of set lines ≤ total (candidates_of search set) state.views
-  pub few : count ≤ search.cap + total spent_weight state.views
-  pub small : search.cap ≤ 16777216
+  pub few : count ≤ search.nodes + total spent_weight state.views
+  pub small : search.nodes ≤ 16777216
 
 -- nothing announced
 abbrev pub no_draft : DraftData
@@ -136,7 +136,7 @@ first_view search = record {
 
 -- a search of nothing
 abbrev pub no_search : SearchData
-no_search = record { film = record { casts = []; days = []; rates = []; holds = []; pairs = [] }; kind = Plain; cap = 0; start = 0; tasks = [] }
+no_search = record { film = record { casts = []; days = []; rates = []; holds = []; pairs = [] }; kind = Plain; nodes = 0; start = 0; tasks = [] }
 
 -- what a pass is left with that another took in
 abbrev pub spent_view : ViewData

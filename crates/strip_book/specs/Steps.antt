@@ -17,8 +17,8 @@ pub record HasLearnt (before : ViewData) (lines : List Line) : Type 0 where
   pub knew : GrowTo before.lines lines
   pub heard : GrowTo before.heard lines
   pub justified : AreJustified (search_rules before.search) lines
-  pub few : length lines ≤ before.search.cap
-  pub full : before.spent ≡ true → length lines ≡ before.search.cap
+  pub few : length lines ≤ before.search.nodes
+  pub full : before.spent ≡ true → length lines ≡ before.search.nodes
 
 -- a path is announced as one of a part
 abbrev pub about : ViewData → ℕ → PathData → ViewData
@@ -56,12 +56,12 @@ pub record HasMade (before : ViewData) (found : ℕ) (after : ViewData) : Type 0
 pub record HasSpent (before after : ViewData) : Type 0 where
   pub lines : List Line
   pub learnt : HasLearnt before lines
-  pub count : length lines ≡ before.search.cap
+  pub count : length lines ≡ before.search.nodes
   pub only : after ≡ record before { lines = lines; heard = []; spent = true }
 
 pub record HasDrawn (before : ViewData) (found : ℕ) (after : ViewData) : Type 0 where
-  pub made : found < before.search.cap → HasMade before found after
-  pub none_left : before.search.cap ≤ found → HasSpent before after
+  pub made : found < before.search.nodes → HasMade before found after
+  pub none_left : before.search.nodes ≤ found → HasSpent before after
 
 -- the bound of the line that is written stands in its word; and so does its set, which ends the writing
 abbrev pub half_written : ViewData → ViewData

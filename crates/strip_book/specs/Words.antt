@@ -23,4 +23,4 @@ bound_word line = 1057 + 2 * line
 
 -- how many words a book of so many lines has
 abbrev pub word_count : ℕ → ℕ
-word_count cap = 1056 + 2 * cap
+word_count nodes = 1056 + 2 * nodes

@@ -15,10 +15,10 @@ use strip_film::Path;
 #[derive(Drop)]
 pub struct Book {
     pub(crate) table: Table<Path, View, Search, Rule, Global>,
-    pub(crate) cap: u32,
-    pub ghost words: { table.shared.table_id.words ≡ word_count cap },
+    pub(crate) nodes: u32,
+    pub ghost words: { table.shared.table_id.words ≡ word_count nodes },
     pub ghost no_slots: { table.shared.table_id.slots ≡ 0 },
-    pub ghost counts: { cap ≡ table.shared.key.cap },
-    pub ghost small: { cap ≤ 16777216 },
+    pub ghost counts: { nodes ≡ table.shared.key.nodes },
+    pub ghost small: { nodes ≤ 16777216 },
     pub ghost film: { IsFilm table.shared.key.film },
 }

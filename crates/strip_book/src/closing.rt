@@ -22,10 +22,10 @@ impl Book {
         requires full { (known pass).weight ≡ full_weight }
         ensures { IfOk result (λ lines. AreAll (known pass) lines.items) }
     {
-        let Book { table, cap } = self;
+        let Book { table, nodes } = self;
         let BookPass { seat, .. } = pass;
         let closed = table.close_with(seat);
-        let count = closed.word(COUNT).min(u64::from(cap)) as u32;
+        let count = closed.word(COUNT).min(u64::from(nodes)) as u32;
         let lines = read_lines(alloc, &closed, count);
         closed.free();
         lines

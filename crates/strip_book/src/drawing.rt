@@ -38,12 +38,12 @@ impl BookPass {
     {
         if self.is_spent {
             book.table.shared.load::<See>(&mut self.seat, QUIET);
-            return Listed::Spent { lines: book.cap };
+            return Listed::Spent { lines: book.nodes };
         }
         let number = draw(book, &mut self.seat, self.desk, part, path);
-        if number >= u64::from(book.cap) {
+        if number >= u64::from(book.nodes) {
             self.is_spent = true;
-            return Listed::Spent { lines: book.cap };
+            return Listed::Spent { lines: book.nodes };
         }
         let line = number as u32;
         write(book, &mut self.seat, line, path, bound);
@@ -72,7 +72,7 @@ fn draw(book: &Book, seat: &mut Seat<Path, View>, desk: u32, part: u32, path: &P
 /// Writes the words of a line whose number was drawn, the bound first.
 fn write(book: &Book, seat: &mut Seat<Path, View>, line: u32, path: &Path, bound: u64)
     requires seat { IsSeatOf book.now seat.old }
-    requires within { line < book.now.cap }
+    requires within { line < book.now.nodes }
     requires writes { Writes seat.old.me.0 line (path_data path.now) bound }
     ensures seat { IsSeatOf book.now seat.new }
     ensures written { seat.new.me.0 ≡ written (half_written seat.old.me.0) }

@@ -15,7 +15,7 @@ use strip_model::Kind;
 
 impl Book {
     /// Makes the book of a search of the film with static bounds of this kind, and its first pass. Its paths belong to
-    /// these tasks, and are below the start path's pay `start`, in units of money. It holds at most `cap` lines, up to
+    /// these tasks, and are below the start path's pay `start`, in units of money. It holds at most `nodes` lines, up to
     /// 16,777,216. The pass has the full weight, 2^32, and the first desk. It fails only if memory runs out.
     pub fn new(
         alloc: Global,
@@ -23,13 +23,13 @@ impl Book {
         kind: Kind,
         start: u64,
         tasks: &[Path],
-        cap: u32,
+        nodes: u32,
     ) -> Result<(Book, BookPass), Memory>
-        requires { cap ≤ 16777216 }
+        requires { nodes ≤ 16777216 }
         ensures { IfOk result (λ made. IsFirst (record {
           film = film.now;
           kind = kind;
-          cap = cap;
+          nodes = nodes;
           start = start;
           tasks = map path_data tasks.now;
         }) made.0 made.1) }
@@ -39,17 +39,17 @@ impl Book {
         let search = Search {
             film: film.copy()?,
             kind,
-            cap,
+            nodes,
             start,
             tasks: tasks.to_vec(alloc)?,
         };
-        let words = vec![in alloc; 0u64; word_count(cap)]?;
+        let words = vec![in alloc; 0u64; word_count(nodes)]?;
         let (table, seat) = Table::of_words(alloc, &words, &search)?;
         let pass = BookPass {
             seat,
             desk: 0,
             is_spent: false,
         };
-        Ok((Book { table, cap }, pass))
+        Ok((Book { table, nodes }, pass))
     }
 }

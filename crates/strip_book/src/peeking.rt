@@ -8,16 +8,16 @@ use crate::words::COUNT;
 impl Book {
     /// Returns the number of lines drawn so far. It needs no pass, and gives a pass no knowledge.
     pub fn peek(&self) -> u32
-        ensures { result ≤ (search_of self.now).cap }
+        ensures { result ≤ (search_of self.now).nodes }
     {
         let drawn = self.table.shared.peek(COUNT);
-        drawn.min(u64::from(self.cap)) as u32
+        drawn.min(u64::from(self.nodes)) as u32
     }
 
     /// Returns the line budget.
-    pub fn cap(&self) -> u32
-        ensures { result ≡ (search_of self.now).cap }
+    pub fn nodes(&self) -> u32
+        ensures { result ≡ (search_of self.now).nodes }
     {
-        self.cap
+        self.nodes
     }
 }

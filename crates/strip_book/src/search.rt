@@ -9,7 +9,7 @@ use strip_model::Kind;
 pub struct Search {
     pub film: Film,
     pub kind: Kind,
-    pub cap: u32,
+    pub nodes: u32,
     pub start: u64,
     pub tasks: Vec<Path>,
 }
@@ -21,5 +21,5 @@ impl Model for Search {
 
     ghost Value = { SearchData };
 
-    ghost view = { λ s. record { film = s.film; kind = s.kind; cap = s.cap; start = s.start; tasks = map path_data s.tasks.items } };
+    ghost view = { λ s. record { film = s.film; kind = s.kind; nodes = s.nodes; start = s.start; tasks = map path_data s.tasks.items } };
 }

@@ -30,9 +30,9 @@ pub(crate) fn bound_word(line: u32) -> usize
     1057 + 2 * line as usize
 }
 
-/// Returns the number of words of a book of `cap` lines.
-pub(crate) fn word_count(cap: u32) -> usize
-    ensures { result ≡ word_count cap }
+/// Returns the number of words of a book of `nodes` lines.
+pub(crate) fn word_count(nodes: u32) -> usize
+    ensures { result ≡ word_count nodes }
 {
-    1056 + 2 * cap as usize
+    1056 + 2 * nodes as usize
 }

@@ -42,7 +42,7 @@ hub_is table least other_least book other_book source other_source told other_to
 
 -- what a hand has found doesn't depend on its last probe and its last note
 pub unasked : (source : Source) (told : LeastView) (lines : ViewData) (asked : Option Asked) (noted : Option Known) (front : FrontData) (found : List ℕ) (spent : Bool)
-    → length lines.lines ≤ lines.search.cap → HasWorked (hand_of source told lines asked noted) front found spent → HasWorked (hand_of source told lines None None) front found spent
+    → length lines.lines ≤ lines.search.nodes → HasWorked (hand_of source told lines asked noted) front found spent → HasWorked (hand_of source told lines None None) front found spent
 unasked source told lines asked noted front found spent few was =
     moved_same (hand_of source told lines asked noted) (hand_of source told lines None None)
     (record { search = refl; told = omega arith; grow = grow_self lines.lines; records = λ part entry is. is }) front found spent was (λ _. few) (λ part. refl)

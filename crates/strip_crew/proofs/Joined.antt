@@ -134,7 +134,7 @@ module _ (absent : (entries : List EntryData) (part : ℕ) → count part (parts
     | inr none ↦ absurd (let never : None ≡ Some kept = sym (absent other.entries part (omega (arith, none))) ∙ is in cc)
   ]
 
-  pub takes_over : length both.lines ≤ both.search.cap
+  pub takes_over : length both.lines ≤ both.search.nodes
       → TakesOver (hand_of source told lines None None) (hand_of other_source other_told other None None) (hand_of both_source both_told both None None)
   takes_over few = record {
     first = record {

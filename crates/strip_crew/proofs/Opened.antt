@@ -20,13 +20,13 @@ use Rattle.strip_crew.specs.declared.source.Source.TheVariants.{Counter}
 use Rattle.strip_crew.specs.Hub.{GoTogether, IsSearch}
 use Rattle.strip_crew.specs.Race.{MayBegin}
 
-module _ (kind : Kind) (film : FilmData) (start : PathData) (cap : ℕ) (tasks : List PathData) (front : FrontData)
+module _ (kind : Kind) (film : FilmData) (start : PathData) (nodes : ℕ) (tasks : List PathData) (front : FrontData)
     (least : Least) (told : LeastPass) (book : Book) (lines : BookPass) where
   abbrev search : SearchData
-  search = record { film = film; kind = kind; cap = cap; start = start.paid; tasks = tasks }
+  search = record { film = film; kind = kind; nodes = nodes; start = start.paid; tasks = tasks }
 
   pub opened : IsFirstLeast film start (suc (length tasks)) least told → IsFirstBook search book lines → IsFilm film → AreStarts search
-      → tasks ≡ front.tasks → 1 ≤ cap → IsEmptyFront (rules_of kind film) front
+      → tasks ≡ front.tasks → 1 ≤ nodes → IsEmptyFront (rules_of kind film) front
       → MayBegin kind film front least book (record { told = told; lines = lines; source = Counter })
   opened first_least first_book is_film starts by_tasks some empty = record {
     are = record {
@@ -48,7 +48,7 @@ module _ (kind : Kind) (film : FilmData) (start : PathData) (cap : ℕ) (tasks :
     full = record { told = ap (λ (v : LeastView). v.weight) first_least.knows; lines = ap (λ (v : ViewData). v.weight) first_book.knows; source = tt };
     counter = refl;
     search = subst (λ (v : ViewData). GoesBy kind film v.search) (sym first_book.knows) (refl, refl);
-    some_lines = subst (λ (v : ViewData). 1 ≤ v.search.cap) (sym first_book.knows) some;
+    some_lines = subst (λ (v : ViewData). 1 ≤ v.search.nodes) (sym first_book.knows) some;
     unclaimed = ap (λ (v : ViewData). v.entries) first_book.knows;
     unended = ap (λ (v : LeastView). v.ended) first_least.knows;
     unfilled = record {

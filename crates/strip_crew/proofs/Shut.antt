@@ -36,9 +36,9 @@ where_ended (Ok ended) leads is = leads ended is
 where_ended (Err memory) leads is = tt
 
 -- a search that had room for twice as many lines as there are orders had as much room as it could use
-pub ended_within : (kind : Kind) (film : FilmData) (start : PathData) (cap room most : ℕ) (ended : EndedData) → room ≤ cap
-    → (room ≡ cap) ⊎ (room ≡ 2 * most) → candidate_count (rules_of kind film) start.paid ≤ 2 * most → IsEnded kind film start room ended → IsEnded kind film start cap ended
-ended_within kind film start cap room most ended within enough orders is = record {
+pub ended_within : (kind : Kind) (film : FilmData) (start : PathData) (nodes room most : ℕ) (ended : EndedData) → room ≤ nodes
+    → (room ≡ nodes) ⊎ (room ≡ 2 * most) → candidate_count (rules_of kind film) start.paid ≤ 2 * most → IsEnded kind film start room ended → IsEnded kind film start nodes ended
+ended_within kind film start nodes room most ended within enough orders is = record {
   order = is.order;
   cost = is.cost;
   no_dearer = is.no_dearer;

@@ -29,7 +29,7 @@ pub record MayBegin (kind : Kind) (film : FilmData) (front : FrontData) (least :
   pub are : ArePassesOf least book passes
   pub full : Weigh full_weight passes
   pub search : IsSearchOf kind film (shown passes)
-  pub some_lines : 1 ≤ (shown passes).search.cap
+  pub some_lines : 1 ≤ (shown passes).search.nodes
   pub unclaimed : (known passes.lines).entries ≡ []
   pub counter : passes.source ≡ Counter
   pub unended : (known_least passes.told).ended ≡ false
@@ -39,7 +39,7 @@ pub record MayBegin (kind : Kind) (film : FilmData) (front : FrontData) (least :
 pub record IsOpening (kind : Kind) (film : FilmData) (paid room : ℕ) (opening : Opening) : Type 0 where
   pub may : MayBegin kind film (front_data opening.front) opening.least opening.book opening.passes
   pub start : (shown opening.passes).search.start ≡ paid
-  pub cap : (shown opening.passes).search.cap ≡ room
+  pub nodes : (shown opening.passes).search.nodes ≡ room
 
 -- the front was claimed and no other part, and the counter has all others
 pub record HasOnlyFront (passes : HubParts) : Type 0 where

@@ -39,8 +39,8 @@ impl<'a, R: Wait, N: Named> Hand for Hub<'a, R, N> {
     fn tally(&self) -> Tally {
         let cost = self.least.peek();
         let lines = self.book.peek();
-        let most = self.book.cap();
-        Tally { cost, lines, most }
+        let nodes = self.book.nodes();
+        Tally { cost, lines, nodes }
     }
 
     fn look(&mut self) -> u64 {

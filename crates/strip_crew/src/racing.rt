@@ -76,35 +76,35 @@ pub fn race<R: Threads + Wait + Sync, F: Fn(u64, u64) -> u64 + Sync, G: Gate>(
     requires start { IsComplete bounds.now.film.now (path_data start.now) }
     requires limits { AreLimits limits }
     ensures memo { IsMemo bounds.now.kind bounds.now.film.now memo.new }
-    ensures ended { IfOk result (λ ended. IsEnded bounds.now.kind bounds.now.film.now (path_data start.now) limits.cap
+    ensures ended { IfOk result (λ ended. IsEnded bounds.now.kind bounds.now.film.now (path_data start.now) limits.nodes
         (ended_data ended)) }
 {
     paths_are_few();
     bounds.film().keeps_limits();
-    let room = room_for(bounds.film().scenes(), limits.cap);
+    let room = room_for(bounds.film().scenes(), limits.nodes);
     let most = task_scenes(bounds.film().scenes(), limits.workers);
     let opening = open(alloc, bounds, start, room, most)?;
     in_race::<Brand, R, F, G>(rt, alloc, bounds, memo, opening, limits, steal, gate)
 }
 
-/// Returns the greatest possible number of lines: the cap, or twice the number of orders of the scenes if that is less.
+/// Returns the greatest possible number of lines: the nodes, or twice the number of orders of the scenes if that is less.
 /// No search makes more lines.
-fn room_for(scenes: usize, cap: u32) -> u32
+fn room_for(scenes: usize, nodes: u32) -> u32
     requires scenes { scenes ≤ 64 }
-    requires some { 1 ≤ cap }
-    requires few { cap ≤ 16777216 }
+    requires some { 1 ≤ nodes }
+    requires few { nodes ≤ 16777216 }
     ensures some { 1 ≤ result }
-    ensures within { result ≤ cap }
-    ensures enough { (result ≡ cap) ⊎ (result ≡ 2 * factorial scenes) }
+    ensures within { result ≤ nodes }
+    ensures enough { (result ≡ nodes) ⊎ (result ≡ 2 * factorial scenes) }
 {
     let mut orders = 1u64;
     for scene in 0..scenes as u64 {
-        if orders > u64::from(cap) {
-            return cap;
+        if orders > u64::from(nodes) {
+            return nodes;
         }
         orders *= scene + 1;
     }
-    u64::from(cap).min(orders.saturating_mul(2)) as u32
+    u64::from(nodes).min(orders.saturating_mul(2)) as u32
 }
 
 /// Returns the number of scenes of a task: three; or four for more than eight workers, if there are at most 65,536 sets
@@ -367,7 +367,7 @@ fn end<N: Named, F: Fn(u64, u64) -> u64>(
     requires closed { (before : HubParts)
         × HasClosed bounds.now.kind bounds.now.film.now tables.least tables.book before passes number spent }
     ensures { IfOk result (λ ended. EndsFrom bounds.now.kind bounds.now.film.now (shown passes).search.start
-        (shown passes).search.cap (ended_data ended)) }
+        (shown passes).search.nodes (ended_data ended)) }
 {
     lines_of_entries_are_counted();
     let Tables { book, .. } = tables;

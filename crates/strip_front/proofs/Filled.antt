@@ -55,7 +55,7 @@ none_counted (x ∷ xs) = none_counted xs
 
 -- where a hand knows no lines but of paths that it enlisted in the front, and they are as many as there may be, the empty path has one
 pub root_own : (hand : HandData) (cursor : CursorData) (front : FrontData) → IsHand hand → StandsAt hand cursor → cursor.task ≡ 0 → IsSome (root_of front) ↔ IsSome cursor.last
-    → IsCutShort hand cursor → 1 ≤ hand.search.cap → length hand.lines ≤ count_in hand 0 → IsSome (root_of front)
+    → IsCutShort hand cursor → 1 ≤ hand.search.nodes → length hand.lines ≤ count_in hand 0 → IsSome (root_of front)
 root_own hand cursor front is stands task both cut some few = by_last cursor.last refl
   where
     record_at : hand.records 0 ≡ Some (record { last = cursor.last; number = stands.0 })

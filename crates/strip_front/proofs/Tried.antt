@@ -41,7 +41,7 @@ pub none_isnt : {X : Type 0} (o : Option X) → o ≡ None → IsSome o → ⊥
 none_isnt o none some = (let e : is_some o ≡ false = ap is_some none in cc)
 
 -- the budget is spent where a path may be enlisted, and there are as many lines as there may be
-cut_at : (hand : HandData) (cursor : CursorData) (path : PathData) → length hand.lines ≡ hand.search.cap → IsOpen (search_rules hand.search) path
+cut_at : (hand : HandData) (cursor : CursorData) (path : PathData) → length hand.lines ≡ hand.search.nodes → IsOpen (search_rules hand.search) path
     → lies_in (depth_of hand.search) hand.search.tasks cursor.task path ≡ true → ComesAfter (search_rules hand.search) cursor.last path → path.rest ≢ 0
     → path.paid + (search_rules hand.search).bound path.rest < hand.search.start → IsCutShort hand cursor
 cut_at hand cursor path full is_open lies later some below = record { full = full; later = (path, is_open, lies, later, some, below) }
@@ -129,8 +129,8 @@ module _ (before : HandData) (cursor : CursorData) (after : HandData) (cursor_af
   -- a line was made of it
   module _ (line : ℕ) (is : IsHand after) (some : 0 < place) (here : slice_index_or lines place None ≡ Some line)
       (tries : Tries before cursor (path_at front place) (Ok (Line line)) after cursor_after) where
-    few : length after.lines ≤ before.search.cap
-    few = omega (arith, is.few, ap (λ (h : HandData). h.search.cap) tries.tried.only)
+    few : length after.lines ≤ before.search.nodes
+    few = omega (arith, is.few, ap (λ (h : HandData). h.search.nodes) tries.tried.only)
 
     root_still : IsSome (root_of new)
     root_still = subst IsSome (sym (others 0 (λ zero_is. omega (arith, some, zero_is)))) tried.root

@@ -42,7 +42,7 @@ pub record GoesDown (before after : HandData) (cursor_after : CursorData) : Type
 -- the budget was spent: there are as many lines as there may be, and an open path of the cursor's part that comes after
 -- its last one, with something remaining, is below what the search started with
 pub record IsCutShort (hand : HandData) (cursor : CursorData) : Type 0 where
-  pub full : length hand.lines ≡ hand.search.cap
+  pub full : length hand.lines ≡ hand.search.nodes
   pub later : (path : PathData) × IsOpen (search_rules hand.search) path
       × (lies_in (depth_of hand.search) hand.search.tasks cursor.task path ≡ true)
       × ComesAfter (search_rules hand.search) cursor.last path × (path.rest ≢ 0)
@@ -69,7 +69,7 @@ pub record IsDown (hand : HandData) (cursor : CursorData) (front : FrontData) (i
   pub spent : is_spent ≡ true → IsCutShort hand cursor
   -- and then the empty path has a line, where at least one may be made and the hand knows none but those of its own
   -- paths here
-  pub own : is_spent ≡ true → 1 ≤ hand.search.cap → length hand.lines ≤ count_in hand 0 → IsSome (root_of front)
+  pub own : is_spent ≡ true → 1 ≤ hand.search.nodes → length hand.lines ≤ count_in hand 0 → IsSome (root_of front)
 
 -- nothing changed but that lines may have been learnt or raised, and memory refused
 pub record Learns (before after : HandData) : Type 0 where

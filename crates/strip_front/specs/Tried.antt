@@ -50,7 +50,7 @@ TriesFrom looked cursor path (Ok Passed) after cursor_after = (after ≡ looked)
 TriesFrom looked cursor path (Ok (Line line)) after cursor_after =
     MakesLine looked cursor path ((search_rules looked.search).bound path.rest) line after cursor_after
 TriesFrom looked cursor path (Ok Spent) after cursor_after =
-    IsSpent looked looked.search.cap after × (cursor_after ≡ cursor) × (reach looked path < looked.told)
+    IsSpent looked looked.search.nodes after × (cursor_after ≡ cursor) × (reach looked path < looked.told)
 TriesFrom looked cursor path (Err _) after cursor_after = Refuses looked after × (cursor_after ≡ cursor)
 
 -- the hand looked, and was told no more than before

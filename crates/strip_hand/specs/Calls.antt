@@ -75,7 +75,7 @@ pub record IsSpent (before : HandData) (count : ℕ) (after : HandData) : Type 0
   pub only : after ≡ record before { lines = after.lines }
   pub grow : GrowTo before.lines after.lines
   pub counted : length after.lines ≡ count
-  pub full : count ≡ before.search.cap
+  pub full : count ≡ before.search.nodes
 
 -- enlist
 abbrev pub Enlists : HandData → CursorData → PathData → ℕ → Result Listed Memory → HandData → CursorData → Type 0

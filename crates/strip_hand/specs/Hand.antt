@@ -71,6 +71,6 @@ pub record IsHand (hand : HandData) : Type 0 where
   pub film : IsFilm hand.search.film
   pub tasks : AreStarts hand.search
   pub told : hand.told ≤ hand.search.start
-  pub few : length hand.lines ≤ hand.search.cap
+  pub few : length hand.lines ≤ hand.search.nodes
   pub lines : AreJustified (search_rules hand.search) hand.lines
   pub records : (part : ℕ) (entry : RecordData) → hand.records part ≡ Some entry → IsRecord hand.search part entry

@@ -13,7 +13,7 @@ use Rattle.strip_lines.specs.Parts.{no_task}
 pub record SearchData : Type 0 where
   pub film : FilmData
   pub kind : Kind
-  pub cap : ℕ
+  pub nodes : ℕ
   pub start : ℕ
   pub tasks : List PathData
 

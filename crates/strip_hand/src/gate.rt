@@ -3,13 +3,13 @@
 use strip_model::Kind;
 
 /// The state of a search: the best order's cost and the bound of all orders proved so far, if there is one, in units of
-/// money. There are `lines` lines, out of at most `most`.
+/// money. There are `lines` lines, out of at most `nodes`.
 #[derive(Clone, Copy, Debug)]
 pub struct Standing {
     pub cost: u64,
     pub bound: Option<u64>,
     pub lines: u64,
-    pub most: u32,
+    pub nodes: u32,
 }
 
 /// A limit that a search by layers reached: its number, counted in whole steps, the number of steps, and the state of

@@ -34,8 +34,8 @@ pub trait Hand {
     /// Returns the progress of the search. Other workers may have changed it meanwhile.
     fn tally(&self) -> Tally
         requires { is_sound self.now }
-        ensures lines { result.lines ≤ result.most }
-        ensures most { result.most ≡ (shows self.now).search.cap };
+        ensures lines { result.lines ≤ result.nodes }
+        ensures nodes { result.nodes ≡ (shows self.now).search.nodes };
 
     /// Returns the incumbent: the least cost that any worker offered, in units of money.
     fn look(&mut self) -> u64

@@ -6,5 +6,5 @@
 pub struct Tally {
     pub cost: u64,
     pub lines: u32,
-    pub most: u32,
+    pub nodes: u32,
 }

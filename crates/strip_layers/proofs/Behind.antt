@@ -107,7 +107,7 @@ taken_back before now after count extends unspent count_is after_is = after_is �
   lines = (ap (take count) extends.lines ∙ ap (λ (n : ℕ). take n (before.lines ++ extends.more)) count_is ∙ take-append_seam before.lines extends.more) i;
   best = extends.best i;
   goal = extends.goal i;
-  cap = extends.cap i;
+  nodes = extends.nodes i;
   spent = sym unspent i;
 })
 

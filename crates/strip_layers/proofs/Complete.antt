@@ -32,7 +32,7 @@ met before after path kept = elim (cases_lt path.paid before.best.paid) [
           best = complete;
           no_dearer = omega (arith, less, is.no_dearer);
         };
-        rises = record { goal = refl; cap = refl; grow = grow_self before.lines; cheaper = omega (arith, less); spent = λ spent. spent };
+        rises = record { goal = refl; nodes = refl; grow = grow_self before.lines; cheaper = omega (arith, less); spent = λ spent. spent };
         cheaper = omega arith;
       }))
   | inr more ↦ (let same : after ≡ before

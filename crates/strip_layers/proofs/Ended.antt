@@ -56,8 +56,8 @@ whole_known rules search is =
     omega (arith, there, is.whole.ahead)
 
 -- a search that has ended
-module _ (kind : Kind) (film : FilmData) (start : PathData) (cap : ℕ) (search : SearchData) (layered : LayeredData) (is_film : IsFilm film)
-    (is : IsSearch (rules_of kind film) search) (goal_is : search.goal ≡ start.paid) (cap_is : search.cap ≡ cap) (ended : HasEnded search)
+module _ (kind : Kind) (film : FilmData) (start : PathData) (nodes : ℕ) (search : SearchData) (layered : LayeredData) (is_film : IsFilm film)
+    (is : IsSearch (rules_of kind film) search) (goal_is : search.goal ≡ start.paid) (cap_is : search.nodes ≡ nodes) (ended : HasEnded search)
     (is_end : IsEnd search layered) where
   abbrev rules : Rules
   rules = rules_of kind film
@@ -93,8 +93,8 @@ module _ (kind : Kind) (film : FilmData) (start : PathData) (cap : ℕ) (search 
   abbrev same : LayeredData
   same = record layered { lines = search.lines; best = search.best }
 
-  pub layered_is : KeptAreReady film → StepsPay film → IsLayered kind film start cap layered
-  layered_is each pays = subst (IsLayered kind film start cap) (λ i. record layered { lines = lines_are i; best = sym is_end.best i }) (record {
+  pub layered_is : KeptAreReady film → StepsPay film → IsLayered kind film start nodes layered
+  layered_is each pays = subst (IsLayered kind film start nodes) (λ i. record layered { lines = lines_are i; best = sym is_end.best i }) (record {
     best = is.best;
     no_dearer = omega (arith, is.no_dearer, goal_is);
     justified = is.justified;
@@ -116,13 +116,13 @@ module _ (kind : Kind) (film : FilmData) (start : PathData) (cap : ℕ) (search 
   })
 
 -- the static bound of all scenes is what the start pays already
-module _ (kind : Kind) (film : FilmData) (start : PathData) (cap : ℕ) (is_film : IsFilm film) (complete : IsComplete film start)
+module _ (kind : Kind) (film : FilmData) (start : PathData) (nodes : ℕ) (is_film : IsFilm film) (complete : IsComplete film start)
     (reaches : start.paid ≤ bound kind film (all_scenes film)) where
   static_finish : IsAtMostFinish film (all_scenes film) (bound kind film (all_scenes film))
   static_finish = bounds_finish kind film is_film (all_scenes film) (LiesBelow-full (length film.casts))
 
   pub nothing_is : KeptAreReady film → StepsPay film
-      → IsLayered kind film start cap (record { lines = []; bound = bound kind film (all_scenes film); best = start; is_spent = false })
+      → IsLayered kind film start nodes (record { lines = []; bound = bound kind film (all_scenes film); best = start; is_spent = false })
   nothing_is each pays = record {
     best = complete;
     no_dearer = omega arith;

@@ -10,7 +10,7 @@ use Rattle.strip_layers.specs.Search.{Extends, HasLine, HasWhole, Rises, SearchD
 pub rises_self : (search : SearchData) → Rises search search
 rises_self search = record {
   goal = refl;
-  cap = refl;
+  nodes = refl;
   grow = grow_self search.lines;
   cheaper = omega arith;
   spent = λ is. is;
@@ -19,7 +19,7 @@ rises_self search = record {
 pub rises_trans : (before now after : SearchData) → Rises before now → Rises now after → Rises before after
 rises_trans before now after first second = record {
   goal = second.goal ∙ first.goal;
-  cap = second.cap ∙ first.cap;
+  nodes = second.nodes ∙ first.nodes;
   grow = grow_trans before.lines now.lines after.lines first.grow second.grow;
   cheaper = omega (arith, first.cheaper, second.cheaper);
   spent = λ is. second.spent (first.spent is);
@@ -29,7 +29,7 @@ pub extends_self : (search : SearchData) → Extends search search
 extends_self search = record {
   best = refl;
   goal = refl;
-  cap = refl;
+  nodes = refl;
   more = [];
   lines = sym (append-nil search.lines);
   spent = λ is. is;
@@ -39,7 +39,7 @@ pub extends_trans : (before now after : SearchData) → Extends before now → E
 extends_trans before now after first second = record {
   best = second.best ∙ first.best;
   goal = second.goal ∙ first.goal;
-  cap = second.cap ∙ first.cap;
+  nodes = second.nodes ∙ first.nodes;
   more = first.more ++ second.more;
   lines = second.lines ∙ ap (λ (lines : List Line). lines ++ second.more) first.lines ∙ append_assoc before.lines first.more second.more;
   spent = λ is. second.spent (first.spent is);
@@ -57,7 +57,7 @@ extends_grow before after extends = subst (GrowTo before.lines) (sym extends.lin
 pub extends_rises : (before after : SearchData) → Extends before after → Rises before after
 extends_rises before after extends = record {
   goal = extends.goal;
-  cap = extends.cap;
+  nodes = extends.nodes;
   grow = extends_grow before after extends;
   cheaper = (let same : after.best.paid ≡ before.best.paid = ap (λ p. p.paid) extends.best in omega (arith, same));
   spent = extends.spent;

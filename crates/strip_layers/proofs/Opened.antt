@@ -65,14 +65,14 @@ module _ (rules : Rules) (before : SearchData) (path : PathData) (bound : ℕ) (
   left_then : All (λ (l : Line). IsLeft rules before.goal l.set) more.lines
   left_then = All-push (λ (l : Line). IsLeft rules before.goal l.set) before.lines line is.left left_here
 
-  is_full : before.cap ≤ length before.lines → IsFull rules over
+  is_full : before.nodes ≤ length before.lines → IsFull rules over
   is_full full = record {
     full = omega (arith, full, is.few);
     fewer = (let few : length more.lines ≤ candidate_count rules before.goal = apart_few rules is_film before.goal more.lines apart_then left_then in
         omega (arith, few, full, length-append before.lines (line ∷ [])));
   }
 
-  search_over : before.cap ≤ length before.lines → IsSearch rules over
+  search_over : before.nodes ≤ length before.lines → IsSearch rules over
   search_over full = record {
     justified = is.justified;
     apart = is.apart;
@@ -84,13 +84,13 @@ module _ (rules : Rules) (before : SearchData) (path : PathData) (bound : ℕ) (
     no_dearer = is.no_dearer;
   }
 
-  search_more : length before.lines < before.cap → IsSearch rules more
+  search_more : length before.lines < before.nodes → IsSearch rules more
   search_more room = record {
     justified = justified-added rules before.lines line is.justified (rest_lies rules.film path is_open.0) (omega (arith, static));
     apart = apart_then;
     left = left_then;
     few = omega (arith, room, length-append before.lines (line ∷ []));
-    spent = λ spent. absurd (let whole : length before.lines ≡ before.cap = (is.spent spent).full in omega (arith, room, whole));
+    spent = λ spent. absurd (let whole : length before.lines ≡ before.nodes = (is.spent spent).full in omega (arith, room, whole));
     whole = whole_stays rules before more (added-grows before.lines line) is.whole;
     best = is.best;
     no_dearer = is.no_dearer;
@@ -105,13 +105,13 @@ module _ (rules : Rules) (before : SearchData) (path : PathData) (bound : ℕ) (
   pub added_opened : (place : Option ℕ) (after : SearchData) → Adds before line place after → HasOpened rules before path.rest place after
   added_opened None after (full, over_is) = subst (HasOpened rules before path.rest None) (sym over_is) (record {
     search = search_over full;
-    extends = record { best = refl; goal = refl; cap = refl; more = []; lines = sym (append-nil before.lines); spent = λ _. refl };
+    extends = record { best = refl; goal = refl; nodes = refl; more = []; lines = sym (append-nil before.lines); spent = λ _. refl };
     closed = λ _. refl;
     line = λ there same. absurd (let e : None ≡ Some there = same in cc);
   })
   added_opened (Some place) after (last, room, more_is) = subst (HasOpened rules before path.rest (Some place)) (sym more_is) (record {
     search = search_more room;
-    extends = record { best = refl; goal = refl; cap = refl; more = line ∷ []; lines = refl; spent = λ spent. spent };
+    extends = record { best = refl; goal = refl; nodes = refl; more = line ∷ []; lines = refl; spent = λ spent. spent };
     closed = λ same. absurd (let e : Some place ≡ None = same in cc);
     line = λ there same. (let n : there ≡ place = (let e : Some place ≡ Some there = same in cc) in
         subst (HasLine more.lines path.rest) (sym n) (line_there place last));

@@ -20,8 +20,8 @@ use Rattle.strip_lines.proofs.Shares.{is_candidate_from}
 use Rattle.strip_layers.specs.Begun.{HasBegun, LooksAhead}
 use Rattle.strip_layers.specs.Search.{Adds, SearchData}
 
-module _ (kind : Kind) (film : FilmData) (start : PathData) (cap static least : ℕ) (is_film : IsFilm film) (complete : IsComplete film start)
-    (some_lines : 1 ≤ cap) (static_is : static ≡ bound kind film (all_scenes film)) (below : static < start.paid) where
+module _ (kind : Kind) (film : FilmData) (start : PathData) (nodes static least : ℕ) (is_film : IsFilm film) (complete : IsComplete film start)
+    (some_lines : 1 ≤ nodes) (static_is : static ≡ bound kind film (all_scenes film)) (below : static < start.paid) where
   abbrev rules : Rules
   rules = rules_of kind film
 
@@ -32,7 +32,7 @@ module _ (kind : Kind) (film : FilmData) (start : PathData) (cap static least : 
   line = record { set = all; bound = static }
 
   abbrev first : SearchData
-  first = record { lines = []; best = start; goal = start.paid; cap = cap; spent = false }
+  first = record { lines = []; best = start; goal = start.paid; nodes = nodes; spent = false }
 
   abbrev second : SearchData
   second = record first { lines = line ∷ [] }
@@ -66,7 +66,7 @@ module _ (kind : Kind) (film : FilmData) (start : PathData) (cap static least : 
     leaves = refl;
   }
 
-  pub has_begun : LooksAhead rules least → HasBegun rules start cap begun
+  pub has_begun : LooksAhead rules least → HasBegun rules start nodes begun
   has_begun looks = record {
     search = record {
       justified = justified-raised rules (line ∷ []) 0 least
@@ -87,7 +87,7 @@ module _ (kind : Kind) (film : FilmData) (start : PathData) (cap static least : 
     };
     best = refl;
     goal = refl;
-    cap = refl;
+    nodes = refl;
     spent = refl;
   }
     where

@@ -51,7 +51,7 @@ module _ (rules : Rules) (now : SearchData) (rest place least : ℕ) (is : IsSea
   }
 
   pub rises_then : Rises now after
-  rises_then = record { goal = refl; cap = refl; grow = grows; cheaper = omega arith; spent = λ spent. spent }
+  rises_then = record { goal = refl; nodes = refl; grow = grows; cheaper = omega arith; spent = λ spent. spent }
 
   pub known_then : (answer : ℕ) → answer ≡ max (line_at now.lines place).bound least → answer ≤ known rules after.lines rest
   known_then answer answer_is =

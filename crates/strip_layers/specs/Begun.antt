@@ -20,5 +20,5 @@ pub record HasBegun (rules : Rules) (start : PathData) (most : ℕ) (begun : Sea
   pub search : IsSearch rules begun
   pub best : begun.best ≡ start
   pub goal : begun.goal ≡ start.paid
-  pub cap : begun.cap ≡ most
+  pub nodes : begun.nodes ≡ most
   pub spent : begun.spent ≡ false

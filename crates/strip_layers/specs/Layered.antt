@@ -19,9 +19,9 @@ pub record LayeredData : Type 0 where
 
 -- the search was cut short: the bound is below what the best path pays, and at least the look-ahead of all scenes; and
 -- there are as many lines as there may be, and fewer than candidates of the start
-pub record WasCutShort (kind : Kind) (film : FilmData) (start : PathData) (cap : ℕ) (layered : LayeredData) : Type 0 where
-  pub full : length layered.lines ≡ cap
-  pub fewer : cap < candidate_count (rules_of kind film) start.paid
+pub record WasCutShort (kind : Kind) (film : FilmData) (start : PathData) (nodes : ℕ) (layered : LayeredData) : Type 0 where
+  pub full : length layered.lines ≡ nodes
+  pub fewer : nodes < candidate_count (rules_of kind film) start.paid
   pub reaches : ahead (rules_of kind film) (all_scenes film) ≤ layered.bound
   pub below : layered.bound < layered.best.paid
 
@@ -29,19 +29,19 @@ pub record WasCutShort (kind : Kind) (film : FilmData) (start : PathData) (cap :
 -- that a candidate of the start leaves, at most as many as there may be, and so at most as many as candidates of
 -- the start, in all and of each set; the bound is what they make known of all scenes, which no order pays less
 -- than; and unless the search was cut short, it is what the best path pays
-pub record IsLayered (kind : Kind) (film : FilmData) (start : PathData) (cap : ℕ) (layered : LayeredData) : Type 0 where
+pub record IsLayered (kind : Kind) (film : FilmData) (start : PathData) (nodes : ℕ) (layered : LayeredData) : Type 0 where
   pub best : IsComplete film layered.best
   pub no_dearer : layered.best.paid ≤ start.paid
   pub justified : AreJustified (rules_of kind film) layered.lines
   pub apart : AreApart layered.lines
   pub left : All (λ line. IsLeft (rules_of kind film) start.paid line.set) layered.lines
-  pub most : length layered.lines ≤ cap
+  pub most : length layered.lines ≤ nodes
   pub candidates : length layered.lines ≤ candidate_count (rules_of kind film) start.paid
   pub sets : (set : ℕ) → count_by (λ line. line.set == set) layered.lines
       ≤ leaving_count (rules_of kind film) start.paid set
   pub bound : layered.bound ≡ known (rules_of kind film) layered.lines (all_scenes film)
   pub true_bound : IsLeast film layered.bound
-  pub spent : layered.is_spent ≡ true → WasCutShort kind film start cap layered
+  pub spent : layered.is_spent ≡ true → WasCutShort kind film start nodes layered
   pub closed : layered.is_spent ≡ false → layered.bound ≡ layered.best.paid
 
 -- the search is spent, or the line of all scenes has what the best path pays

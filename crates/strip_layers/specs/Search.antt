@@ -22,13 +22,13 @@ pub record SearchData : Type 0 where
   pub lines : List Line
   pub best : PathData
   pub goal : ℕ
-  pub cap : ℕ
+  pub nodes : ℕ
   pub spent : Bool
 
 -- the search was cut short: there are as many lines as there may be, and fewer than candidates of the goal
 pub record IsFull (rules : Rules) (search : SearchData) : Type 0 where
-  pub full : length search.lines ≡ search.cap
-  pub fewer : search.cap < candidate_count rules search.goal
+  pub full : length search.lines ≡ search.nodes
+  pub fewer : search.nodes < candidate_count rules search.goal
 
 -- the line of all scenes is the first, and has their look-ahead at least
 pub record HasWhole (rules : Rules) (search : SearchData) : Type 0 where
@@ -42,7 +42,7 @@ pub record IsSearch (rules : Rules) (search : SearchData) : Type 0 where
   pub justified : AreJustified rules search.lines
   pub apart : AreApart search.lines
   pub left : All (λ line. IsLeft rules search.goal line.set) search.lines
-  pub few : length search.lines ≤ search.cap
+  pub few : length search.lines ≤ search.nodes
   pub spent : search.spent ≡ true → IsFull rules search
   pub whole : HasWhole rules search
   pub best : IsComplete rules.film search.best
@@ -52,7 +52,7 @@ pub record IsSearch (rules : Rules) (search : SearchData) : Type 0 where
 pub record Extends (before after : SearchData) : Type 0 where
   pub best : after.best ≡ before.best
   pub goal : after.goal ≡ before.goal
-  pub cap : after.cap ≡ before.cap
+  pub nodes : after.nodes ≡ before.nodes
   pub more : List Line
   pub lines : after.lines ≡ before.lines ++ more
   pub spent : before.spent ≡ true → after.spent ≡ true
@@ -60,7 +60,7 @@ pub record Extends (before after : SearchData) : Type 0 where
 -- lines grow, and the best path pays no more
 pub record Rises (before after : SearchData) : Type 0 where
   pub goal : after.goal ≡ before.goal
-  pub cap : after.cap ≡ before.cap
+  pub nodes : after.nodes ≡ before.nodes
   pub grow : GrowTo before.lines after.lines
   pub cheaper : after.best.paid ≤ before.best.paid
   pub spent : before.spent ≡ true → after.spent ≡ true
@@ -84,9 +84,9 @@ AskedIsTrue kind film ask = ask.is_known ≡ false → Suffices kind film ask.se
 
 -- the line was added behind the others, or there were as many as there may be
 abbrev pub Adds : SearchData → Line → Option ℕ → SearchData → Type 0
-Adds before line None after = (before.cap ≤ length before.lines) × (after ≡ record before { spent = true })
+Adds before line None after = (before.nodes ≤ length before.lines) × (after ≡ record before { spent = true })
 Adds before line (Some place) after =
-    (place ≡ length before.lines) × (length before.lines < before.cap)
+    (place ≡ length before.lines) × (length before.lines < before.nodes)
     × (after ≡ record before { lines = before.lines ++ line ∷ [] })
 
 -- the set has a line already, or one is added

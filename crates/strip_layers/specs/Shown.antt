@@ -10,7 +10,7 @@ search_data search = record {
   lines = search.sheet.lines.items;
   best = path_data search.best;
   goal = search.goal;
-  cap = search.cap;
+  nodes = search.nodes;
   spent = search.spent;
 }
 

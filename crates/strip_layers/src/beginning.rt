@@ -22,21 +22,21 @@ pub(crate) fn begin<A: Answers>(
     alloc: Global,
     answers: &A,
     start: &Path,
-    cap: u32,
+    nodes: u32,
     static_bound: u64,
 ) -> Result<Search, Memory>
     requires ready { A.is_ready answers.now }
     requires start { IsComplete (A.film answers.now) (path_data start.now) }
-    requires some { 1 ≤ cap }
+    requires some { 1 ≤ nodes }
     requires bound { static_bound ≡ bound (A.kind answers.now) (A.film answers.now) (all_scenes (A.film answers.now)) }
     requires below { static_bound < (path_data start.now).paid }
     ensures found { IfOk result (λ search. AreTrue (A.kind answers.now) (A.film answers.now) search.found.entries) }
-    ensures begun { IfOk result (λ search. HasBegun (rules_of (A.kind answers.now) (A.film answers.now)) (path_data start.now) cap
+    ensures begun { IfOk result (λ search. HasBegun (rules_of (A.kind answers.now) (A.film answers.now)) (path_data start.now) nodes
         (search_data search)) }
 {
     let film = answers.film();
     film.keeps_limits();
-    let mut search = Search::new(alloc, start, cap);
+    let mut search = Search::new(alloc, start, nodes);
     search.add(film.all(), static_bound)?;
     search.raise(0, look_ahead(answers));
     Ok(search)

@@ -5,7 +5,7 @@ ghost use Rattle.std.specs.Prelude.{◌≡◌, ◌<◌, ◌≤◌, ◌==◌, ◌
 const HALVINGS: u32 = 2;
 
 /// A report of a limit that was reached. `number` counts whole steps, out of `steps`. `cost` is the pay of the best
-/// path, `bound` the bound of all scenes, both in units of money. There are `lines` lines, out of at most `most`.
+/// path, `bound` the bound of all scenes, both in units of money. There are `lines` lines, out of at most `nodes`.
 #[derive(Clone, Copy, Debug)]
 pub struct Reached {
     pub number: u64,
@@ -13,7 +13,7 @@ pub struct Reached {
     pub cost: u64,
     pub bound: u64,
     pub lines: usize,
-    pub most: u32,
+    pub nodes: u32,
 }
 
 /// An observer of the progress of a search by layers.

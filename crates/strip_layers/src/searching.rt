@@ -24,12 +24,12 @@ use strip_film::laws::{kept_orders_are_ready_lists, steps_add_up_to_the_pay};
 use strip_io::Memory;
 use strip_lines::laws::lines_of_different_sets_are_few;
 
-/// Searches for a cheapest order of the film, from a complete path, with at most `cap` lines. The cost limits rise from
+/// Searches for a cheapest order of the film, from a complete path, with at most `nodes` lines. The cost limits rise from
 /// the look-ahead of all scenes to the best path's pay, at first in `steps` equal steps. A walk that needs more than
-/// `cap` lines is undone, and the step halved. After two halvings a walk may use up the lines, and this ends the
+/// `nodes` lines is undone, and the step halved. After two halvings a walk may use up the lines, and this ends the
 /// search.
 ///
-/// It ends when the bound of all scenes is the best path's pay, or when a line is needed and there are `cap`. No set
+/// It ends when the bound of all scenes is the best path's pay, or when a line is needed and there are `nodes`. No set
 /// has two lines, so there are no more lines than sets. It takes some 150 bytes for each set that it looks at.
 pub fn search_by_layers<A: Answers, W: Watch>(
     alloc: Global,
@@ -37,12 +37,12 @@ pub fn search_by_layers<A: Answers, W: Watch>(
     watch: &W,
     start: &Path,
     steps: u32,
-    cap: u32,
+    nodes: u32,
 ) -> Result<Layered, Memory>
     requires ready { A.is_ready answers.now }
     requires start { IsComplete (A.film answers.now) (path_data start.now) }
-    requires some { 1 ≤ cap }
-    ensures layered { IfOk result (λ layered. IsLayered (A.kind answers.now) (A.film answers.now) (path_data start.now) cap
+    requires some { 1 ≤ nodes }
+    ensures layered { IfOk result (λ layered. IsLayered (A.kind answers.now) (A.film answers.now) (path_data start.now) nodes
         (layered_data layered)) }
     ensures found { IfOk result (λ layered. AreTrue (A.kind answers.now) (A.film answers.now) layered.found.values.entries) }
 {
@@ -63,7 +63,7 @@ pub fn search_by_layers<A: Answers, W: Watch>(
             },
         });
     }
-    let mut search = begin(alloc, answers, start, cap, bound)?;
+    let mut search = begin(alloc, answers, start, nodes, bound)?;
     rise(alloc, answers, watch, &mut search, steps)?;
     Ok(end(search))
 }
@@ -110,7 +110,7 @@ fn tell<W: Watch>(watch: &W, search: &Search, limits: &Limits)
         cost: search.best.paid(),
         bound: search.proved(),
         lines: search.sheet.len(),
-        most: search.cap,
+        nodes: search.nodes,
     });
 }
 

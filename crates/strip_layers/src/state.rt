@@ -21,9 +21,9 @@ use strip_film::{Line, Path};
 use strip_io::Memory;
 use strip_mask::Mask;
 
-/// The state of a search by layers: its lines, at most `cap`, and the static bounds that it computed. `best` is the
+/// The state of a search by layers: its lines, at most `nodes`, and the static bounds that it computed. `best` is the
 /// cheapest complete path, and `goal` the initial path's pay. `spent` tells whether a line was needed when there were
-/// `cap`.
+/// `nodes`.
 #[derive(Debug, Drop)]
 pub(crate) struct Search {
     pub sheet: Sheet,
@@ -31,18 +31,18 @@ pub(crate) struct Search {
     pub found: IndexMap<u64, Lowest>,
     pub best: Path,
     pub goal: u64,
-    pub cap: u32,
+    pub nodes: u32,
     pub spent: bool,
 }
 
 impl Search {
     /// Returns a search with this complete path and no lines.
-    pub(crate) fn new(alloc: Global, start: &Path, cap: u32) -> Search
+    pub(crate) fn new(alloc: Global, start: &Path, nodes: u32) -> Search
         ensures search { search_data result ≡ record {
           lines = [];
           best = path_data start.now;
           goal = (path_data start.now).paid;
-          cap = cap;
+          nodes = nodes;
           spent = false;
         } }
         ensures found { (kind : Kind) (film : FilmData) → AreTrue kind film result.found.entries }
@@ -52,7 +52,7 @@ impl Search {
             found: IndexMap::new(alloc),
             best: *start,
             goal: start.paid(),
-            cap,
+            nodes,
             spent: false,
         }
     }
@@ -148,7 +148,7 @@ impl Search {
         })
     }
 
-    /// Returns the index of the line of a set. The line is made if there is none and there are fewer than `cap`.
+    /// Returns the index of the line of a set. The line is made if there is none and there are fewer than `nodes`.
     fn open(&mut self, set: Mask, bound: u64) -> Result<Option<usize>, Memory>
         ensures opened { IfOk result (λ place. Opens (search_data self.old) (record { set = set.0; bound = bound }) place
             (search_data self.new)) }
@@ -160,7 +160,7 @@ impl Search {
         }
     }
 
-    /// Appends a line of the set with this bound, if there are fewer than `cap`; otherwise marks the search as spent.
+    /// Appends a line of the set with this bound, if there are fewer than `nodes`; otherwise marks the search as spent.
     pub(crate) fn add(&mut self, set: Mask, bound: u64) -> Result<Option<usize>, Memory>
         requires { position (λ line. line.set == set.0) (search_data self.old).lines ≡ None }
         ensures added { IfOk result (λ place. Adds (search_data self.old) (record { set = set.0; bound = bound }) place
@@ -168,7 +168,7 @@ impl Search {
         ensures found { self.new.found.entries ≡ self.old.found.entries }
     {
         let place = self.sheet.len();
-        if place >= self.cap as usize {
+        if place >= self.nodes as usize {
             self.spent = true;
             return Ok(None);
         }

@@ -19,7 +19,7 @@ use strip_film::Path;
 use strip_io::Memory;
 use strip_paths::PathsBySet;
 
-/// Walks the film below a limit, and returns whether it reached the end. If the walk needs more lines than `cap` and
+/// Walks the film below a limit, and returns whether it reached the end. If the walk needs more lines than `nodes` and
 /// may not use them up, it is undone, except for the static bounds found.
 pub(crate) fn walk_whole<A: Answers>(
     alloc: Global,
@@ -51,7 +51,7 @@ pub(crate) fn walk_whole<A: Answers>(
 
 /// Walks on from the paths of a layer, each with `left` remaining scenes: forward to the layers below, then backward.
 /// At the end each open set of the layer has a line that its children justify. It returns none if the walk needs more
-/// lines than `cap` and may not use them up.
+/// lines than `nodes` and may not use them up.
 fn walk_layer<A: Answers>(
     alloc: Global,
     answers: &A,

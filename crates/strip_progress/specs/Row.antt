@@ -30,7 +30,7 @@ cost_text cost (Some bound) lines most =
 
 -- how a search stands, with which each row ends
 abbrev pub standing_text : Standing → List ℕ
-standing_text standing = cost_text standing.cost standing.bound standing.lines standing.most
+standing_text standing = cost_text standing.cost standing.bound standing.lines standing.nodes
 
 -- as "31 of 412 tasks begun, by 4 workers: cost 104319, 1444 of 20000 lines"
 abbrev pub row_text : Row → List ℕ

@@ -100,11 +100,11 @@ impl fmt::Display for RowEnd {
             cost,
             bound,
             lines,
-            most,
+            nodes,
         } = self.standing;
         match bound {
-            Some(bound) => write!(f, "cost {cost}, bound {bound}, {lines} of {most} lines"),
-            None => write!(f, "cost {cost}, {lines} of {most} lines"),
+            Some(bound) => write!(f, "cost {cost}, bound {bound}, {lines} of {nodes} lines"),
+            None => write!(f, "cost {cost}, {lines} of {nodes} lines"),
         }
     }
 }

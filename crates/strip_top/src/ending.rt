@@ -85,23 +85,23 @@ fn walk_alone<F: Fn(u64, u64) -> u64, G: Gate>(
     Ok(Closed { ended, trimmed })
 }
 
-/// Runs the search by layers with one worker, in `steps` steps and with at most `most` lines.
+/// Runs the search by layers with one worker, in `steps` steps and with at most `nodes` lines.
 fn layers_alone<F: Fn(u64, u64) -> u64, G: Gate>(
     alloc: Global,
     bounds: &StoredBound<F>,
     begun: &Path,
     steps: u32,
-    most: u32,
+    nodes: u32,
     own: u64,
     gate: &Told<G>,
 ) -> Result<Closed, Memory>
     requires keeps { Keeps (F.pre bounds.now.f) (F.post bounds.now.f) bounds.now.kind bounds.now.film.now }
     requires begun { IsComplete bounds.now.film.now (path_data begun.now) }
-    requires some { 1 ≤ most }
-    ensures { IfOk result (IsClosed bounds.now.kind bounds.now.film.now (path_data begun.now) most own) }
+    requires some { 1 ≤ nodes }
+    ensures { IfOk result (IsClosed bounds.now.kind bounds.now.film.now (path_data begun.now) nodes own) }
 {
-    let layered = search_by_layers(alloc, &Alone { bounds }, gate, begun, steps, most)?;
-    close_layers(alloc, bounds, begun, most, own, layered)
+    let layered = search_by_layers(alloc, &Alone { bounds }, gate, begun, steps, nodes)?;
+    close_layers(alloc, bounds, begun, nodes, own, layered)
 }
 
 /// Runs the search by layers with several workers, who answer the requests of each layer in parallel. The result
@@ -112,16 +112,16 @@ pub(crate) fn layers_beside<R: Threads + Sync, F: Fn(u64, u64) -> u64 + Sync, G:
     bounds: &StoredBound<F>,
     begun: &Path,
     steps: u32,
-    most: u32,
+    nodes: u32,
     own: u64,
     workers: u32,
     gate: &Told<G>,
 ) -> Result<Closed, Memory>
     requires keeps { Keeps (F.pre bounds.now.f) (F.post bounds.now.f) bounds.now.kind bounds.now.film.now }
     requires begun { IsComplete bounds.now.film.now (path_data begun.now) }
-    requires some { 1 ≤ most }
+    requires some { 1 ≤ nodes }
     requires workers { 0 < workers }
-    ensures { IfOk result (IsClosed bounds.now.kind bounds.now.film.now (path_data begun.now) most own) }
+    ensures { IfOk result (IsClosed bounds.now.kind bounds.now.film.now (path_data begun.now) nodes own) }
 {
     let by = |asks: &mut [Ask]| -> Result<(), Memory>
         requires { IsSync R.row × IsSync F.row × (0 < workers)
@@ -129,8 +129,8 @@ pub(crate) fn layers_beside<R: Threads + Sync, F: Fn(u64, u64) -> u64 + Sync, G:
             × All (λ ask. LiesIn bounds.now.film.now ask.set) asks.old }
         ensures { IfOk result (λ _. AreAnswered bounds.entry.now.kind bounds.entry.now.film.now asks.old asks.new) }
     { answer_beside(rt, alloc, bounds, workers, asks) };
-    let layered = search_by_layers(alloc, &Beside { bounds, by }, gate, begun, steps, most)?;
-    close_layers(alloc, bounds, begun, most, own, layered)
+    let layered = search_by_layers(alloc, &Beside { bounds, by }, gate, begun, steps, nodes)?;
+    close_layers(alloc, bounds, begun, nodes, own, layered)
 }
 
 /// Makes the trimmed result of a search by layers from this path. Trimming uses the static bounds that the search
@@ -139,14 +139,14 @@ fn close_layers<F: Fn(u64, u64) -> u64>(
     alloc: Global,
     bounds: &StoredBound<F>,
     begun: &Path,
-    most: u32,
+    nodes: u32,
     own: u64,
     layered: Layered,
 ) -> Result<Closed, Memory>
     requires keeps { Keeps (F.pre bounds.now.f) (F.post bounds.now.f) bounds.now.kind bounds.now.film.now }
-    requires layered { IsLayered bounds.now.kind bounds.now.film.now (path_data begun.now) most (layered_data layered) }
+    requires layered { IsLayered bounds.now.kind bounds.now.film.now (path_data begun.now) nodes (layered_data layered) }
     requires found { AreTrue bounds.now.kind bounds.now.film.now layered.found.values.entries }
-    ensures { IfOk result (IsClosed bounds.now.kind bounds.now.film.now (path_data begun.now) most own) }
+    ensures { IfOk result (IsClosed bounds.now.kind bounds.now.film.now (path_data begun.now) nodes own) }
 {
     bounds.film().keeps_limits();
     let Layered {
@@ -156,7 +156,7 @@ fn close_layers<F: Fn(u64, u64) -> u64>(
         is_spent,
         found,
     } = layered;
-    let ended = ended_of(alloc, bounds, begun, most, lines, bound, &best, is_spent)?;
+    let ended = ended_of(alloc, bounds, begun, nodes, lines, bound, &best, is_spent)?;
     let known = StoredBound::new(
         bounds.film(),
         bounds.kind(),
@@ -172,19 +172,19 @@ fn ended_of<F: Fn(u64, u64) -> u64>(
     alloc: Global,
     bounds: &StoredBound<F>,
     begun: &Path,
-    most: u32,
+    nodes: u32,
     lines: Vec<Line>,
     bound: u64,
     best: &Path,
     is_spent: bool,
 ) -> Result<Ended, Memory>
-    requires { IsLayered bounds.now.kind bounds.now.film.now (path_data begun.now) most (record {
+    requires { IsLayered bounds.now.kind bounds.now.film.now (path_data begun.now) nodes (record {
       lines = lines.items;
       bound = bound;
       best = path_data best.now;
       is_spent = is_spent;
     }) }
-    ensures { IfOk result (λ ended. IsEnded bounds.now.kind bounds.now.film.now (path_data begun.now) most (ended_data ended)) }
+    ensures { IfOk result (λ ended. IsEnded bounds.now.kind bounds.now.film.now (path_data begun.now) nodes (ended_data ended)) }
 {
     kept_orders_are_ready_lists();
     steps_add_up_to_the_pay();

@@ -323,7 +323,7 @@ fn search_stored<
     let mut memo = Memo::among(alloc, &stored, workers + 1)?;
     let limits = Limits {
         workers,
-        cap: options.nodes,
+        nodes: options.nodes,
         entries: options.entries,
     };
     let ended = race(

@@ -20,18 +20,18 @@ fn with_apart(standing: &Standing, apart: u64) -> Standing {
             None => None,
         },
         lines: standing.lines,
-        most: standing.most,
+        nodes: standing.nodes,
     }
 }
 
 impl<'g, G: Gate> Told<'g, G> {
     /// Reports the end of a search, with the kind of its static bounds and the greatest number of its lines.
-    pub(crate) fn end(&self, kind: Kind, ended: &Ended, most: u32) {
+    pub(crate) fn end(&self, kind: Kind, ended: &Ended, nodes: u32) {
         let standing = Standing {
             cost: ended.cost,
             bound: Some(ended.bound),
             lines: ended.held,
-            most,
+            nodes,
         };
         self.gate.ended(&Stage {
             kind,
@@ -72,7 +72,7 @@ impl<'g, G: Gate> Watch for Told<'g, G> {
             cost: at.cost,
             bound: Some(at.bound),
             lines: at.lines as u64,
-            most: at.most,
+            nodes: at.nodes,
         };
         self.gate.reached(&Limit {
             number: at.number,

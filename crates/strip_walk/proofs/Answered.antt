@@ -72,8 +72,8 @@ made_walks before after cursor cursor_after path bound line is made = record {
   stands = subst (StandsAt after) (sym made.moved) (made.counted.0 + 1, made.counted.2);
   others = made.others;
   last = inr (begun_itself cursor_after.last path (ap (λ (at : CursorData). at.last) made.moved));
-  full = λ full. absurd (let cap : after.search.cap ≡ before.search.cap = ap (λ (hand : HandData). hand.search.cap) made.only in
-      omega (arith, full, cap, made.fresh, made.there, is.few));
+  full = λ full. absurd (let nodes : after.search.nodes ≡ before.search.nodes = ap (λ (hand : HandData). hand.search.nodes) made.only in
+      omega (arith, full, nodes, made.fresh, made.there, is.few));
 }
 
 pub made_opened : (before after : HandData) (cursor cursor_after : CursorData) (path : PathData) (line : ℕ) (passed : Passed) (opened : Opened)
@@ -116,7 +116,7 @@ module _ (before after : HandData) (cursor : CursorData) (path : PathData) (coun
 
   cut_here : IsCutShort after cursor
   cut_here = record {
-    full = spent.counted ∙ spent.full ∙ ap (λ (search : SearchData). search.cap) (sym same_search);
+    full = spent.counted ∙ spent.full ∙ ap (λ (search : SearchData). search.nodes) (sym same_search);
     path = path;
     is_open = subst (λ (search : SearchData). IsOpen (search_rules search) path) (sym same_search) may.is_open;
     lies = ap (λ (search : SearchData). lies_in (depth_of search) search.tasks cursor.task path) same_search ∙ may.lies;

@@ -58,12 +58,12 @@ walks_still before after cursor path stands stays = record {
 -- ---- walks one after the other
 
 module _ (before mid after : HandData) (cursor cursor_mid cursor_after : CursorData) (path : PathData)
-    (few : length mid.lines ≤ mid.search.cap) (first : Walks before cursor path mid cursor_mid) (second : Walks mid cursor_mid path after cursor_after) where
-  still_full : length before.lines ≡ before.search.cap → length mid.lines ≡ mid.search.cap
+    (few : length mid.lines ≤ mid.search.nodes) (first : Walks before cursor path mid cursor_mid) (second : Walks mid cursor_mid path after cursor_after) where
+  still_full : length before.lines ≡ before.search.nodes → length mid.lines ≡ mid.search.nodes
   still_full full =
-      let cap : mid.search.cap ≡ before.search.cap = ap (λ (search : SearchData). search.cap) first.search in
+      let nodes : mid.search.nodes ≡ before.search.nodes = ap (λ (search : SearchData). search.nodes) first.search in
       let count : length before.lines ≤ length mid.lines = first.grow.count in
-      omega (arith, full, cap, count, few)
+      omega (arith, full, nodes, count, few)
 
   last_of : (cursor_after.last ≡ cursor_mid.last) ⊎ BegunBy path cursor_after.last → (cursor_mid.last ≡ cursor.last) ⊎ BegunBy path cursor_mid.last
       → (cursor_after.last ≡ cursor.last) ⊎ BegunBy path cursor_after.last
@@ -117,14 +117,14 @@ begun_itself last path is = (path, is, starts_itself path.scenes)
 
 -- ---- what was cut short stays so
 
-pub cut_stays : (now after : HandData) (cursor cursor_after : CursorData) (path : PathData) → length after.lines ≤ after.search.cap
+pub cut_stays : (now after : HandData) (cursor cursor_after : CursorData) (path : PathData) → length after.lines ≤ after.search.nodes
     → Walks now cursor path after cursor_after → IsCutShort now cursor → IsCutShort after cursor_after
 cut_stays now after cursor cursor_after path few walks cut =
     let same : cursor_after ≡ cursor = walks.full cut.full in
-    let cap : after.search.cap ≡ now.search.cap = ap (λ (search : SearchData). search.cap) walks.search in
+    let nodes : after.search.nodes ≡ now.search.nodes = ap (λ (search : SearchData). search.nodes) walks.search in
     let count : length now.lines ≤ length after.lines = walks.grow.count in
     record {
-      full = omega (arith, cap, count, few, cut.full);
+      full = omega (arith, nodes, count, few, cut.full);
       path = cut.path;
       is_open = subst (λ (search : SearchData). IsOpen (search_rules search) cut.path) (sym walks.search) cut.is_open;
       lies = ap (λ (search : SearchData). lies_in (depth_of search) search.tasks cursor_after.task cut.path) walks.search
@@ -147,7 +147,7 @@ may_still before after cursor path stays may = record {
   later = subst (λ (search : SearchData). ComesAfter (search_rules search) cursor.last path) (sym stays.search) may.later;
 }
 
-module _ (before mid after : HandData) (cursor cursor_after : CursorData) (path : PathData) (few : length mid.lines ≤ mid.search.cap)
+module _ (before mid after : HandData) (cursor cursor_after : CursorData) (path : PathData) (few : length mid.lines ≤ mid.search.nodes)
     (stands : StandsAt before cursor) (stays : StaysInPart before mid) where
   walks_after : Walks mid cursor path after cursor_after → Walks before cursor path after cursor_after
   walks_after walks = walks_trans before mid after cursor cursor cursor_after path few (walks_still before mid cursor path stands stays) walks

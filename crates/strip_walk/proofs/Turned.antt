@@ -58,7 +58,7 @@ module _ (search : SearchData) (path : PathData) (s : ℕ) (is : IsFilm search.f
 -- ---- the walk of the longer path
 
 module _ (before now after : HandData) (cursor cursor_now cursor_after : CursorData) (path longer : PathData) (s : ℕ)
-    (few : length now.lines ≤ now.search.cap) (walks : Walks before cursor path now cursor_now) (longer_is : longer ≡ extended before.search.film path s) where
+    (few : length now.lines ≤ now.search.nodes) (walks : Walks before cursor path now cursor_now) (longer_is : longer ≡ extended before.search.film path s) where
   pub turn_walks : Walks now cursor_now longer after cursor_after → Walks before cursor path after cursor_after
   turn_walks child = walks_trans before now after cursor cursor_now cursor_after path few walks
       (walks_child now after cursor_now cursor_after path longer s (ap (λ (p : PathData). p.scenes) longer_is) child)

@@ -29,7 +29,7 @@ BegunBy path last = (end : PathData) × (last ≡ Some end) × (starts_with nat_
 
 -- as many lines as there may be, though the part has another candidate behind the cursor
 pub record IsCutShort (hand : HandData) (cursor : CursorData) : Type 0 where
-  pub full : length hand.lines ≡ hand.search.cap
+  pub full : length hand.lines ≡ hand.search.nodes
   pub path : PathData
   pub is_open : IsOpen (search_rules hand.search) path
   pub lies : lies_in (depth_of hand.search) hand.search.tasks cursor.task path ≡ true

@@ -23,7 +23,7 @@ pub record Walks (before : HandData) (cursor : CursorData) (path : PathData) (af
   pub stands : StandsAt after cursor_after
   pub others : (other : ℕ) → other ≢ cursor.task → after.records other ≡ before.records other
   pub last : (cursor_after.last ≡ cursor.last) ⊎ BegunBy path cursor_after.last
-  pub full : length before.lines ≡ before.search.cap → cursor_after ≡ cursor
+  pub full : length before.lines ≡ before.search.nodes → cursor_after ≡ cursor
 
 -- a walk of a path: what was found, or that memory was refused
 abbrev pub Explores : HandData → CursorData → PathData → Result Found Memory → HandData → CursorData → Type 0

@@ -40,7 +40,7 @@ module _ (before after : HandData) (cursor : CursorData) (front : FrontData) (fo
     (goes : GoesDown before after cursor) (front_of : IsFrontOf (search_rules before.search) front)
     (same_tasks : before.search.tasks ≡ front.tasks)
     (none : (length found ≡ length front.tasks) × ((task : ℕ) → task < length front.tasks → slice_index found task ≡ 0))
-    (down : IsDown after cursor front spent) (some_lines : 1 ≤ before.search.cap) where
+    (down : IsDown after cursor front spent) (some_lines : 1 ≤ before.search.nodes) where
   same_search : after.search ≡ before.search
   same_search = ap (λ (h : HandData). h.search) goes.only
 
@@ -68,7 +68,7 @@ module _ (before after : HandData) (cursor : CursorData) (front : FrontData) (fo
     whole = down.whole;
     reach = λ not task within wanted recorded.
         absurd (no_record (after.records (suc task)) (goes.others (suc task) (λ zero_is. omega (arith, zero_is)) ∙ claimed.others (suc task) (λ zero_is. omega (arith, zero_is))) recorded);
-    root = λ is. down.own is (omega (arith, some_lines, ap (λ (search : SearchData). search.cap) same_search)) owns;
+    root = λ is. down.own is (omega (arith, some_lines, ap (λ (search : SearchData). search.nodes) same_search)) owns;
     cut = λ is. cut (down.spent is);
   }
 

@@ -151,7 +151,7 @@ module _ (kind : Kind) (film : FilmData) (hand : HandData) (best : PathData) (li
     | inr not ↦ whole_is not ∙ number_is_known not
   ]
 
-  full : spent ≡ true → length lines ≡ hand.search.cap
+  full : spent ≡ true → length lines ≡ hand.search.nodes
   full so = omega (arith, (shut.cut so).full, left.grow.count, left.few)
 
   candidates : length lines ≤ candidate_count (search_rules hand.search) hand.search.start
@@ -164,11 +164,11 @@ module _ (kind : Kind) (film : FilmData) (hand : HandData) (best : PathData) (li
       lines_ways (search_rules hand.search) hand.search.start (depth_of hand.search) hand.search.tasks is_film (tasks_apart hand.search shut.limits.tasks) lines
       (λ part. (record_in hand part).last) (λ part. (record_in hand part).number) left.counts
 
-  more : spent ≡ true → hand.search.cap < candidate_count (search_rules hand.search) hand.search.start
+  more : spent ≡ true → hand.search.nodes < candidate_count (search_rules hand.search) hand.search.start
   more so = omega (arith, full so, cut_has_more hand lines shut.limits left.counts (shut.cut so))
 
   -- the end, over the search's own film and kind
-  ends : EndsFrom hand.search.kind hand.search.film hand.search.start hand.search.cap (end_of best lines bound spent)
+  ends : EndsFrom hand.search.kind hand.search.film hand.search.start hand.search.nodes (end_of best lines bound spent)
   ends start paid = record {
     order = kept;
     cost = pays;
@@ -182,28 +182,28 @@ module _ (kind : Kind) (film : FilmData) (hand : HandData) (best : PathData) (li
     sets = λ set. subst (λ (cost : ℕ). count_by (λ line. eqb line.set set) lines ≤ leaving_count (search_rules hand.search) cost set) (sym paid) (of_set set);
     spent = λ so. record {
       full = full so;
-      fewer = subst (λ (cost : ℕ). hand.search.cap < candidate_count (search_rules hand.search) cost) (sym paid) (more so);
+      fewer = subst (λ (cost : ℕ). hand.search.nodes < candidate_count (search_rules hand.search) cost) (sym paid) (more so);
       reaches = omega (arith, shut.reaches so, most, bound_is_known);
     };
     closed = λ not. whole_is not ∙ number_is_cost not;
   }
 
-  pub tells : EndsFrom kind film hand.search.start hand.search.cap (end_of best lines bound spent)
+  pub tells : EndsFrom kind film hand.search.start hand.search.nodes (end_of best lines bound spent)
   tells =
-      subst (λ (k : Kind). EndsFrom k film hand.search.start hand.search.cap (end_of best lines bound spent)) shut.search.1
-      (subst (λ (f : FilmData). EndsFrom hand.search.kind f hand.search.start hand.search.cap (end_of best lines bound spent)) shut.search.0 ends)
+      subst (λ (k : Kind). EndsFrom k film hand.search.start hand.search.nodes (end_of best lines bound spent)) shut.search.1
+      (subst (λ (f : FilmData). EndsFrom hand.search.kind f hand.search.start hand.search.nodes (end_of best lines bound spent)) shut.search.0 ends)
 
 -- the end that was told is one of this hand
 pub told_by : (kind : Kind) (film : FilmData) (hand : HandData) (best : PathData) (lines : List Line) (spent : Bool) (number : ℕ) (result : Result Ended Memory)
     → IfOk result (λ ended. (any : HandData) → IsClosed kind film any spent number → IsSettled any best lines
-    → EndsFrom kind film any.search.start any.search.cap (ended_data ended))
+    → EndsFrom kind film any.search.start any.search.nodes (ended_data ended))
     → IsClosed kind film hand spent number → IsSettled hand best lines
-    → IfOk result (λ ended. EndsFrom kind film hand.search.start hand.search.cap (ended_data ended))
+    → IfOk result (λ ended. EndsFrom kind film hand.search.start hand.search.nodes (ended_data ended))
 told_by kind film hand best lines spent number (Ok ended) every shut left = every hand shut left
 told_by kind film hand best lines spent number (Err memory) every shut left = tt
 
 -- the end that was told is one from the start path
-pub ended_from : (kind : Kind) (film : FilmData) (start : PathData) (cap : ℕ) (result : Result Ended Memory)
-    → IfOk result (λ ended. EndsFrom kind film start.paid cap (ended_data ended)) → IfOk result (λ ended. IsEnded kind film start cap (ended_data ended))
-ended_from kind film start cap (Ok ended) every = every start refl
-ended_from kind film start cap (Err memory) every = tt
+pub ended_from : (kind : Kind) (film : FilmData) (start : PathData) (nodes : ℕ) (result : Result Ended Memory)
+    → IfOk result (λ ended. EndsFrom kind film start.paid nodes (ended_data ended)) → IfOk result (λ ended. IsEnded kind film start nodes (ended_data ended))
+ended_from kind film start nodes (Ok ended) every = every start refl
+ended_from kind film start nodes (Err memory) every = tt

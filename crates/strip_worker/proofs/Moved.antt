@@ -54,7 +54,7 @@ module _ (before after : HandData) (on : GoesOn before after) where
       (found_grows before after front on.grow found are)
 
   -- the later hand is cut short, by the search of the earlier one
-  cut_later : length after.lines ≤ before.search.cap → IsCut before → IsCut (record after { search = before.search })
+  cut_later : length after.lines ≤ before.search.nodes → IsCut before → IsCut (record after { search = before.search })
   cut_later few cut = record {
     full = omega (arith, cut.full, on.grow.count, few);
     part = cut.part;
@@ -68,10 +68,10 @@ module _ (before after : HandData) (on : GoesOn before after) where
     below = cut.below;
   }
 
-  pub cut_still : length after.lines ≤ after.search.cap → IsCut before → IsCut after
+  pub cut_still : length after.lines ≤ after.search.nodes → IsCut before → IsCut after
   cut_still few cut =
       subst (λ (search : SearchData). IsCut (record after { search = search })) (sym on.search)
-      (cut_later (omega (arith, few, ap (λ (search : SearchData). search.cap) on.search)) cut)
+      (cut_later (omega (arith, few, ap (λ (search : SearchData). search.nodes) on.search)) cut)
 
   -- it leaves out nothing below a lesser value either
   whole_falls : (front : FrontData) → IsWhole before.search front before.told → IsWhole before.search front after.told
@@ -99,13 +99,13 @@ module _ (before after : HandData) (on : GoesOn before after) where
 
   -- the same numbers, where what was claimed meanwhile reaches by them
   pub moved : (front : FrontData) (found : List ℕ) (spent : Bool) → HasWorked before front found spent
-      → (spent ≡ true → length after.lines ≤ after.search.cap) → (spent ≡ false → ReachFound after front found) → HasWorked after front found spent
+      → (spent ≡ true → length after.lines ≤ after.search.nodes) → (spent ≡ false → ReachFound after front found) → HasWorked after front found spent
   moved front found spent was few reach =
       carried front found found spent spent was was.long (found_still front found was.known) (λ not. not) reach was.root (λ is. cut_still (few is) (was.cut is))
 
   -- no part was claimed meanwhile
   pub moved_same : (front : FrontData) (found : List ℕ) (spent : Bool) → HasWorked before front found spent
-      → (spent ≡ true → length after.lines ≤ after.search.cap) → ((part : ℕ) → after.records part ≡ before.records part) → HasWorked after front found spent
+      → (spent ≡ true → length after.lines ≤ after.search.nodes) → ((part : ℕ) → after.records part ≡ before.records part) → HasWorked after front found spent
   moved_same front found spent was few same =
       moved front found spent was few
       (λ not task within wanted recorded. omega (arith, on.told, was.reach not task within wanted (subst IsSome (same (suc task)) recorded)))
@@ -123,5 +123,5 @@ pub moved_ended : (before after : HandData) (front : FrontData) (found : List �
     → HasWorked before front found spent → HasWorked after front found spent
 moved_ended before after front found spent claims was =
     moved_same before after (goes_ended before after claims) front found spent was
-    (λ so. omega (arith, (was.cut so).full, ap (λ (h : HandData). length h.lines) claims, ap (λ (h : HandData). h.search.cap) claims))
+    (λ so. omega (arith, (was.cut so).full, ap (λ (h : HandData). length h.lines) claims, ap (λ (h : HandData). h.search.nodes) claims))
     (λ part i. (claims i).records part)

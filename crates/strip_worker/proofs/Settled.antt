@@ -53,7 +53,7 @@ next_apart other task apart same = apart (omega (arith, same))
 
 -- a part is passed over that is the front, or whose task isn't asked for
 pub passed : (before claimed : HandData) (front : FrontData) (found : List ℕ) (part : ℕ) (spent : Bool) → HasWorked before front found spent
-    → Claims before (Some part) claimed → length claimed.lines ≤ claimed.search.cap → ((task : ℕ) → part ≡ suc task → is_wanted front task ≡ false)
+    → Claims before (Some part) claimed → length claimed.lines ≤ claimed.search.nodes → ((task : ℕ) → part ≡ suc task → is_wanted front task ≡ false)
     → HasWorked claimed front found spent
 passed before claimed front found part spent was claims few unwanted =
     moved before claimed (goes_claimed before claimed part claims) front found spent was (λ so. few)
@@ -64,7 +64,7 @@ passed before claimed front found part spent was claims few unwanted =
 
 module _ (before claimed after : HandData) (front : FrontData) (found : List ℕ) (task : ℕ) (spent : Bool) (answer : Found)
     (was : HasWorked before front found spent) (claims : Claims before (Some (suc task)) claimed)
-    (walks : WalksTask claimed (suc task) (task_at front task) (Ok answer) after) (few : length after.lines ≤ after.search.cap)
+    (walks : WalksTask claimed (suc task) (task_at front task) (Ok answer) after) (few : length after.lines ≤ after.search.nodes)
     (within : task < length front.tasks) (wanted : is_wanted front task ≡ true) where
   abbrev cursor : CursorData
   cursor = walks.0

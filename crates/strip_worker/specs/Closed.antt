@@ -48,5 +48,5 @@ pub record IsSettled (hand : HandData) (best : PathData) (lines : List Line) : T
   pub least : best.paid ≤ hand.told
   pub grow : GrowTo hand.lines lines
   pub justified : AreJustified (search_rules hand.search) lines
-  pub few : length lines ≤ hand.search.cap
+  pub few : length lines ≤ hand.search.nodes
   pub counts : AreCountedBy hand lines

@@ -26,7 +26,7 @@ pub record HasFront (hand : HandData) : Type 0 where
 -- the search may start: at least one line may be made, the front was claimed and no other part, and there is nothing in
 -- it
 pub record MayStart (hand : HandData) (front : FrontData) : Type 0 where
-  pub some_lines : 1 ≤ hand.search.cap
+  pub some_lines : 1 ≤ hand.search.nodes
   pub claimed : HasFront hand
   pub unfilled : IsUnfilled hand.search front
 
@@ -37,7 +37,7 @@ OwnsFront hand = length hand.lines ≤ count_in hand 0
 -- the search was cut short: there are as many lines as there may be, and in a part that the hand has a record of, a
 -- candidate of the start comes after the last path that was enlisted
 pub record IsCut (hand : HandData) : Type 0 where
-  pub full : length hand.lines ≡ hand.search.cap
+  pub full : length hand.lines ≡ hand.search.nodes
   pub part : ℕ
   pub entry : RecordData
   pub recorded : hand.records part ≡ Some entry
@@ -98,7 +98,7 @@ pub record WorksOn (before after : HandData) : Type 0 where
 pub record TakesOver (one other both : HandData) : Type 0 where
   pub first : GoesOn one both
   pub second : GoesOn other both
-  pub few : length both.lines ≤ both.search.cap
+  pub few : length both.lines ≤ both.search.nodes
   pub records : (part : ℕ) → IsSome (both.records part) → IsSome (one.records part) ⊎ IsSome (other.records part)
 
 -- another hand of the search took what one knows, and has claimed nothing

@@ -62,7 +62,7 @@ pub fn tell<F: Fn(u64, u64) -> u64>(
     requires keeps { Keeps (F.pre bounds.now.f) (F.post bounds.now.f) bounds.now.kind bounds.now.film.now }
     ensures ended { IfOk result (λ ended. (hand : HandData) → IsClosed bounds.now.kind bounds.now.film.now hand spent number
         → IsSettled hand (path_data best.now) lines.items
-        → EndsFrom bounds.now.kind bounds.now.film.now hand.search.start hand.search.cap (ended_data ended)) }
+        → EndsFrom bounds.now.kind bounds.now.film.now hand.search.start hand.search.nodes (ended_data ended)) }
     ensures cost { IfOk result (λ ended. (hand : HandData) → IsSettled hand (path_data best.now) lines.items
         → ended.cost ≤ hand.told) }
 {

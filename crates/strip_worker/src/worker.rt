@@ -16,7 +16,7 @@ impl<'g, G: Gate> Worker<'g, G> {
             cost: tally.cost,
             bound: None,
             lines: u64::from(tally.lines),
-            most: tally.most,
+            nodes: tally.nodes,
         };
         self.gate.enter(self.number, part, &standing);
     }

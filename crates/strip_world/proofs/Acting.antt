@@ -223,7 +223,7 @@ module _ (world : WorldData) (owned : IsOwned world) where
     pub owned_enlisted : IsOwned (enlisted world cursor.task path)
     owned_enlisted =
         owned_by (enlisted world cursor.task path) (sound_enlisted world 0 cursor.task path owned.one sound may_enlist)
-        (cond_both (eqb (length world.lines) world.search.cap) world _ (λ (w : WorldData). length w.workers ≡ length world.workers) (λ full. refl) (λ room. refl))
+        (cond_both (eqb (length world.lines) world.search.nodes) world _ (λ (w : WorldData). length w.workers ≡ length world.workers) (λ full. refl) (λ room. refl))
 
     abbrev entry : PartData
     entry = record (part_at world cursor.task) { last = Some path; number = (part_at world cursor.task).number + 1 }
@@ -265,14 +265,14 @@ module _ (world : WorldData) (owned : IsOwned world) where
     Enlisting reply after = Enlists (hand_data world) cursor path bound (Ok reply) (hand_data after) (cursor_then reply)
 
     pub enlists : Enlisting (enlist_reply world) (enlisted world cursor.task path)
-    enlists = elim (eqb_tells (length world.lines) world.search.cap) [
+    enlists = elim (eqb_tells (length world.lines) world.search.nodes) [
       | inl full ↦ (
-          subst (λ (r : Listed). Enlisting r (enlisted world cursor.task path)) (sym (cond-true (eqb (length world.lines) world.search.cap) _ _ full.0))
-          (subst (λ (w : WorldData). Enlisting (Spent (length world.lines)) w) (sym (cond-true (eqb (length world.lines) world.search.cap) world _ full.0))
+          subst (λ (r : Listed). Enlisting r (enlisted world cursor.task path)) (sym (cond-true (eqb (length world.lines) world.search.nodes) _ _ full.0))
+          (subst (λ (w : WorldData). Enlisting (Spent (length world.lines)) w) (sym (cond-true (eqb (length world.lines) world.search.nodes) world _ full.0))
           (record { only = refl; grow = grow_self world.lines; counted = refl; full = full.1 }, refl)))
       | inr room ↦ (
-          subst (λ (r : Listed). Enlisting r (enlisted world cursor.task path)) (sym (cond-false (eqb (length world.lines) world.search.cap) _ _ room.0))
-          (subst (λ (w : WorldData). Enlisting (Line (length world.lines)) w) (sym (cond-false (eqb (length world.lines) world.search.cap) world _ room.0))
+          subst (λ (r : Listed). Enlisting r (enlisted world cursor.task path)) (sym (cond-false (eqb (length world.lines) world.search.nodes) _ _ room.0))
+          (subst (λ (w : WorldData). Enlisting (Line (length world.lines)) w) (sym (cond-false (eqb (length world.lines) world.search.nodes) world _ room.0))
           makes_line))
     ]
 

@@ -53,7 +53,7 @@ rising = path (0 ∷ 1 ∷ 2 ∷ []) 0 13
 
 -- two workers, one line at most, and one bucket a stripe
 abbrev limits : Limits
-limits = record { workers = 2; cap = 1; entries = 64 }
+limits = record { workers = 2; nodes = 1; entries = 64 }
 
 abbrev start : WorldData
 start = opened triangle Plain rising tasks limits

@@ -82,7 +82,7 @@ module _ (world : WorldData) (who part : ℕ) (path : PathData) (lt : who < leng
   long : length (slice_set world.parts part mine) ≡ length world.parts
   long = length-set world.parts part mine
 
-  sound_listed : length world.lines ≢ world.search.cap → IsSound listed
+  sound_listed : length world.lines ≢ world.search.nodes → IsSound listed
   sound_listed room = record {
     film = sound.film;
     tasks = sound.tasks;
@@ -102,9 +102,9 @@ module _ (world : WorldData) (who part : ℕ) (path : PathData) (lt : who < leng
 
   pub sound_enlisted : IsSound (enlisted world part path)
   sound_enlisted =
-      cond_both (eqb (length world.lines) world.search.cap) world listed IsSound (λ full. sound)
-      (λ room. sound_listed (λ same. elim (eqb_tells (length world.lines) world.search.cap) [
-        | inl is ↦ absurd (let e : eqb (length world.lines) world.search.cap ≡ true = is.0 in cc)
+      cond_both (eqb (length world.lines) world.search.nodes) world listed IsSound (λ full. sound)
+      (λ room. sound_listed (λ same. elim (eqb_tells (length world.lines) world.search.nodes) [
+        | inl is ↦ absurd (let e : eqb (length world.lines) world.search.nodes ≡ true = is.0 in cc)
         | inr other ↦ other.1 same
       ]))
 

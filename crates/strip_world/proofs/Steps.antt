@@ -44,7 +44,7 @@ search_stays world after (Claim who) reply steps =
     ap (λ (w : WorldData). w.search) steps.0 ∙ claim_keeps world who (λ w. w.search ≡ world.search) (λ taken search least lines. search)
 search_stays world after (Enlist who task path) reply steps =
     ap (λ (w : WorldData). w.search) steps.0
-    ∙ cond_both (eqb (length world.lines) world.search.cap) world _ (λ (w : WorldData). w.search ≡ world.search) (λ full. refl) (λ room. refl)
+    ∙ cond_both (eqb (length world.lines) world.search.nodes) world _ (λ (w : WorldData). w.search ≡ world.search) (λ full. refl) (λ room. refl)
 search_stays world after (Raise who line bound) reply steps = ap (λ (w : WorldData). w.search) steps.0
 search_stays world after (Ask who set) reply steps = ap (λ (w : WorldData). w.search) steps.0
 search_stays world after (Note who known) reply steps = ap (λ (w : WorldData). w.search) steps.1.others
@@ -59,7 +59,7 @@ least_falls world after (Claim who) reply steps =
 least_falls world after (Enlist who task path) reply steps =
     let same : after.least ≡ world.least
     = ap (λ (w : WorldData). w.least) steps.0
-    ∙ cond_both (eqb (length world.lines) world.search.cap) world _ (λ (w : WorldData). w.least ≡ world.least) (λ full. refl) (λ room. refl) in
+    ∙ cond_both (eqb (length world.lines) world.search.nodes) world _ (λ (w : WorldData). w.least ≡ world.least) (λ full. refl) (λ room. refl) in
     omega (arith, same)
 least_falls world after (Raise who line bound) reply steps = omega (arith, ap (λ (w : WorldData). w.least) steps.0)
 least_falls world after (Ask who set) reply steps = omega (arith, ap (λ (w : WorldData). w.least) steps.0)
@@ -79,7 +79,7 @@ lines_grow world after (Claim who) reply may steps =
     (ap (λ (w : WorldData). w.lines) steps.0 ∙ claim_keeps world who (λ w. w.lines ≡ world.lines) (λ taken search least lines. lines)) (grow_self world.lines)
 lines_grow world after (Enlist who task path) reply may steps =
     grow_as world.lines (enlisted world task (path_data path)).lines after.lines (ap (λ (w : WorldData). w.lines) steps.0)
-    (cond_both (eqb (length world.lines) world.search.cap) world _ (λ (w : WorldData). GrowTo world.lines w.lines) (λ full. grow_self world.lines)
+    (cond_both (eqb (length world.lines) world.search.nodes) world _ (λ (w : WorldData). GrowTo world.lines w.lines) (λ full. grow_self world.lines)
     (λ room. added-grows world.lines (new_line world (path_data path))))
 lines_grow world after (Raise who line bound) reply may steps =
     grow_as world.lines _ after.lines (ap (λ (w : WorldData). w.lines) steps.0) (raised-grows world.lines line bound may.fitting.known)

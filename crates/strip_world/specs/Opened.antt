@@ -12,7 +12,7 @@ abbrev pub search_of : FilmData → Kind → PathData → List PathData → Limi
 search_of film kind start tasks limits = record {
   film = film;
   kind = kind;
-  cap = limits.cap;
+  nodes = limits.nodes;
   start = start.paid;
   tasks = tasks;
 }

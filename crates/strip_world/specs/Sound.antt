@@ -48,7 +48,7 @@ pub record IsSound (world : WorldData) : Type 0 where
   pub tasks : AreStarts world.search
   pub workers : All (IsWorker world.search world.least) world.workers
   pub least : HasLeast world
-  pub few : length world.lines ≤ world.search.cap
+  pub few : length world.lines ≤ world.search.nodes
   pub lines : AreJustified (search_rules world.search) world.lines
   pub stripe_count : length world.stripes ≡ 16
   pub stripes : (number : ℕ) → number < 16 → IsStripeOf world number (stripe_at world number)

@@ -56,7 +56,7 @@ abbrev pub new_line : WorldData → PathData → Line
 new_line world path = record { set = path.rest; bound = bound world.search.kind world.search.film path.rest }
 
 abbrev pub enlisted : WorldData → ℕ → PathData → WorldData
-enlisted world part path = if length world.lines == world.search.cap
+enlisted world part path = if length world.lines == world.search.nodes
     then world
     else record world {
       lines = world.lines ++ new_line world path ∷ [];
@@ -64,7 +64,7 @@ enlisted world part path = if length world.lines == world.search.cap
     }
 
 abbrev pub enlist_reply : WorldData → Listed
-enlist_reply world = if length world.lines == world.search.cap then Spent (length world.lines) else NewLine
+enlist_reply world = if length world.lines == world.search.nodes then Spent (length world.lines) else NewLine
     (length world.lines)
 
 -- a raise: the line has the greater of its bound and this one

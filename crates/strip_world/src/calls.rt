@@ -58,7 +58,7 @@ impl World {
         ensures listed { result ≡ enlist_reply self.old }
     {
         let lines = self.lines.len() as u32;
-        if lines == self.cap {
+        if lines == self.nodes {
             return Listed::Spent { lines };
         }
         self.push_line(path.rest(), bound);
@@ -110,7 +110,7 @@ impl World {
 
     /// Appends a line, for which room is reserved.
     fn push_line(&mut self, set: Mask, bound: u64)
-        requires { length self.old.lines < self.old.search.cap }
+        requires { length self.old.lines < self.old.search.nodes }
         ensures { self.new ≡ record self.old { lines = self.old.lines ++ record { set = set.0; bound = bound } ∷ [] } }
     {
         match self.lines.push(Line { set: set.0, bound }) {

@@ -37,15 +37,15 @@ impl Hand for World {
 
     fn tally(&self) -> Tally
         requires { IsOwned self.now }
-        ensures lines { result.lines ≤ result.most }
-        ensures most { result.most ≡ self.now.search.cap }
+        ensures lines { result.lines ≤ result.nodes }
+        ensures nodes { result.nodes ≡ self.now.search.nodes }
         ensures least { result.cost ≡ self.now.least }
         ensures all { result.lines ≡ length self.now.lines }
     {
         Tally {
             cost: self.least,
             lines: self.lines.len() as u32,
-            most: self.cap,
+            nodes: self.nodes,
         }
     }
 

@@ -19,7 +19,7 @@ use strip_table::{Bucket, Stripe};
 pub struct World {
     pub(crate) film: Film,
     pub(crate) kind: Kind,
-    pub(crate) cap: u32,
+    pub(crate) nodes: u32,
     pub(crate) start: u64,
     pub(crate) tasks: Vec<Path>,
     pub(crate) buckets: u32,
@@ -40,7 +40,7 @@ impl Model for World {
     ghost Value = { WorldData };
 
     ghost view = { λ w. record {
-      search = record { film = w.film; kind = w.kind; cap = w.cap; start = w.start; tasks = map path_data w.tasks.items };
+      search = record { film = w.film; kind = w.kind; nodes = w.nodes; start = w.start; tasks = map path_data w.tasks.items };
       buckets = w.buckets;
       least = w.least;
       lines = w.lines.items;
@@ -50,7 +50,7 @@ impl Model for World {
       workers = map worker_data w.workers.items;
     } };
 
-    ghost invariant = { λ w. (w.cap ≤ 16777216) × (w.cap ≤ vec_capacity w.lines) };
+    ghost invariant = { λ w. (w.nodes ≤ 16777216) × (w.nodes ≤ vec_capacity w.lines) };
 }
 
 impl World {

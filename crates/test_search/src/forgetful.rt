@@ -39,8 +39,8 @@ impl Hand for Forgetful {
 
     fn tally(&self) -> Tally
         requires { IsOwned self.now.world }
-        ensures lines { result.lines ≤ result.most }
-        ensures most { result.most ≡ self.now.world.search.cap }
+        ensures lines { result.lines ≤ result.nodes }
+        ensures nodes { result.nodes ≡ self.now.world.search.nodes }
     {
         self.world.tally()
     }

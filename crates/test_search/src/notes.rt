@@ -47,7 +47,7 @@ fn without_notes<F: Fn(u64, u64) -> u64>(
     let mut front = make_front(alloc, bounds, 2)?;
     let limits = Limits {
         workers: 1,
-        cap: CAP,
+        nodes: CAP,
         entries: ENTRIES,
     };
     let world = World::new(alloc, film, bounds.kind(), start, front.tasks(), &limits)?;

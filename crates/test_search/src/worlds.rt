@@ -27,11 +27,11 @@ fn world<F: Fn(u64, u64) -> u64>(
     alloc: Global,
     bounds: &StoredBound<F>,
     start: &Path,
-    cap: u32,
+    nodes: u32,
 ) -> Result<World, Fail>
     requires keeps { Keeps (F.pre bounds.now.f) (F.post bounds.now.f) bounds.now.kind bounds.now.film.now }
     requires start { IsComplete bounds.now.film.now (path_data start.now) }
-    requires cap { (1 ≤ cap) × (cap ≤ 16777216) }
+    requires nodes { (1 ≤ nodes) × (nodes ≤ 16777216) }
     ensures sound { IfOk result IsSound }
     ensures search { IfOk result (λ world. GoesBy bounds.now.kind bounds.now.film.now world.search) }
 {
@@ -40,7 +40,7 @@ fn world<F: Fn(u64, u64) -> u64>(
     tasks_are_starts();
     let limits = Limits {
         workers: 2,
-        cap,
+        nodes,
         entries: 64,
     };
     let front = make_front(alloc, bounds, 2)?;

@@ -107,9 +107,9 @@ all_of_one : {X : Type 0} (P : X → Type 0) (x : X) → P x → All P (x ∷ []
 all_of_one P x holds zero d within = holds
 all_of_one P x holds (suc k) d within = absurd (omega (arith, within))
 
-pub one_start : (film : FilmData) (kind : Kind) (cap start : ℕ) (task : PathData) → IsPath film task
-    → AreStarts (record { film = film; kind = kind; cap = cap; start = start; tasks = task ∷ [] })
-one_start film kind cap start task is = record {
+pub one_start : (film : FilmData) (kind : Kind) (nodes start : ℕ) (task : PathData) → IsPath film task
+    → AreStarts (record { film = film; kind = kind; nodes = nodes; start = start; tasks = task ∷ [] })
+one_start film kind nodes start task is = record {
   paths = all_of_one (IsPath film) task is;
   long = all_of_one (λ path. length path.scenes ≡ length task.scenes) task refl;
   apart = λ i j d lt within. absurd (omega (arith, lt, within));
@@ -148,7 +148,7 @@ all_whole (suc count) whole scenes (suc task) = all_whole count whole scenes tas
 
 pub are_wholes : (kind named : Kind) (film told : FilmData) (count most : ℕ) (whole : Path) (tasks : List Path) (view : ViewData) → named ≡ kind → told ≡ film
     → (path_data whole).scenes ≡ [] → tasks ≡ replicate count whole
-    → view ≡ first_view (record { film = told; kind = named; cap = most; start = 14; tasks = map path_data tasks }) → IsOfWholes kind film count view.search
+    → view ≡ first_view (record { film = told; kind = named; nodes = most; start = 14; tasks = map path_data tasks }) → IsOfWholes kind film count view.search
 are_wholes kind named film told count most whole tasks view same_kind same_film scenes are first =
     subst (λ (v : ViewData). IsOfWholes kind film count v.search) (sym first)
     (record {

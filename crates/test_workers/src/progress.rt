@@ -60,7 +60,7 @@ fn standing(bound: Option<u64>) -> Standing {
         cost: 104_319,
         bound,
         lines: 1444,
-        most: 20_000,
+        nodes: 20_000,
     }
 }
 

@@ -34,17 +34,17 @@ fn ring(alloc: Global) -> Result<Film, Fail> {
     )
 }
 
-/// Runs a race from the order of the rows, with `workers` workers, a table of 64 entries, and at most `cap` lines. The
+/// Runs a race from the order of the rows, with `workers` workers, a table of 64 entries, and at most `nodes` lines. The
 /// workers take tasks from a counter, or from queues if `steal` holds.
 fn raced<R: Threads + Wait + Sync>(
     rt: &R,
     alloc: Global,
     workers: u32,
-    cap: u32,
+    nodes: u32,
     steal: bool,
 ) -> Result<Ended, Fail>
     requires workers { (1 ≤ workers) × (workers ≤ 64) }
-    requires cap { (1 ≤ cap) × (cap ≤ 16777216) }
+    requires nodes { (1 ≤ nodes) × (nodes ≤ 16777216) }
 {
     let film = ring(alloc)?;
     let start = path(&film, &[0, 1, 2, 3, 4])?;
@@ -56,7 +56,7 @@ fn raced<R: Threads + Wait + Sync>(
     );
     let limits = Limits {
         workers,
-        cap,
+        nodes,
         entries: 64,
     };
     raced_by(rt, alloc, &bounds, &start, limits, steal)
@@ -93,19 +93,19 @@ fn is_won<R: Threads + Wait + Sync>(
     Ok(!ended.spent && ended.cost == 33 && ended.bound == 33)
 }
 
-/// Tells whether a race uses up its lines. With `cap` lines the least cost can't be proved.
+/// Tells whether a race uses up its lines. With `nodes` lines the least cost can't be proved.
 fn runs_out<R: Threads + Wait + Sync>(
     rt: &R,
     alloc: Global,
     workers: u32,
-    cap: u32,
+    nodes: u32,
     steal: bool,
 ) -> Result<bool, Fail>
     requires workers { (1 ≤ workers) × (workers ≤ 64) }
-    requires cap { (1 ≤ cap) × (cap ≤ 16777216) }
+    requires nodes { (1 ≤ nodes) × (nodes ≤ 16777216) }
 {
-    let ended = raced(rt, alloc, workers, cap, steal)?;
-    Ok(ended.spent && ended.held == u64::from(cap) && ended.bound <= 33 && ended.cost >= 33)
+    let ended = raced(rt, alloc, workers, nodes, steal)?;
+    Ok(ended.spent && ended.held == u64::from(nodes) && ended.bound <= 33 && ended.cost >= 33)
 }
 
 #[test]

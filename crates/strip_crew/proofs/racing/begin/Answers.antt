@@ -38,7 +38,7 @@ go_down_front-requires-clause-may g c =
     (hand_of claimed.source (known_least claimed.told) (known claimed.lines) claimed.asked claimed.noted) c.claim.ensures.claimed
     ∙ ap (λ (p : BookPass). (known p).search) c.of-hub.ensures.passes.1 in
     record {
-      some_lines = subst (λ (s : SearchData). 1 ≤ s.cap) (sym search) begin.some_lines;
+      some_lines = subst (λ (s : SearchData). 1 ≤ s.nodes) (sym search) begin.some_lines;
       claimed = claimed_front (known_least first.told) (known_least claimed.told) c.claim.result (hand_of first.source (known_least first.told) (known first.lines) first.asked first.noted)
           (hand_of claimed.source (known_least claimed.told) (known claimed.lines) claimed.asked claimed.noted) (c.claim.ensures.next counter)
           (ap (λ (p : LeastPass). (known_least p).ended) c.of-hub.ensures.passes.0 ∙ begin.unended)

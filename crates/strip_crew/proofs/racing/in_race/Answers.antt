@@ -14,5 +14,5 @@ returns-clause-ended g c = λ paid room opening.
     = c.in_ok-passes.ensures.closed.search ∙ ap (λ (v : ViewData). v.search) c.new.ensures.same in
     subst (λ (start : ℕ). IfOk c.end.result (λ ended. EndsFrom c.args.bounds.now.kind c.args.bounds.now.film.now start room (ended_data ended)))
     (ap (λ (s : SearchData). s.start) same ∙ opening.start)
-    (subst (λ (cap : ℕ). IfOk c.end.result (λ ended. EndsFrom c.args.bounds.now.kind c.args.bounds.now.film.now (shown c.in_ok-passes.passes).search.start cap (ended_data ended)))
-    (ap (λ (s : SearchData). s.cap) same ∙ opening.cap) c.end.ensures)
+    (subst (λ (nodes : ℕ). IfOk c.end.result (λ ended. EndsFrom c.args.bounds.now.kind c.args.bounds.now.film.now (shown c.in_ok-passes.passes).search.start nodes (ended_data ended)))
+    (ap (λ (s : SearchData). s.nodes) same ∙ opening.nodes) c.end.ensures)

@@ -25,6 +25,6 @@ returns-clause-ended g c =
       ap factorial classes,
     ) in
     where_ended c.in_race.result
-    (λ ended from. ended_within kind film start c.args.limits.cap c.room_for-room.result (factorial c.scenes.result) (ended_data ended)
+    (λ ended from. ended_within kind film start c.args.limits.nodes c.room_for-room.result (factorial c.scenes.result) (ended_data ended)
     c.room_for-room.ensures.within c.room_for-room.ensures.enough orders (from start refl))
     (c.in_race.ensures.ended start.paid c.room_for-room.result c.in_ok-opening.ensures)

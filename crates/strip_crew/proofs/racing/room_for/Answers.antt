@@ -21,8 +21,8 @@ returns-clause-some c =
     omega (arith, c.min.ensures, c.from-2.ensures, c.saturating_mul.ensures, c.loop-scene.invariant.orders, some_order c.loop-scene.scene, c.requires.some)
 
 -- the lesser of a small number and of what stands for another, cut off above it, is one of the two
-either : (cap other : ℕ) → cap ≤ 16777216 → (min cap (min other 18446744073709551615) ≡ cap) ⊎ (min cap (min other 18446744073709551615) ≡ other)
-either cap other few = elim (cases_lt cap other) [
+either : (nodes other : ℕ) → nodes ≤ 16777216 → (min nodes (min other 18446744073709551615) ≡ nodes) ⊎ (min nodes (min other 18446744073709551615) ≡ other)
+either nodes other few = elim (cases_lt nodes other) [
   | inl less ↦ inl (omega (arith, less, few))
   | inr more ↦ inr (omega (arith, more, few))
 ]
@@ -30,7 +30,7 @@ either cap other few = elim (cases_lt cap other) [
 pub returns-clause-enough : goal.returns-clause-enough
 returns-clause-enough c =
     let all : c.loop-scene.scene ≡ c.args.scenes = omega (arith, c.loop-scene-test.false, c.loop-scene.auto.scene-end) in
-    elim (either c.args.cap (2 * c.loop-scene.orders) c.requires.few) [
+    elim (either c.args.nodes (2 * c.loop-scene.orders) c.requires.few) [
       | inl is ↦ inl (omega (arith, is, c.min.ensures, c.from-2.ensures, c.saturating_mul.ensures))
       | inr is ↦ inr (omega (arith, is, c.min.ensures, c.from-2.ensures, c.saturating_mul.ensures, c.loop-scene.invariant.orders, ap factorial all))
     ]

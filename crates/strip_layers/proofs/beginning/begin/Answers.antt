@@ -17,15 +17,15 @@ returns-clause-begun g c =
     let film : FilmData = g.A.Answers.film c.args.answers.now in
     let start : PathData = path_data c.args.start.now in
     let all_is : c.all.result.0 ≡ all_scenes film = c.all.ensures ∙ ap all_scenes c.film-film.ensures in
-    let first : SearchData = record { lines = []; best = start; goal = start.paid; cap = c.args.cap; spent = false } in
+    let first : SearchData = record { lines = []; best = start; goal = start.paid; nodes = c.args.nodes; spent = false } in
     let second : search_data c.add.new.self ≡ record first { lines = record { set = all_scenes film; bound = c.args.static_bound } ∷ [] }
-    = added kind film start c.args.cap c.args.static_bound c.look_ahead.result (subst IsFilm c.film-film.ensures c.keeps_limits.ensures) c.requires.start c.requires.some c.requires.bound c.requires.below
+    = added kind film start c.args.nodes c.args.static_bound c.look_ahead.result (subst IsFilm c.film-film.ensures c.keeps_limits.ensures) c.requires.start c.requires.some c.requires.bound c.requires.below
     c.in_ok-add.field-0
     (search_data c.add.new.self)
     (subst (λ (s : SearchData). Adds s (record { set = all_scenes film; bound = c.args.static_bound }) c.in_ok-add.field-0 (search_data c.add.new.self)) c.new-search.ensures.search
     (subst (λ (q : ℕ). Adds (search_data c.new-search.result) (record { set = q; bound = c.args.static_bound }) c.in_ok-add.field-0 (search_data c.add.new.self)) all_is
     c.in_ok-add.ensures.added)) in
-    subst (HasBegun (rules_of kind film) start c.args.cap)
+    subst (HasBegun (rules_of kind film) start c.args.nodes)
     (sym (c.raise.ensures.lines ∙ ap (λ (s : SearchData). record s { lines = with_raised s.lines 0 c.look_ahead.result }) second))
-    (has_begun kind film start c.args.cap c.args.static_bound c.look_ahead.result (subst IsFilm c.film-film.ensures c.keeps_limits.ensures) c.requires.start c.requires.some
+    (has_begun kind film start c.args.nodes c.args.static_bound c.look_ahead.result (subst IsFilm c.film-film.ensures c.keeps_limits.ensures) c.requires.start c.requires.some
     c.requires.bound c.requires.below c.look_ahead.ensures)

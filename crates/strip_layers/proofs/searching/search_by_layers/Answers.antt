@@ -26,10 +26,10 @@ returns-then-bound-paid-clause-layered g c =
     let is : IsFilm film = subst IsFilm c.film-film.ensures c.keeps_limits.ensures in
     let static : bound kind film (all_scenes film) ≡ c.bound-bound.result
     = sym (c.bound-bound.ensures ∙ ap (bound kind film) (c.all.ensures ∙ ap all_scenes c.film-film.ensures)) in
-    subst (λ (lines : List Line). IsLayered kind film start c.args.cap (record { lines = lines; bound = c.bound-bound.result; best = start; is_spent = false }))
+    subst (λ (lines : List Line). IsLayered kind film start c.args.nodes (record { lines = lines; bound = c.bound-bound.result; best = start; is_spent = false }))
     (sym c.new.ensures.items)
-    (subst (λ (n : ℕ). IsLayered kind film start c.args.cap (record { lines = []; bound = n; best = start; is_spent = false })) static
-    (nothing_is kind film start c.args.cap is c.requires.start (omega (arith, c.if-bound-paid.true, c.paid.ensures, static))
+    (subst (λ (n : ℕ). IsLayered kind film start c.args.nodes (record { lines = []; bound = n; best = start; is_spent = false })) static
+    (nothing_is kind film start c.args.nodes is c.requires.start (omega (arith, c.if-bound-paid.true, c.paid.ensures, static))
     (λ order. (c.kept_orders_are_ready_lists.ensures film order is).1)
     (λ order is_order. c.steps_add_up_to_the_pay.ensures film order is is_order)))
 
@@ -39,8 +39,8 @@ returns-clause-layered g c =
     let film : FilmData = g.A.Answers.film c.args.answers.now in
     let start : PathData = path_data c.args.start.now in
     let is : IsFilm film = subst IsFilm c.film-film.ensures c.keeps_limits.ensures in
-    layered_is kind film start c.args.cap (search_data c.rise.new.search) (layered_data c.end.result) is c.in_ok-rise.ensures.search
-    (c.in_ok-rise.ensures.rises.goal ∙ c.in_ok-search.ensures.begun.goal) (c.in_ok-rise.ensures.rises.cap ∙ c.in_ok-search.ensures.begun.cap)
+    layered_is kind film start c.args.nodes (search_data c.rise.new.search) (layered_data c.end.result) is c.in_ok-rise.ensures.search
+    (c.in_ok-rise.ensures.rises.goal ∙ c.in_ok-search.ensures.begun.goal) (c.in_ok-rise.ensures.rises.nodes ∙ c.in_ok-search.ensures.begun.nodes)
     c.in_ok-rise.ensures.ended c.end.ensures.ended
     (λ order. (c.kept_orders_are_ready_lists.ensures film order is).1)
     (λ order is_order. c.steps_add_up_to_the_pay.ensures film order is is_order)

@@ -11,7 +11,7 @@ returns-clause-ended g c = λ hand shut left.
     let lines = c.args.lines.items in
     let order = sym (c.in_ok-order.ensures.items_if_clones_equal (search rules) ∙ c.scenes.ensures) in
     let held = sym (c.len.ensures ∙ c.args.lines.ok.0) in
-    subst (EndsFrom kind film hand.search.start hand.search.cap)
+    subst (EndsFrom kind film hand.search.start hand.search.nodes)
     (λ i. record { order = order i; cost = sym c.paid.ensures i; bound = c.whole_bound-bound.result; held = held i; lines = lines; spent = c.args.spent })
     (tells kind film hand (path_data c.args.best.now) lines c.args.spent c.args.number c.whole_bound-bound.result shut left
     (c.the_rules_are_true.ensures.bounds hand.search.kind hand.search.film shut.limits.film)

@@ -19,7 +19,7 @@ new-requires-clause-tasks g c =
     (record {
       film = c.film-film.result.now;
       kind = c.kind.result;
-      cap = c.args.cap;
+      nodes = c.args.nodes;
       start = (path_data c.args.start.now).paid;
       tasks = map path_data c.tasks.result.now;
     })

@@ -15,7 +15,7 @@ load-requires c =
 
 pub returns-clause-listed : goal.returns-clause-listed
 returns-clause-listed c =
-    let cap : c.args.self.now.seat.me.0.search.cap ≡ c.args.book.now.table.shared.key.cap = ap (λ (q : SearchData). q.cap) c.requires.pass.search in
-    let below : c.draw-number.result < c.args.self.now.seat.me.0.search.cap = omega (arith, c.if-number-from.false, c.from.ensures, c.args.book.now.counts, cap) in
+    let nodes : c.args.self.now.seat.me.0.search.nodes ≡ c.args.book.now.table.shared.key.nodes = ap (λ (q : SearchData). q.nodes) c.requires.pass.search in
+    let below : c.draw-number.result < c.args.self.now.seat.me.0.search.nodes = omega (arith, c.if-number-from.false, c.from.ensures, c.args.book.now.counts, nodes) in
     makes_so c.args.self.now.seat.me.0 c.draw-number.new.seat.me.0 c.write.new.seat.me.0 c.args.part (path_data c.args.path.now) c.args.bound c.draw-number.result c.requires.may
     (c.draw-number.ensures.drawn.made below) c.write.ensures.written

@@ -8,7 +8,7 @@ pub fetch_max-requires : goal.fetch_max-requires
 fetch_max-requires c =
     let p = c.requires.pass in (
       p.table,
-      omega (arith, c.args.book.now.words, c.args.book.now.counts, c.bound_word-word.ensures, p.few, c.requires.may.there, ap (λ (q : SearchData). q.cap) p.search),
+      omega (arith, c.args.book.now.words, c.args.book.now.counts, c.bound_word-word.ensures, p.few, c.requires.may.there, ap (λ (q : SearchData). q.nodes) p.search),
       raises_at c.args.book.now.table.shared.key c.args.book.now.table.shared.table_id.slots c.args.self.now.seat.id c.args.self.now.seat.me p.no_slots p.idle p.some_weight c.args.line
           c.args.bound c.bound_word-word.result c.bound_word-word.ensures c.requires.may,
     )

@@ -3,7 +3,7 @@ use Rattle.strip_hand.specs.Search.{SearchData}
 use Rattle.strip_crew.proofs.calls.HubHand.tally.Goals as goal
 
 pub returns-clause-lines : goal.returns-clause-lines
-returns-clause-lines g c = omega (arith, c.peek-lines.ensures, c.cap-most.ensures)
+returns-clause-lines g c = omega (arith, c.peek-lines.ensures, c.nodes-most.ensures)
 
 pub returns-clause-most : goal.returns-clause-most
-returns-clause-most g c = c.cap-most.ensures ∙ ap (λ (s : SearchData). s.cap) (sym c.requires.book_pass.search)
+returns-clause-most g c = c.nodes-most.ensures ∙ ap (λ (s : SearchData). s.nodes) (sym c.requires.book_pass.search)

@@ -24,8 +24,8 @@ enlist-requires c =
     let same : c.index_mut.result.now.number ≡ (part_at c.args.self.now c.args.task).number
     = sym (ap (λ (d : PartData). d.number) here) ∙ ap (λ (w : WorldData). (part_at w c.args.task).number) pushed in
     let most : (part_at c.args.self.now c.args.task).number ≤ length c.args.self.now.lines = number_le_lines c.args.self.now c.args.task c.requires.sound c.requires.task in
-    let cap : c.args.self.now.search.cap ≤ 16777216 = subst (λ (w : WorldData). w.search.cap ≤ 16777216) c.self.view_is c.self.invariant.0 in
-    omega (arith, same, most, cap, c.requires.sound.few)
+    let nodes : c.args.self.now.search.nodes ≤ 16777216 = subst (λ (w : WorldData). w.search.nodes ≤ 16777216) c.self.view_is c.self.invariant.0 in
+    omega (arith, same, most, nodes, c.requires.sound.few)
 
 pub returns-clause-world : goal.returns-clause-world
 returns-clause-world c =
@@ -36,11 +36,11 @@ returns-clause-world c =
     let counted : PartData → PartData = λ d. record d { last = Some path; number = d.number + 1 } in
     let written = part_written c.self-2.inside.parts.items c.args.task c.index_mut.result.now c.enlist.new.self counted lt c.index_mut.ensures.value c.enlist.ensures in
     let enlist : WorldData → WorldData = λ w. record w { parts = set w.parts c.args.task (counted (part_at w c.args.task)) } in
-    let room : length world.lines ≢ world.search.cap
-    = subst (λ (w : WorldData). length w.lines ≢ w.search.cap) c.self.view_is (λ (e : length c.self.inside.lines.items ≡ c.self.inside.cap). c.if-lines-self.false (omega (arith, c.len-lines.ensures, e))) in
+    let room : length world.lines ≢ world.search.nodes
+    = subst (λ (w : WorldData). length w.lines ≢ w.search.nodes) c.self.view_is (λ (e : length c.self.inside.lines.items ≡ c.self.inside.nodes). c.if-lines-self.false (omega (arith, c.len-lines.ensures, e))) in
     let line : record { set = c.rest.result.0; bound = c.args.bound } ≡ new_line world path = λ i. record { set = c.rest.ensures i; bound = c.requires.bound i } in
     let more : WorldData = enlist (record world { lines = world.lines ++ new_line world path ∷ [] }) in
     (λ i. record (the_view c.self-2.inside) { parts = written i })
     ∙ ap enlist pushed
     ∙ ap (λ (l : Line). enlist (record world { lines = world.lines ++ l ∷ [] })) line
-    ∙ passed_over (nat_eq (length world.lines) world.search.cap) world more (ne_eqb (length world.lines) world.search.cap room)
+    ∙ passed_over (nat_eq (length world.lines) world.search.nodes) world more (ne_eqb (length world.lines) world.search.nodes room)

@@ -14,7 +14,7 @@ returns-clause-opened c =
       search = record {
         film = c.in_ok-copy.ensures i;
         kind = c.args.kind;
-        cap = c.args.limits.now.cap;
+        nodes = c.args.limits.now.nodes;
         start = c.paid.ensures i;
         tasks = tasks i;
       };
