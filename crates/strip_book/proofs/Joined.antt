@@ -1,6 +1,7 @@
 -- A pass takes in another, and a pass or a copy takes in a copy.
-use Rattle.std.proofs.Common.{◌≡◌, ◌≢◌, ℕ, ◌+◌, ◌<◌, ◌≤◌, Bool, true, false, ◌||◌, List, length, set, inl, inr, refl, sym, ap, ◌∙◌, arith}
+use Rattle.std.proofs.Common.{◌≡◌, ◌≢◌, ℕ, ◌+◌, ◌<◌, ◌≤◌, true, false, List, set, inl, inr, refl, sym, ap, ◌∙◌, arith}
 use Rattle.std.proofs.lemmas.List.Elements.{All-append, All-nil}
+use Rattle.std.proofs.lemmas.Bool.{or_cases}
 use mathlib.Core.Option.{some}
 use lib.ListN.{get_elem?}
 use Rattle.atomic_table.specs.Table.{Joins, State}
@@ -13,10 +14,6 @@ use Rattle.strip_book.specs.Rule.{Fits, IsBook, IsEntry, candidates_at, candidat
 use Rattle.strip_book.specs.Steps.{heard_from, joined}
 use Rattle.strip_book.proofs.Views.{each_put, spent_weight-joined, spent_weight-light, total-append, total-put, written-put}
 use Rattle.strip_book.proofs.RuleKept.{grow_none, never_writes}
-
-one_spent : (a b : Bool) (P : Type 0) → (a || b) ≡ true → (a ≡ true → P) → (b ≡ true → P) → P
-one_spent true b P is first second = first refl
-one_spent false b P is first second = second is
 
 -- what is left of a view fits
 spent_fits : (search : SearchData) (words : List ℕ) (lines : List Line) → Fits search words lines spent_view
@@ -83,7 +80,10 @@ joins search id me other w heavy idle other_idle s k at apart there =
       entries = All-append (IsEntry search) me.entries w.entries mine.entries theirs.entries;
       writes = λ is. never_writes me.writing idle is;
       light = λ none. absurd (omega (arith, none, heavy));
-      spent = λ is. one_spent me.spent w.spent (length k.lines ≡ search.nodes) is mine.spent theirs.spent;
+      spent = λ is. elim (or_cases me.spent w.spent is) [
+        | inl one ↦ mine.spent one
+        | inr other ↦ theirs.spent other
+      ];
     })
     refl
     (total-append number_of me.entries w.entries)

@@ -1,5 +1,5 @@
 -- Lists of views, and what a number of each view adds up to.
-use Rattle.std.proofs.Common.{◌≡◌, ◌≢◌, ℕ, zero, suc, ◌+◌, ◌-◌, ◌<◌, ◌≤◌, Bool, true, false, ◌||◌, cond, List, [], ◌∷◌, ◌++◌, set, inl, inr, refl, sym, ap, ◌∙◌, subst, arith}
+use Rattle.std.proofs.Common.{◌≡◌, ◌≢◌, ℕ, zero, suc, ◌+◌, ◌-◌, ◌<◌, ◌≤◌, true, false, ◌||◌, cond, List, [], ◌∷◌, ◌++◌, set, inl, inr, refl, sym, ap, ◌∙◌, subst, arith}
 use Rattle.std.proofs.lemmas.Bool.{cases_eq, cond-false}
 use mathlib.Core.Option.{some, some-ne-none, some-injective}
 use lib.ListN.{get_elem?}
@@ -57,34 +57,42 @@ module _ {A : Type 0} where
   total-two f (z ∷ zs) (suc i) zero x y apart at there = (let same : f z ≡ f y = ap f (some-injective z y there) in let rest = total-one f zs i x at in omega (arith, same, rest))
   total-two f (z ∷ zs) (suc i) (suc j) x y apart at there = (let rest = total-two f zs i j x y (λ same. apart (ap suc same)) at there in omega (arith, rest))
 
-pub by_bool : (b : Bool) (P : Bool → Type 0) → P true → P false → P b
-by_bool true P yes_ no_ = yes_
-by_bool false P yes_ no_ = no_
-
 -- ---- the weight of those who found no line left
 
 -- it is part of the weight
 pub spent_weight-most : (views : List ViewData) → total spent_weight views ≤ total weight_of views
 spent_weight-most [] = omega arith
 spent_weight-most (view ∷ views) = (let rest = spent_weight-most views in
-    let one : spent_weight view ≤ view.weight = by_bool view.spent (λ b. cond {A = ℕ} b view.weight 0 ≤ view.weight) (omega arith) (omega arith) in omega (arith, rest, one))
+    let one : spent_weight view ≤ view.weight = elim view.spent as (λ b. cond {A = ℕ} b view.weight 0 ≤ view.weight) [
+      | true ↦ omega arith
+      | false ↦ omega arith
+    ] in omega (arith, rest, one))
 
 pub spent_weight-none : (view : ViewData) → view.spent ≡ false → spent_weight view ≡ 0
 spent_weight-none view open_ = cond-false view.spent view.weight 0 open_
 
 pub spent_weight-light : (view : ViewData) → view.weight ≡ 0 → spent_weight view ≡ 0
-spent_weight-light view light = by_bool view.spent (λ b. cond {A = ℕ} b view.weight 0 ≡ 0) light refl
+spent_weight-light view light = elim view.spent as (λ b. cond {A = ℕ} b view.weight 0 ≡ 0) [ true ↦ light | false ↦ refl ]
 
 pub spent_weight-parted : (view : ViewData) → 0 < view.weight → spent_weight (lightened view) + spent_weight (split_off view) ≡ spent_weight view
 spent_weight-parted view heavy =
-    by_bool view.spent (λ b. cond {A = ℕ} b (view.weight - 1) 0 + cond {A = ℕ} b 1 0 ≡ cond {A = ℕ} b view.weight 0) (omega (arith, heavy)) (omega arith)
+    elim view.spent as (λ b. cond {A = ℕ} b (view.weight - 1) 0 + cond {A = ℕ} b 1 0 ≡ cond {A = ℕ} b view.weight 0) [
+      | true ↦ omega (arith, heavy)
+      | false ↦ omega arith
+    ]
 
 pub spent_weight-joined : (view other : ViewData) → spent_weight view + spent_weight other ≤ spent_weight (joined view other)
 spent_weight-joined view other =
-    by_bool view.spent
-    (λ a. cond {A = ℕ} a view.weight 0 + cond {A = ℕ} other.spent other.weight 0 ≤ cond {A = ℕ} (a || other.spent) (view.weight + other.weight) 0)
-    (by_bool other.spent (λ b. view.weight + cond {A = ℕ} b other.weight 0 ≤ view.weight + other.weight) (omega arith) (omega arith))
-    (by_bool other.spent (λ b. 0 + cond {A = ℕ} b other.weight 0 ≤ cond {A = ℕ} b (view.weight + other.weight) 0) (omega arith) (omega arith))
+    elim view.spent as (λ a. cond {A = ℕ} a view.weight 0 + cond {A = ℕ} other.spent other.weight 0 ≤ cond {A = ℕ} (a || other.spent) (view.weight + other.weight) 0) [
+      | true ↦ elim other.spent as (λ b. view.weight + cond {A = ℕ} b other.weight 0 ≤ view.weight + other.weight) [
+        | true ↦ omega arith
+        | false ↦ omega arith
+      ]
+      | false ↦ elim other.spent as (λ b. 0 + cond {A = ℕ} b other.weight 0 ≤ cond {A = ℕ} b (view.weight + other.weight) 0) [
+        | true ↦ omega arith
+        | false ↦ omega arith
+      ]
+    ]
 
 -- ---- a view with all the weight
 

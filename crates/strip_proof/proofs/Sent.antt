@@ -27,7 +27,3 @@ rows_split lines n =
 pub on_err : {T E P : Type 0} (r : Result T E) → P → OnErr r P
 on_err (Ok x) p = tt
 on_err (Err e) p = p
-
-pub on_err_then : {T E P Q : Type 0} (r : Result T E) → (P → Q) → OnErr r P → OnErr r Q
-on_err_then (Ok x) more p = tt
-on_err_then (Err e) more p = more p

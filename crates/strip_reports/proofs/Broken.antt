@@ -1,18 +1,18 @@
 -- An order breaks exactly the pairs that it doesn't keep.
 use Rattle.std.proofs.Common.{◌≡◌, ◌≢◌, ◌↔◌, ℕ, ◌-◌, ◌<◌, ◌≤◌, Bool, true, false, IsTrue, eqb, eq-eqb, eqb-true, List, [], ◌∷◌, All, Contains, length, get_or, take, drop, inl, inr, refl, sym, ap, ◌∙◌, subst, arith}
 use Rattle.std.specs.List.{list_any}
-use Rattle.std.proofs.lemmas.Bool.{cases_Bool, cases_lt}
+use Rattle.std.proofs.lemmas.Bool.{cases_Bool, ne_eqb}
 use Rattle.std.proofs.lemmas.Bool.Decides.{eqb_tells}
 use Rattle.std.proofs.lemmas.List.{take_rest}
 use Rattle.std.proofs.lemmas.List.Elements.{All-weaker}
 use Rattle.std.proofs.lemmas.List.Folds.{list_any_none}
-use Rattle.strip_mask.proofs.Lists.{contains_cases, contains_none, count, count_here, count-cons, none_counted}
+use Rattle.strip_mask.proofs.Lists.{contains_cases, contains_none, count, count_here, none_counted}
 use Rattle.strip_model.specs.declared.pair.Pair.{Pair}
 use Rattle.strip_model.specs.Order.{IsOrder, KeepsPair, StandsBefore}
 use Rattle.strip_model.specs.Pairs.{IsKnownPair}
 use Rattle.strip_model.specs.Pay.{from_first}
-use Rattle.strip_model.proofs.Ahead.{stands_second}
-use Rattle.strip_model.proofs.Counts.{contains_counted, count-none, counted_contains}
+use Rattle.strip_model.proofs.Ahead.{stands_second, once_behind, once_each, once-tail}
+use Rattle.strip_model.proofs.Counts.{contains_counted}
 use Rattle.strip_model.proofs.Fits.{never_both}
 use Rattle.strip_model.proofs.Lists.{any_from, any_is, same_test}
 use Rattle.strip_model.proofs.Spans.{All-from_first, from_first-drop_yes}
@@ -22,20 +22,9 @@ use Rattle.strip_reports.specs.Board.{breaks}
 abbrev has_behind : ℕ → ℕ → List ℕ → Bool
 has_behind first then xs = list_any (λ x. eqb x first) (from_first (λ x. eqb x then) xs)
 
-once_behind : (x y : ℕ) (ys : List ℕ) → ((i : ℕ) → count i (x ∷ ys) ≤ 1) → x ≡ y → Contains ys y → ⊥
-once_behind x y ys once same there =
-    let none : count x ys ≡ 0 = omega (arith, once x, count_here x ys) in
-    omega (arith, counted_contains y ys there, subst (λ (i : ℕ). count i ys ≡ 0) same none)
-
-once-tail : (x : ℕ) (xs : List ℕ) → ((i : ℕ) → count i (x ∷ xs) ≤ 1) → (i : ℕ) → count i xs ≤ 1
-once-tail x xs once i = omega (arith, once i, count-cons i x xs)
-
-differs : (first x : ℕ) → x ≢ first → eqb x first ≡ false
-differs first x other = elim (eqb_tells x first) [ inl same ↦ absurd (other same.1) | inr not_same ↦ not_same.0 ]
-
 none_behind : (first then : ℕ) (xs : List ℕ) → count first xs ≡ 0 → has_behind first then xs ≡ false
 none_behind first then xs none =
-    let absent : All (λ x. eqb x first ≡ false) xs = All-weaker (λ x. x ≢ first) (λ x. eqb x first ≡ false) (differs first) xs (none_counted first xs none) in
+    let absent : All (λ x. eqb x first ≡ false) xs = All-weaker (λ x. x ≢ first) (λ x. eqb x first ≡ false) (λ x. ne_eqb x first) xs (none_counted first xs none) in
     list_any_none (λ x. eqb x first) (from_first (λ x. eqb x then) xs) (All-from_first (λ x. eqb x then) (λ x. eqb x first ≡ false) xs absent)
 
 -- in a list that has no number twice, the first number doesn't stand on both sides of the other
@@ -71,19 +60,13 @@ stands first then (x ∷ xs) there behind none = elim (eqb_tells x then) [
 
 pub broken : (n : ℕ) (order : List ℕ) (pair : Pair) → IsOrder n order → IsKnownPair n pair → (breaks order pair ≡ true) ↔ (¬ KeepsPair order pair)
 broken n order pair is known = (
-  λ broken keeps. never_both (breaks order pair) broken (kept pair.first pair.then order once keeps),
+  λ broken keeps. never_both (breaks order pair) broken (kept pair.first pair.then order (once_each n order is) keeps),
   λ not_kept. elim (cases_Bool (breaks order pair)) [
     | inl yes_broken ↦ yes_broken
     | inr none ↦ absurd (not_kept (stands pair.first pair.then order (is_there pair.first known.0) (is_there pair.then known.1) none))
   ],
 )
   where
-    once : (i : ℕ) → count i order ≤ 1
-    once i = elim (cases_lt i n) [
-      | inl lt ↦ omega (arith, is.once i lt)
-      | inr past ↦ omega (arith, count-none n i order is.known past)
-    ]
-
     is_there : (scene : ℕ) → scene < n → Contains order scene
     is_there scene lt = contains_counted scene order (omega (arith, is.once scene lt))
 

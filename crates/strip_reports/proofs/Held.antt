@@ -6,6 +6,7 @@ use Rattle.std.proofs.lemmas.List.{append_assoc, length-append}
 use Rattle.std.proofs.lemmas.List.Elements.{All-head, All-tail}
 use Rattle.std.proofs.lemmas.List.Folds.{list_any-append}
 use Rattle.std.proofs.lemmas.List.Sums.{sum_by-cons}
+use Rattle.std.proofs.Math.Bool.{or-false, or-true}
 use Rattle.strip_mask.specs.Set.{has}
 use Rattle.strip_model.proofs.Walk.{paid_after}
 use Rattle.strip_reports.specs.Days.{hold_days, waits_on}
@@ -22,14 +23,6 @@ waited p days begun (x ∷ later) = cond {A = ℕ} (not (p x) && (begun && list_
 
 plus_none : (n : ℕ) → 0 + n ≡ n
 plus_none n = omega arith
-
-or_all : (b : Bool) → (b || true) ≡ true
-or_all true = refl
-or_all false = refl
-
-or_none : (b : Bool) → (b || false) ≡ b
-or_none true = refl
-or_none false = refl
 
 count-cons : (p : ℕ → Bool) (x : ℕ) (xs : List ℕ) → count_by p (x ∷ xs) ≡ cond {A = ℕ} (p x) 1 0 + count_by p xs
 count-cons p x xs = sum_by-cons (λ y. cond {A = ℕ} (p y) 1 0) x xs
@@ -51,7 +44,7 @@ by_places actor front (x ∷ later) =
     let q : ℕ → Bool = λ crew. has crew actor in
     let moved : (front ++ x ∷ []) ++ later ≡ front ++ x ∷ later = append_assoc front (x ∷ []) later in
     let longer : length (front ++ x ∷ []) ≡ length front + 1 = length-append front (x ∷ []) in
-    let begun : list_any q (front ++ x ∷ []) ≡ (list_any q front || q x) = list_any-append q front (x ∷ []) ∙ ap (λ (b : Bool). list_any q front || b) (or_none (q x)) in
+    let begun : list_any q (front ++ x ∷ []) ≡ (list_any q front || q x) = list_any-append q front (x ∷ []) ∙ ap (λ (b : Bool). list_any q front || b) (or-false (q x)) in
     let rest : count_by (waits_on (front ++ x ∷ later) actor) (range_with_len (length front + 1) (length later)) ≡ held q (list_any q front || q x) later
     = (λ i. count_by (waits_on (sym moved i) actor) (range_with_len (sym longer i) (length later))) ∙ by_places actor (front ++ x ∷ []) later
     ∙ ap (λ (b : Bool). held q b later) begun in
@@ -88,7 +81,7 @@ count_scene q (suc n) x later = count-cons q x (replicate n x ++ later) ∙ by_t
 held_worked : (q : ℕ → Bool) (n x : ℕ) (later : List ℕ) (begun : Bool) → q x ≡ true → held q begun (replicate (suc n) x ++ later) ≡ held q true later
 held_worked q zero x later begun works =
     ap (λ (b : Bool). cond {A = ℕ} (not b && (begun && list_any q later)) 1 0 + held q (begun || b) later) works
-    ∙ plus_none (held q (begun || true) later) ∙ ap (λ (b : Bool). held q b later) (or_all begun)
+    ∙ plus_none (held q (begun || true) later) ∙ ap (λ (b : Bool). held q b later) (or-true begun)
 held_worked q (suc n) x later begun works =
     ap (λ (b : Bool). cond {A = ℕ} (not b && (begun && list_any q (replicate (suc n) x ++ later))) 1 0 + held q (begun || q x) (replicate (suc n) x ++ later)) works
     ∙ plus_none (held q (begun || q x) (replicate (suc n) x ++ later)) ∙ held_worked q n x later (begun || q x) works
@@ -112,7 +105,7 @@ held_idle q (suc n) x later begun idle =
     none = any_idle n
 
     same : (begun || q x) ≡ begun
-    same = ap (λ (b : Bool). begun || b) idle ∙ or_none begun
+    same = ap (λ (b : Bool). begun || b) idle ∙ or-false begun
 
     by_test : (b : Bool) → held q begun (replicate n x ++ later) ≡ cond {A = ℕ} b n 0 + held q begun later
         → cond {A = ℕ} b 1 0 + held q begun (replicate n x ++ later) ≡ cond {A = ℕ} b (suc n) 0 + held q begun later
@@ -122,10 +115,10 @@ held_idle q (suc n) x later begun idle =
 held_scene : (q : ℕ → Bool) (n x : ℕ) (later : List ℕ) (begun works : Bool) → q x ≡ works
     → held q begun (replicate (suc n) x ++ later) ≡ cond {A = ℕ} (not works && (begun && list_any q later)) (suc n) 0 + held q (begun || works) later
 held_scene q n x later begun true is =
-    held_worked q n x later begun is ∙ ap (λ (b : Bool). held q b later) (sym (or_all begun))
+    held_worked q n x later begun is ∙ ap (λ (b : Bool). held q b later) (sym (or-true begun))
     ∙ sym (plus_none (held q (begun || true) later))
 held_scene q n x later begun false is =
-    held_idle q (suc n) x later begun is ∙ ap (λ (b : Bool). cond {A = ℕ} (begun && list_any q later) (suc n) 0 + held q b later) (sym (or_none begun))
+    held_idle q (suc n) x later begun is ∙ ap (λ (b : Bool). cond {A = ℕ} (begun && list_any q later) (suc n) 0 + held q b later) (sym (or-false begun))
 
 -- ---- the days of a list of scenes
 

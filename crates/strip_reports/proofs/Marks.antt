@@ -7,6 +7,7 @@ use Rattle.std.proofs.lemmas.List.Concat.{flat_map-append, length-flat_map}
 use Rattle.std.proofs.lemmas.List.Elements.{All-drop, All-take}
 use Rattle.std.proofs.lemmas.List.Folds.{list_any-append}
 use Rattle.std.proofs.lemmas.List.Sums.{sum_by_more}
+use Rattle.std.proofs.Math.Bool.{or-false}
 use Rattle.strip_mask.specs.Set.{has}
 use Rattle.strip_model.specs.Film.{FilmData}
 use Rattle.strip_model.specs.Order.{IsOrder}
@@ -16,10 +17,6 @@ use Rattle.strip_model.specs.FilmOf.{film_of}
 use Rattle.strip_reports.specs.Days.{crews_of, days_of, is_held, scene_at, waits_on, works_among, works_on}
 use Rattle.strip_reports.proofs.Held.{any_days}
 use Rattle.strip_reports.proofs.Paid.{some_days}
-
-or_none : (b : Bool) → (b || false) ≡ b
-or_none true = refl
-or_none false = refl
 
 -- days of a scene without the actor
 idle : (q : ℕ → Bool) (n x : ℕ) → q x ≡ false → list_any q (replicate n x) ≡ false
@@ -66,7 +63,7 @@ module _ (before after : List ℕ) (days cast n : ℕ) (within : n < days) where
       by_test true on = refl
       by_test false off =
           let begun : list_any q (before ++ replicate n cast) ≡ list_any q before
-          = list_any-append q before (replicate n cast) ∙ ap (λ (b : Bool). list_any q before || b) (idle q n cast off) ∙ or_none (list_any q before) in
+          = list_any-append q before (replicate n cast) ∙ ap (λ (b : Bool). list_any q before || b) (idle q n cast off) ∙ or-false (list_any q before) in
           let back : list_any q (replicate (days - (n + 1)) cast ++ after) ≡ list_any q after
           = list_any-append q (replicate (days - (n + 1)) cast) after ∙ ap (λ (b : Bool). b || list_any q after) (idle q (days - (n + 1)) cast off) in
           λ i. begun i && back i

@@ -1,6 +1,6 @@
 -- A pool takes in the shares of a taker.
-use Rattle.std.proofs.Common.{◌≡◌, ℕ, suc, ◌+◌, ◌≤◌, Bool, true, false, true≢false, ◌||◌, ◌&&◌, All, List, [], ◌∷◌, ◌++◌, length, set, inl, inr, refl, sym, ap, ◌∙◌, subst, length-set, arith}
-use Rattle.std.proofs.lemmas.Bool.{cases_eq}
+use Rattle.std.proofs.Common.{◌≡◌, ℕ, suc, ◌+◌, ◌≤◌, true, ◌&&◌, All, List, [], ◌∷◌, ◌++◌, length, set, inl, inr, refl, sym, ap, ◌∙◌, subst, length-set, arith}
+use Rattle.std.proofs.lemmas.Bool.{cases_eq, and_parts, or_right}
 use Rattle.std.proofs.lemmas.List.{length-map}
 use Rattle.std.proofs.lemmas.List.Elements.{All-cons, All-head, All-nil, All-tail}
 use mathlib.Core.Option.{some, some-injective}
@@ -83,20 +83,12 @@ both-puts [] ys long = refl
 both-puts (x ∷ xs) [] long = absurd (omega (arith, long))
 both-puts (x ∷ xs) (y ∷ ys) long = ap (λ l. x.put ∷ l) (both-puts xs ys (omega (arith, long)))
 
-both_true : (a b : Bool) → (a && b) ≡ true → (a ≡ true) × (b ≡ true)
-both_true true b is = (refl, is)
-both_true false b is = absurd (true≢false (sym is))
-
-or_true : (a b : Bool) → b ≡ true → (a || b) ≡ true
-or_true true b is = refl
-or_true false b is = is
-
 both-ended : (xs ys : List Share) → length ys ≡ length xs → have_ended ys ≡ true → have_ended (both_of xs ys) ≡ true
 both-ended [] ys long are = refl
 both-ended (x ∷ xs) [] long are = absurd (omega (arith, long))
 both-ended (x ∷ xs) (y ∷ ys) long are =
-    let parts = both_true y.ended (have_ended ys) are in
-    ap (λ b. b && have_ended (both_of xs ys)) (or_true x.ended y.ended parts.0) ∙ both-ended xs ys (omega (arith, long)) parts.1
+    let parts = and_parts y.ended (have_ended ys) are in
+    ap (λ b. b && have_ended (both_of xs ys)) (or_right x.ended y.ended parts.0) ∙ both-ended xs ys (omega (arith, long)) parts.1
 
 both-shares : (weight : ℕ) (xs ys : List Share) → length ys ≡ length xs → All (IsShare weight) xs → All (IsShare 1) ys → All AreCounted (both_of xs ys)
     → All (IsShare (weight + 1)) (both_of xs ys)
@@ -119,7 +111,7 @@ each_taken : (number : ℕ) (zs : List Share) → All (IsShare full_weight) zs �
     → times number (taken_in zs) ≡ times number (handed_in zs)
 each_taken number [] are counted ended = refl
 each_taken number (z ∷ zs) are counted ended =
-    let parts = both_true z.ended (have_ended zs) ended in
+    let parts = and_parts z.ended (have_ended zs) ended in
     let one : times number z.taken ≡ times number (numbers_in z.put)
     = (All-head AreCounted z zs counted).each (All-head (IsShare full_weight) z zs are).weighs parts.0 number in
     let rest = each_taken number zs (All-tail (IsShare full_weight) z zs are) (All-tail AreCounted z zs counted) parts.1 in

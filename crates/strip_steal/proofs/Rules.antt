@@ -1,5 +1,6 @@
 -- Each step on a queue keeps its rule.
-use Rattle.std.proofs.Common.{◌≡◌, ℕ, ◌+◌, ◌-◌, ◌<◌, ◌≤◌, Bool, true, false, true≢false, ◌||◌, List, [], ◌∷◌, ◌++◌, Option, Some, None, set, refl, sym, ap, ◌∙◌, subst, append_assoc, arith}
+use Rattle.std.proofs.Common.{◌≡◌, ℕ, ◌+◌, ◌-◌, ◌<◌, ◌≤◌, false, true≢false, List, [], ◌∷◌, ◌++◌, Option, Some, None, set, inl, inr, refl, sym, ap, ◌∙◌, subst, append_assoc, arith}
+use Rattle.std.proofs.lemmas.Bool.{or_cases}
 use mathlib.Core.Option.{some}
 use lib.ListN.{get_elem?}
 use Rattle.crossbeam_deque.specs.Tasks.{Pushes, Takes, Forks, Merges, Learns}
@@ -172,10 +173,6 @@ forks port v enough items shares k at =
           let push = total-push (λ (u : Share). times number u.taken) changed (split_off v) in omega (arith, put, push, k.balance number));
     }
 
-one_ended : (a b : Bool) (P : Type 0) → (a || b) ≡ true → (a ≡ true → P) → (b ≡ true → P) → P
-one_ended true b P is first second = first refl
-one_ended false b P is first second = second is
-
 pub merges : (port : ℕ) (v : Share) (other : ℕ) (w : Share) → 0 < v.weight → 0 < w.weight → Merges IsQueue port v other w (joined v w) spent_share
 merges port v other w heavy heavier items shares k at apart there =
     let both : Share = joined v w in
@@ -193,7 +190,10 @@ merges port v other w heavy heavier items shares k at apart there =
           (λ j u _ place. each_put (λ s. 0 < s.weight → Fits k.put k.gone items s) shares port both (λ i s _ found. k.fits i s found)
           (λ _. record {
             put = mine.put;
-            ended = λ is. one_ended v.ended w.ended (numbers_in items ≡ []) is mine.ended theirs.ended;
+            ended = λ is. elim (or_cases v.ended w.ended is) [
+              | inl one ↦ mine.ended one
+              | inr other ↦ theirs.ended other
+            ];
             order = λ is. absurd (true≢false is);
           }) j u place)
           (λ some_. absurd (omega (arith, some_)));

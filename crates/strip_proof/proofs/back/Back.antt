@@ -3,13 +3,14 @@ use Rattle.std.proofs.Common.{◌≡◌, ◌<◌, ◌^◌, ℕ, List, [], ◌∷
 use Rattle.std.specs.Fmt.{decimal}
 use Rattle.std.proofs.lemmas.List.Elements.{All-map, All-nil, All-weaker}
 use Rattle.std.proofs.lemmas.Simd.{map-map}
+use Rattle.std.proofs.lemmas.List.Folds.{map_fixed}
 use Rattle.strip_film.specs.declared.shared.Line.{Line}
 use Rattle.strip_model.specs.Data.{InstanceData}
 use Rattle.strip_text.specs.Field.{trimmed}
 use Rattle.strip_text.specs.Number.{number_of}
 use Rattle.strip_text.specs.Rows.{Row, rows_of}
 use Rattle.strip_text.specs.Checks.{first_fault}
-use Rattle.strip_text.proofs.Blanks.{map-same, trimmed-decimal}
+use Rattle.strip_text.proofs.Blanks.{trimmed-decimal}
 use Rattle.strip_text.proofs.Numbers.{number_of-decimal}
 use Rattle.strip_proof.specs.Plan.{PlanData}
 use Rattle.strip_proof.specs.Rows.{bare_text, head_rows, line_row, plan_text}
@@ -31,7 +32,7 @@ trimmed-amount n small = trimmed-decimal n (omega (arith, small))
 -- trimming changes no row of a line
 trimmed-lines : (lines : List Line) → All IsReadableLine lines → map (map trimmed) (map line_row lines) ≡ map line_row lines
 trimmed-lines lines readable =
-    map-same (map trimmed) (map line_row lines)
+    map_fixed (map trimmed) (map line_row lines)
     (All-map (λ (row : Row). map trimmed row ≡ row) line_row lines
     (All-weaker IsReadableLine (λ (line : Line). map trimmed (line_row line) ≡ line_row line)
     (λ line is. λ i. codes "line" ∷ trimmed-set line.set i ∷ trimmed-amount line.bound is.bound i ∷ []) lines readable))
@@ -62,7 +63,7 @@ amount-back n small = number_of-decimal n (omega (arith, small))
 lines-back : (lines : List Line) → All IsReadableLine lines → map line_of (map line_row lines) ≡ lines
 lines-back lines readable =
     map-map line_of line_row lines
-    ∙ map-same (λ (line : Line). line_of (line_row line)) lines
+    ∙ map_fixed (λ (line : Line). line_of (line_row line)) lines
     (All-weaker IsReadableLine (λ (line : Line). line_of (line_row line) ≡ line) (λ line is. line_of-row line is) lines readable)
 
 -- what the rows say

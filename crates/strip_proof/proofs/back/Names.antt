@@ -8,9 +8,9 @@ use Rattle.std.proofs.lemmas.List.Elements.{All-map, All-weaker}
 use Rattle.std.proofs.lemmas.List.Sums.{list_all-from_AllPass}
 use Rattle.std.proofs.lemmas.Simd.{map-map}
 use Rattle.std.proofs.lemmas.Slice.Eq.{bytes_eq-Decides}
+use Rattle.std.proofs.lemmas.List.Folds.{map_fixed}
 use Rattle.strip_model.specs.Data.{InstanceData, SceneData, scene_name}
 use Rattle.strip_text.specs.Field.{Field, trimmed}
-use Rattle.strip_text.proofs.Blanks.{map-same}
 use Rattle.strip_proof.specs.Field.{is_scene, scene_of}
 use Rattle.strip_proof.specs.Text.{HasReadableScenes}
 use Rattle.strip_proof.proofs.read.Scenes.{AreOthers, first_scene, there_is}
@@ -42,7 +42,7 @@ pub scenes_of-names : (inst : InstanceData) (order : List ℕ) → HasReadableSc
     → map (scene_of inst) (map (scene_name inst) order) ≡ order
 scenes_of-names inst order names within =
     map-map (scene_of inst) (scene_name inst) order
-    ∙ map-same (λ scene. scene_of inst (scene_name inst scene)) order
+    ∙ map_fixed (λ scene. scene_of inst (scene_name inst scene)) order
     (All-weaker (λ scene. scene < length inst.scenes) (λ scene. scene_of inst (scene_name inst scene) ≡ scene) (λ scene lt. scene_of-name inst scene names lt) order within)
 
 pub are_scenes : (inst : InstanceData) (order : List ℕ) → HasReadableScenes inst → All (λ scene. scene < length inst.scenes) order
@@ -57,7 +57,7 @@ are_scenes inst order names within =
 pub trimmed-names : (inst : InstanceData) (order : List ℕ) → HasReadableScenes inst → All (λ scene. scene < length inst.scenes) order
     → map trimmed (map (scene_name inst) order) ≡ map (scene_name inst) order
 trimmed-names inst order names within =
-    map-same trimmed (map (scene_name inst) order)
+    map_fixed trimmed (map (scene_name inst) order)
     (All-map (λ name. trimmed name ≡ name) (scene_name inst) order
     (All-weaker (λ scene. scene < length inst.scenes) (λ scene. trimmed (scene_name inst scene) ≡ scene_name inst scene)
     (λ scene lt. subst (λ (name : Field). trimmed name ≡ name) (sym (name-at inst scene lt)) (names.bare scene no_scene lt)) order within))

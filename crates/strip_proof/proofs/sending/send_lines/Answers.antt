@@ -1,8 +1,9 @@
 use Rattle.std.proofs.Common.{◌≡◌, ℕ, List, ◌++◌, take, drop, ap, ◌∙◌, subst}
+use Rattle.std.proofs.lemmas.Result.{on_err_weaker}
 use Rattle.strip_proof.specs.Rows.{lines_text}
 use Rattle.strip_io.specs.Sink.{TookFront}
 use Rattle.std.proofs.lemmas.List.{take_all}
-use Rattle.strip_proof.proofs.Sent.{next_row, on_err, on_err_then, row_added, rows_split}
+use Rattle.strip_proof.proofs.Sent.{next_row, on_err, row_added, rows_split}
 use Rattle.strip_proof.proofs.sending.send_lines.Goals as goal
 
 pub returns-in_err-add-clause-front : goal.returns-in_err-add-clause-front
@@ -34,7 +35,7 @@ returns-clause-front g c =
     let parts = c.loop-line.invariant.parts in
     let here : parts.0 ++ c.loop-line.chunk ≡ lines_text c.args.lines.now
     = parts.1 ∙ ap lines_text (take_all c.loop-line.line-index c.args.lines.now c.loop-line-test.false) in
-    on_err_then c.send.result
+    on_err_weaker c.send.result
     (λ front. subst (λ (l : List ℕ). TookFront (g.S.Sink.state c.args.out.now).taken (g.S.Sink.state c.send.new.out).taken l) here
     (c.texts_are_taken_in_parts.ensures.late _ _ _ parts.0 c.loop-line.chunk parts.2
     (subst (λ (l : List ℕ). TookFront (g.S.Sink.state c.loop-line.out).taken (g.S.Sink.state c.send.new.out).taken l) c.bytes-2.ensures front)))
