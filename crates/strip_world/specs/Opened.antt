@@ -1,5 +1,5 @@
 -- The world that a search opens with.
-use Rattle.std.specs.Prelude.{suc, ◌/◌, ◌≤◌, None, List, [], length, replicate}
+use Rattle.std.specs.Prelude.{suc, ◌/◌, None, List, [], length, replicate}
 use Rattle.strip_model.specs.declared.kind.Kind.{Kind}
 use Rattle.strip_model.specs.Film.{FilmData}
 use Rattle.strip_film.specs.Path.{PathData}
