@@ -1,4 +1,3 @@
-mod Ends
 pub mod Endings
 pub mod Long
 pub mod Ways

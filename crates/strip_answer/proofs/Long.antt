@@ -1,7 +1,6 @@
 -- Files that are too long.
-use Rattle.std.proofs.Common.{◌≡◌, ◌+◌, ◌<◌, ◌≤◌, ℕ, false, leb, List, length, replicate, Option, None, Some, Err, refl, arith}
-use Rattle.std.proofs.lemmas.Bool.{cond-false, cond-true, le-leb}
-use Rattle.std.proofs.lemmas.Bool.Decides.{nat_tests}
+use Rattle.std.proofs.Common.{◌≡◌, ◌+◌, ◌<◌, ◌≤◌, ℕ, leb, List, length, replicate, Option, None, Some, Err, refl, arith}
+use Rattle.std.proofs.lemmas.Bool.{cond-false, cond-true, le-leb, lt-leb}
 use Rattle.std.proofs.lemmas.List.{length-replicate}
 use Rattle.strip_io.specs.Counts.{CameAtLeast}
 use Rattle.strip_model.specs.Data.{InstanceData}
@@ -38,15 +37,12 @@ long_input name limit before after P long came holds =
       holds = holds text.0 text.2;
     }
 
-not_short : (n m : ℕ) → m < n → leb n m ≡ false
-not_short n m less = grind (arith, nat_tests)
-
 pub long_film : (text : List ℕ) → 1_048_576 < length text → film_said text ≡ Err (Some too_long_told)
-long_film text long = cond-false (leb (length text) 1_048_576) (film_of_says (film_says text)) (Err (Some too_long_told)) (not_short (length text) 1_048_576 long)
+long_film text long = cond-false (leb (length text) 1_048_576) (film_of_says (film_says text)) (Err (Some too_long_told)) (lt-leb (length text) 1_048_576 long)
 
 pub long_plan : (inst : InstanceData) (text : List ℕ) → 1_073_741_824 < length text → plan_said inst text ≡ Err (Some too_long_told)
 long_plan inst text long =
-    cond-false (leb (length text) 1_073_741_824) (plan_of_says (plan_says inst text)) (Err (Some too_long_told)) (not_short (length text) 1_073_741_824 long)
+    cond-false (leb (length text) 1_073_741_824) (plan_of_says (plan_says inst text)) (Err (Some too_long_told)) (lt-leb (length text) 1_073_741_824 long)
 
 pub short_film : (text : List ℕ) → length text ≤ 1_048_576 → film_said text ≡ film_of_says (film_says text)
 short_film text short = cond-true (leb (length text) 1_048_576) (film_of_says (film_says text)) (Err (Some too_long_told)) (le-leb (length text) 1_048_576 short)
