@@ -1,6 +1,6 @@
 -- No check of a plan fails exactly where it is an accepted one.
 use Rattle.std.proofs.Common.{◌≡◌, ◌≢◌, ◌↔◌, ℕ, ◌+◌, ◌≤◌, eqb, leb, Bool, true, false, not, List, [], ◌++◌, length, Option, None, Some, inl, inr, refl, ap, subst, ◌∙◌, arith}
-use Rattle.std.proofs.lemmas.Bool.{cases_lt, eq-eqb, eqb-true, le-leb, leb-true}
+use Rattle.std.proofs.lemmas.Bool.{cases_lt, eq-eqb, eqb-true, le-leb, leb-true, ne_eqb}
 use Rattle.std.proofs.lemmas.List.{get_or_default}
 use Rattle.std.proofs.lemmas.List.Elements.{All-contains}
 use Rattle.strip_mask.specs.Set.{has, members, minus, without}
@@ -21,7 +21,7 @@ use Rattle.strip_lines.specs.Lines.{AreJustified, IsJustified, known, line_at, n
 use Rattle.strip_reduce.specs.Reduction.{reduced}
 use Rattle.strip_reduce.specs.State.{State}
 use Rattle.strip_text.specs.Checks.{Check, below, checks_of_one, first_fault}
-use Rattle.strip_text.proofs.Making.{first_fault-append, passes}
+use Rattle.strip_text.proofs.Making.{first_fault-append, passes, first-none}
 use Rattle.strip_proof.specs.declared.plan.Status.{Status}
 use Rattle.strip_proof.specs.declared.plan.Status.TheVariants.{Bounded, Optimal}
 use Rattle.strip_proof.specs.Plan.{PlanData}
@@ -31,7 +31,7 @@ use Rattle.strip_check.specs.declared.verdict.Verdict.TheVariants.{Accepted}
 use Rattle.strip_check.specs.Accepted.{IsAccepted, class_rules}
 use Rattle.strip_check.specs.Reasons.{bound_checks, end_checks, is_order, is_right, justified, line_check, no_pair, order_checks, pair_at, pair_check, plan_checks, proof_checks, root_bound, set_check, stands_before, verdict_by}
 use Rattle.strip_check.proofs.Known.{justified_alone, justified_by_steps, steps_by_justified}
-use Rattle.strip_check.proofs.Places.{all_hold, each_holds, eqb_no, none_first, none_in}
+use Rattle.strip_check.proofs.Places.{all_hold, each_holds, none_in}
 use Rattle.strip_check.proofs.Tests.{before_decides, order_decides}
 
 -- ---- a line is justified up to the greatest bound
@@ -88,7 +88,7 @@ status_holds Bounded bound cost test = (
 
 pub status_test : (status : Status) (bound cost : ℕ) → (status ≡ Optimal) ↔ (bound ≡ cost) → is_right status bound cost ≡ true
 status_test Optimal bound cost tells = eq-eqb bound cost (tells.0 refl)
-status_test Bounded bound cost tells = ap not (eqb_no bound cost (λ same. (let optimal : Bounded ≡ Optimal = tells.1 same in cc)))
+status_test Bounded bound cost tells = ap not (ne_eqb bound cost (λ same. (let optimal : Bounded ≡ Optimal = tells.1 same in cc)))
 
 -- ---- what the checks say
 
@@ -102,9 +102,9 @@ module _ (film : FilmData) (plan : PlanData) where
   -- the order keeps the pairs and pays the cost
   pub order_accepted : first_fault (order_checks film plan) ≡ None → IsKeptOrder film plan.order × (plan.cost ≡ pay_of film plan.order)
   order_accepted none =
-      let order = none_first (is_order (length film.casts) plan.order) NotAnOrder (first_fault (below (length film.pairs) (pair_check film.pairs plan.order) ++ rest_of_order)) none in
+      let order = first-none (is_order (length film.casts) plan.order) NotAnOrder (first_fault (below (length film.pairs) (pair_check film.pairs plan.order) ++ rest_of_order)) none in
       let parts = none_in (below (length film.pairs) (pair_check film.pairs plan.order)) rest_of_order order.1 in
-      let cost = none_first (eqb plan.cost (pay_of film plan.order)) (WrongCost (pay_of film plan.order)) None parts.1 in (
+      let cost = first-none (eqb plan.cost (pay_of film plan.order)) (WrongCost (pay_of film plan.order)) None parts.1 in (
         record {
           is_order = (order_decides (length film.casts) plan.order).0 order.0;
           keeps = λ place default within. subst (KeepsPair plan.order) (get_or_default film.pairs place no_pair default within)
@@ -152,9 +152,9 @@ module _ (film : FilmData) (apart : ℕ) (plan : PlanData) (is : IsFilm film) wh
   behind_accepted members none =
       let sets = none_in (below (length plan.lines) (set_check film plan.lines)) (bound_checks the_rules apart plan) none in
       let lines = none_in (below (length plan.lines) (line_check the_rules plan.lines)) (end_checks the_rules apart plan) sets.1 in
-      let root = none_first (leb plan.bound (root_bound the_rules apart plan.lines)) (RootBound (root_bound the_rules apart plan.lines))
+      let root = first-none (leb plan.bound (root_bound the_rules apart plan.lines)) (RootBound (root_bound the_rules apart plan.lines))
       (first_fault (checks_of_one (is_right plan.status plan.bound plan.cost) StatusWrong)) lines.1 in
-      let status = none_first (is_right plan.status plan.bound plan.cost) StatusWrong None root.1 in
+      let status = first-none (is_right plan.status plan.bound plan.cost) StatusWrong None root.1 in
       record {
         justified = λ place default within.
             (let lies = lies_at place (each_holds test_set (λ k. BadSet (k + 1)) (length plan.lines) sets.0 place within) in

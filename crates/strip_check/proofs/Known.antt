@@ -1,6 +1,6 @@
 -- What lines make known and justify, by numbers.
 use Rattle.std.proofs.Common.{◌≡◌, ◌≢◌, ◌↔◌, ◌⊎◌, ℕ, ◌+◌, ◌<◌, ◌≤◌, leb, max, min, Bool, true, false, List, [], ◌∷◌, All, Contains, ◌++◌, inl, inr, refl, sym, ap, ◌∙◌, subst, arith}
-use Rattle.std.proofs.lemmas.Bool.{cases_lt, le-leb, leb-true}
+use Rattle.std.proofs.lemmas.Bool.{cases_lt, le-leb, leb-true, lt-leb}
 use Rattle.std.proofs.lemmas.List.Elements.{All-contains, All-push, Contains-append_left, Contains-append_right, Contains-push}
 use Rattle.strip_mask.specs.Set.{IsSet, members, without}
 use Rattle.strip_mask.proofs.ByMembers.{some_member}
@@ -12,7 +12,6 @@ use Rattle.strip_film.specs.Rules.{Rules}
 use Rattle.strip_film.specs.Shoot.{step_cost}
 use Rattle.strip_lines.specs.Lines.{known, least_of, least_step}
 use Rattle.strip_lines.proofs.Ahead.{least_step_le}
-use Rattle.strip_check.proofs.Places.{leb_no}
 use Rattle.strip_check.specs.Reasons.{by_lines, justified}
 
 -- a static bound that reaches so far decides
@@ -120,7 +119,7 @@ module _ (rules : Rules) (lines : List Line) (set bound : ℕ) where
   pub no_firsts_decide : (reach : ℕ) → (bound ≤ reach) ⊎ (reach ≡ rules.bound set) → reach < bound → rules.firsts set ≡ 0
       → false ≡ leb bound (justified rules lines set)
   no_firsts_decide reach (inl reaches) short none = absurd (omega (arith, reaches, short))
-  no_firsts_decide reach (inr whole) short none = sym (leb_no bound (justified rules lines set) (omega (arith, whole, short, justified_alone none)))
+  no_firsts_decide reach (inr whole) short none = sym (lt-leb bound (justified rules lines set) (omega (arith, whole, short, justified_alone none)))
 
   pub steps_decide : (reach : ℕ) (test : Bool) → (bound ≤ reach) ⊎ (reach ≡ rules.bound set) → reach < bound → IsSet (rules.firsts set)
       → rules.firsts set ≢ 0 → (test ≡ true) ↔ Reach → test ≡ leb bound (justified rules lines set)

@@ -1,23 +1,10 @@
 -- Checks one behind the other: what the first fault of all of them is.
-use Rattle.std.proofs.Common.{◌≡◌, ◌≢◌, ℕ, zero, suc, ◌+◌, ◌<◌, leb, eqb, Bool, true, false, cond, List, [], ◌∷◌, ◌++◌, Option, None, Some, refl, sym, ◌∙◌, subst, inl, inr, arith}
+use Rattle.std.proofs.Common.{◌≡◌, ℕ, zero, suc, ◌+◌, ◌<◌, Bool, true, false, List, [], ◌∷◌, ◌++◌, None, Some, refl, sym, ◌∙◌, subst, inl, inr, arith}
 use Rattle.std.proofs.lemmas.Bool.{cases_lt}
-use Rattle.std.proofs.lemmas.Bool.Decides.{eqb_tells, leb_tells}
 use Rattle.strip_text.specs.Checks.{Check, below, check, checks_of_one, first_fault}
-use Rattle.strip_text.proofs.Making.{below-fault, below-more, fails, first_fault-append, first_fault-front, passes}
+use Rattle.strip_text.proofs.Making.{below-fault, below-more, fails, first_fault-append, first_fault-front, passes, first-none}
 
 -- ---- tests of numbers
-
-pub eqb_no : (a b : ℕ) → a ≢ b → eqb a b ≡ false
-eqb_no a b apart = elim (eqb_tells a b) [
-  | inl same ↦ absurd (apart same.1)
-  | inr other ↦ other.0
-]
-
-pub leb_no : (a b : ℕ) → b < a → leb a b ≡ false
-leb_no a b less = elim (leb_tells a b) [
-  | inl same ↦ absurd (omega (arith, less, same.1))
-  | inr other ↦ other.0
-]
 
 -- ---- a check, and then others
 
@@ -38,17 +25,11 @@ module _ {Fault : Type 0} (xs ys : List (Check Fault)) where
   pub past_before : None ≡ first_fault xs → first_fault ys ≡ first_fault (xs ++ ys)
   past_before none = sym (first_fault-append xs ys (sym none))
 
--- where no check of a list fails, its first holds and none of the others fails
-pub none_first : {Fault : Type 0} (holds : Bool) (fault : Fault) (found : Option Fault) → cond holds found (Some fault) ≡ None
-    → (holds ≡ true) × (found ≡ None)
-none_first true fault found none = (refl, none)
-none_first false fault found none = cc none
-
--- and none of any part of it
+-- where no check of a list fails, none of any part of it does
 pub none_in : {Fault : Type 0} (xs ys : List (Check Fault)) → first_fault (xs ++ ys) ≡ None → (first_fault xs ≡ None) × (first_fault ys ≡ None)
 none_in [] ys none = (refl, none)
 none_in (x ∷ xs) ys none =
-    let first = none_first x.holds x.fault (first_fault (xs ++ ys)) none in
+    let first = first-none x.holds x.fault (first_fault (xs ++ ys)) none in
     let rest = none_in xs ys first.1 in
     (passes x.holds x.fault xs None first.0 rest.0, rest.1)
 
@@ -75,7 +56,7 @@ module _ {Fault : Type 0} (test : ℕ → Bool) (fault : ℕ → Fault) where
       elim (cases_lt place n) [
         | inl less ↦ each_holds n parts.0 place less
         | inr last ↦ (let same : n ≡ place = omega (arith, within, last) in
-            subst (λ (k : ℕ). test k ≡ true) same (none_first (test n) (fault n) None parts.1).0)
+            subst (λ (k : ℕ). test k ≡ true) same (first-none (test n) (fault n) None parts.1).0)
       ]
 
   pub all_hold : (n : ℕ) → ((place : ℕ) → place < n → test place ≡ true) → first_fault (below n at_place) ≡ None

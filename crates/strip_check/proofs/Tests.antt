@@ -1,8 +1,8 @@
 -- The tests of an order and of a pair, and what they decide.
-use Rattle.std.proofs.Common.{◌≡◌, ◌↔◌, ℕ, zero, suc, ◌<◌, ltb, eqb, Bool, true, false, ◌&&◌, ◌||◌, List, [], ◌∷◌, Contains, inl, inr, refl, sym, ◌∙◌, subst, arith}
+use Rattle.std.proofs.Common.{◌≡◌, ◌↔◌, ℕ, zero, suc, ◌<◌, ltb, eqb, Bool, true, ◌&&◌, List, [], ◌∷◌, Contains, inl, inr, refl, sym, ◌∙◌, subst, arith}
 use Rattle.std.specs.List.{list_all, list_any}
 use Rattle.std.specs.Prelude.{count_by}
-use Rattle.std.proofs.lemmas.Bool.{and_parts, cases_lt, eq-eqb, eqb-true, lt-ltb, ltb-true, or_cases}
+use Rattle.std.proofs.lemmas.Bool.{and_parts, cases_lt, eq-eqb, eqb-true, lt-ltb, ltb-true, or_cases, or_left}
 use Rattle.std.proofs.lemmas.List.Folds.{list_all-append}
 use Rattle.std.proofs.lemmas.List.Elements.{All-cons, All-nil}
 use Rattle.std.proofs.lemmas.List.Sums.{AllPass-from_list_all, list_all-from_AllPass}
@@ -70,10 +70,6 @@ before_decides first second (x ∷ xs) = (
         rw e (or_true (eqb x first && list_any (λ y. eqb y second) xs)))
   ],
 )
-  where
-    or_left : (a b : Bool) → a ≡ true → (a || b) ≡ true
-    or_left true b is = refl
-    or_left false b is = (cc)
 
 pub same_before : (pair : Pair) (order : List ℕ) (test : Bool) → (test ≡ true) ↔ Keeps (pair ∷ []) order → test ≡ stands_before pair.first pair.then order
 same_before pair order test decides =

@@ -1,7 +1,6 @@
 -- Paths of the front that may be enlisted, and a line that may be raised.
-use Rattle.std.proofs.Common.{◌≡◌, ◌≢◌, ℕ, zero, suc, ◌+◌, ◌<◌, ◌≤◌, true, Some, List, [], ◌∷◌, ◌++◌, length, All, Contains, inl, inr, refl, sym, ap, ◌∙◌, subst, arith}
+use Rattle.std.proofs.Common.{◌≡◌, ◌≢◌, ℕ, zero, suc, ◌+◌, ◌<◌, ◌≤◌, true, Some, List, [], ◌∷◌, length, All, inr, refl, sym, ap, ◌∙◌, subst, arith}
 use Rattle.std.proofs.lemmas.Bool.{lt-ltb}
-use Rattle.std.proofs.lemmas.List.Elements.{Contains-append_cases}
 use Rattle.strip_mask.specs.Set.{has, without}
 use Rattle.std.proofs.lemmas.List.{length-map, length-replicate}
 use Rattle.std.specs.List.{starts_with}
@@ -11,7 +10,6 @@ use Rattle.strip_film.specs.Shown.{path_data}
 use Rattle.strip_lines.specs.Parts.{lies_in, no_task}
 use Rattle.strip_hand.specs.Search.{depth_of}
 use Rattle.test_workers.specs.Team.{IsOfWholes}
-use Rattle.strip_mask.proofs.Lists.{contains_cases, contains_none}
 use Rattle.strip_model.specs.declared.kind.Kind.{Kind}
 use Rattle.strip_model.specs.Film.{FilmData}
 use Rattle.strip_film.specs.Film.{all_scenes}

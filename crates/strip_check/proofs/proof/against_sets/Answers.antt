@@ -1,6 +1,6 @@
 use Rattle.std.proofs.Common.{◌≡◌, ℕ, ◌+◌, List, None, length, true, sym, subst, arith, ◌∙◌}
 use Rattle.std.proofs.lemmas.List.{get_or_default}
-use Rattle.std.proofs.lemmas.Bool.{eq-eqb, eqb-true}
+use Rattle.std.proofs.lemmas.Bool.{eq-eqb, eqb-true, ne_eqb}
 use Rattle.strip_mask.specs.Set.{minus}
 use Rattle.strip_mask.proofs.Below.{lies_by_minus}
 use Rattle.strip_film.specs.declared.shared.Line.{Line}
@@ -10,7 +10,7 @@ use Rattle.strip_check.specs.Reasons.{set_check}
 use Rattle.strip_lines.specs.Lines.{line_at, no_line}
 use Rattle.strip_rule.specs.Rule.{is_part}
 use Rattle.strip_check.specs.declared.verdict.Reason.TheVariants.{BadSet}
-use Rattle.strip_check.proofs.Places.{each_holds, eqb_no, place_fails, place_holds}
+use Rattle.strip_check.proofs.Places.{each_holds, place_fails, place_holds}
 use Rattle.strip_check.proofs.proof.against_sets.Goals as goal
 
 pub returns-then-not-is_empty-clause-first : goal.returns-then-not-is_empty-clause-first
@@ -20,7 +20,7 @@ returns-then-not-is_empty-clause-first c =
     let place = c.loop-place.place in
     let left = rw c.all.ensures at c.minus.ensures in
     sym (place_fails (λ (k : ℕ). is_part (line_at lines k).set (all_scenes film)) (λ (k : ℕ). BadSet (k + 1)) place (length lines) c.loop-place-test.true c.loop-place.invariant
-    (eqb_no (minus (line_at lines place).set (all_scenes film)) 0
+    (ne_eqb (minus (line_at lines place).set (all_scenes film)) 0
     (λ none. (let empty : c.is_empty.result ≡ true = c.is_empty.ensures.1 (left ∙ none) in
     let some = c.if-not-is_empty.true in
     cc))))

@@ -1,13 +1,10 @@
-use Rattle.std.proofs.Common.{◌≡◌, ℕ, ◌+◌, List, length, sym, subst, ap, arith}
-use Rattle.strip_mask.specs.Set.{IsSet, size, without}
-use Rattle.strip_mask.proofs.Below.{is_set_below}
-use Rattle.strip_mask.proofs.Sizes.{size-without}
+use Rattle.std.proofs.Common.{◌≡◌, ℕ, ◌+◌, List, sym, subst, ap, arith}
+use Rattle.strip_mask.specs.Set.{size, without}
 use Rattle.strip_model.specs.Film.{FilmData}
 use Rattle.strip_film.specs.Film.{all_scenes}
 use Rattle.strip_film.specs.Path.{PathData}
 use Rattle.strip_film.specs.Shown.{running_data}
-use Rattle.strip_film.proofs.Lists.{ready_there}
-use Rattle.strip_film.proofs.Paths.{rest_lies, one_fewer}
+use Rattle.strip_film.proofs.Paths.{one_fewer}
 use Rattle.strip_start.specs.Greedy.{IsGreedy, IsLeastStep}
 use Rattle.strip_start.proofs.Leasts.{greedy_more}
 use Rattle.strip_start.proofs.choose.greedy.Goals as goal

@@ -1,7 +1,6 @@
-use Rattle.std.proofs.Common.{◌≡◌, ℕ, List, Option, length, append_assoc, subst}
+use Rattle.std.proofs.Common.{◌≡◌, ℕ, List, Option, append_assoc, subst}
 use Rattle.strip_mask.specs.Iter.{rest_of}
 use Rattle.strip_mask.specs.Set.{IsSet, members}
-use Rattle.strip_mask.proofs.Below.{is_set_below}
 use Rattle.strip_mask.proofs.ByMembers.{IsSet-minus}
 use Rattle.strip_mask.proofs.Turns.{turn_member, turns_all}
 use Rattle.strip_model.specs.Film.{FilmData}

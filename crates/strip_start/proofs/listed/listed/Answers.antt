@@ -3,7 +3,7 @@ use Rattle.std.proofs.lemmas.Bool.{cases_eq}
 use Rattle.strip_mask.specs.Set.{IsSet, first, has, size, without}
 use Rattle.strip_mask.proofs.Below.{is_set_below}
 use Rattle.strip_mask.proofs.ByMembers.{has-empty}
-use Rattle.strip_mask.proofs.Sizes.{first_is, first_none, size-without}
+use Rattle.strip_mask.proofs.Sizes.{first_is, first_none}
 use Rattle.strip_model.specs.Film.{FilmData}
 use Rattle.strip_film.specs.Film.{LiesIn}
 use Rattle.strip_film.specs.Path.{PathData}
