@@ -14,7 +14,7 @@ no_less : (places : ℕ) (hold days : ℕ → ℕ) (owed : ℕ → ℕ → ℕ) 
     → (m set : ℕ) → set < m → set < 2 ^ places → other set ≤ most set
 no_less places hold days owed first most other a b zero set bound lt = absurd (omega (arith, bound))
 no_less places hold days owed first most other a b (suc m) set bound lt = elim (b.attained set lt) [
-  | inl begun ↦ omega (arith, begun, a.bounds set lt)
+  | inl begun ↦ omega (arith, begun, a.kept set lt)
   | inr step ↦ (
       let less : without set step.0 < set = without_less set step.0 step.1 in
       let rest : other (without set step.0) ≤ most (without set step.0)
