@@ -1,5 +1,5 @@
 -- Plans of two searches, by bounds that were chosen.
-use Rattle.std.proofs.Common.{◌≡◌, ◌≤◌, ℕ, true, false, Option, None, Some, Vec, Global, Result, Ok, Err, IfOk, IsSome, min, inl, inr, true≢false, sym, subst, arith}
+use Rattle.std.proofs.Common.{◌≡◌, ℕ, Option, None, Some, Vec, Global, Result, Ok, Err, IfOk, IsSome, min, inl, inr, true≢false, sym, subst, arith}
 use Rattle.strip_film.specs.declared.shared.Line.{Line}
 use Rattle.strip_model.specs.declared.kind.Kind.{Kind}
 use Rattle.strip_model.specs.declared.kind.Kind.TheVariants.{Pairs, Arrivals}
