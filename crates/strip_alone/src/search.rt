@@ -88,7 +88,14 @@ pub fn alone_through<F: Fn(u64, u64) -> u64, G: Gate>(
     work(bounds, &mut world, &front, &worker, memo, &mut walked)?;
     let number = close(bounds, &mut world, &mut front, &walked)?;
     let best = *world.best(0);
-    tell(alloc, bounds, &best, world.into_lines(), number, walked.spent)
+    tell(
+        alloc,
+        bounds,
+        &best,
+        world.into_lines(),
+        number,
+        walked.spent,
+    )
 }
 
 /// Returns the initial world (the whole search state), in which the worker has claimed the front.

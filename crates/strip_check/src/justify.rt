@@ -146,7 +146,11 @@ fn is_known<F: Fn(u64, u64) -> u64>(
 
 /// Returns the greatest bound that the lines justify for a set, in units of money. Static bounds are computed in full.
 /// The sums may exceed 64 bits, since a plan's bounds may be any numbers.
-pub(crate) fn justified<F: Fn(u64, u64) -> u64>(bounds: &StoredBound<F>, best: &Best, q: Mask) -> u128
+pub(crate) fn justified<F: Fn(u64, u64) -> u64>(
+    bounds: &StoredBound<F>,
+    best: &Best,
+    q: Mask,
+) -> u128
     requires keeps { Keeps (F.pre bounds.now.f) (F.post bounds.now.f) bounds.now.kind bounds.now.film.now }
     requires lies { LiesIn bounds.now.film.now q.0 }
     ensures { result ≡ justified (rules_of bounds.now.kind bounds.now.film.now) best.now.lines q.0 }

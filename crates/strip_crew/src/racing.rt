@@ -137,7 +137,14 @@ fn open<F: Fn(u64, u64) -> u64>(
     let front = make_front(alloc, bounds, most)?;
     let parts = front.tasks().len() as u32 + 1;
     let (least, told) = Least::new(alloc, film, start, parts)?;
-    let (book, lines) = Book::new(alloc, film, bounds.kind(), start.paid(), front.tasks(), room)?;
+    let (book, lines) = Book::new(
+        alloc,
+        film,
+        bounds.kind(),
+        start.paid(),
+        front.tasks(),
+        room,
+    )?;
     Ok(Opening {
         front,
         least,

@@ -46,7 +46,10 @@ impl Memo {
 
     /// Makes a memo that knows the empty set alone. It has 2^18 entries of 16 bytes, 2^19 for groups, or 2^20 of 17
     /// bytes for arrivals. There are fewer if the film has few sets of scenes. It fails only if memory runs out.
-    pub fn new<F: Fn(u64, u64) -> u64>(alloc: Global, bounds: &StoredBound<F>) -> Result<Memo, Memory>
+    pub fn new<F: Fn(u64, u64) -> u64>(
+        alloc: Global,
+        bounds: &StoredBound<F>,
+    ) -> Result<Memo, Memory>
         requires { Keeps (F.pre bounds.now.f) (F.post bounds.now.f) bounds.now.kind bounds.now.film.now }
         ensures { IfOk result (IsMemo bounds.now.kind bounds.now.film.now) }
     {

@@ -241,7 +241,9 @@ pub(crate) fn search_beside<R: Threads + Wait + Sync, G: Gate>(
         None => search_stored::<Brand, R, _, G>(
             rt, alloc, &bounds, start, options, own, workers, gate,
         ),
-        Some(steps) => search_layers(rt, alloc, &bounds, start, options, steps, own, workers, gate),
+        Some(steps) => search_layers(
+            rt, alloc, &bounds, start, options, steps, own, workers, gate,
+        ),
     }
 }
 

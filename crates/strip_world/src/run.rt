@@ -18,7 +18,11 @@ use strip_bound::StoredBound;
 impl World {
     /// Applies the events in turn, up to the first that is not allowed, and returns the number applied. For any list,
     /// each table entry is then a valid lower bound, and the least cost is at least the optimum.
-    pub fn run<F: Fn(u64, u64) -> u64>(&mut self, bounds: &StoredBound<F>, events: &[Event]) -> usize
+    pub fn run<F: Fn(u64, u64) -> u64>(
+        &mut self,
+        bounds: &StoredBound<F>,
+        events: &[Event],
+    ) -> usize
         requires sound { IsSound self.old }
         requires keeps { Keeps (F.pre bounds.now.f) (F.post bounds.now.f) bounds.now.kind bounds.now.film.now }
         requires search { GoesBy bounds.now.kind bounds.now.film.now self.old.search }

@@ -390,7 +390,10 @@ static PATHS: [(u32, u32, &'static [u32]); 9] = [
     (1, 1, &[0, 1]),
 ];
 
-fn refuses_paths<F: Fn(u64, u64) -> u64>(alloc: Global, bounds: &StoredBound<F>) -> Result<bool, Fail>
+fn refuses_paths<F: Fn(u64, u64) -> u64>(
+    alloc: Global,
+    bounds: &StoredBound<F>,
+) -> Result<bool, Fail>
     requires { Keeps (F.pre bounds.now.f) (F.post bounds.now.f) bounds.now.kind bounds.now.film.now }
 {
     let world = begun(alloc, bounds)?;

@@ -101,7 +101,10 @@ fn enlist_two<F: Fn(u64, u64) -> u64>(
 }
 
 /// Tells whether the step of each open first of all scenes, plus the bound of the rest, reaches the number.
-pub(crate) fn each_first_reaches<F: Fn(u64, u64) -> u64>(bounds: &StoredBound<F>, number: u64) -> bool
+pub(crate) fn each_first_reaches<F: Fn(u64, u64) -> u64>(
+    bounds: &StoredBound<F>,
+    number: u64,
+) -> bool
     requires keeps { Keeps (F.pre bounds.now.f) (F.post bounds.now.f) bounds.now.kind bounds.now.film.now }
     ensures { IsTrue result → (scene : ℕ) → has (open_firsts bounds.now.film.now (all_scenes bounds.now.film.now)) scene
         ≡ true

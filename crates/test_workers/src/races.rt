@@ -76,7 +76,9 @@ fn raced_by<R: Threads + Wait + Sync, F: Fn(u64, u64) -> u64 + Sync>(
     requires limits { AreLimits limits }
 {
     let mut memo = Memo::among(alloc, bounds, limits.workers + 1)?;
-    let ended = race(rt, alloc, bounds, &mut memo, start, limits, steal, &OpenGate)?;
+    let ended = race(
+        rt, alloc, bounds, &mut memo, start, limits, steal, &OpenGate,
+    )?;
     Ok(ended)
 }
 
