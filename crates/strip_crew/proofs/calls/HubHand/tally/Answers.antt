@@ -3,7 +3,7 @@ use Rattle.strip_hand.specs.Search.{SearchData}
 use Rattle.strip_crew.proofs.calls.HubHand.tally.Goals as goal
 
 pub returns-clause-lines : goal.returns-clause-lines
-returns-clause-lines g c = omega (arith, c.peek-lines.ensures, c.nodes-most.ensures)
+returns-clause-lines g c = omega (arith, c.peek-lines.ensures, c.nodes-nodes.ensures)
 
-pub returns-clause-most : goal.returns-clause-most
-returns-clause-most g c = c.nodes-most.ensures ∙ ap (λ (s : SearchData). s.nodes) (sym c.requires.book_pass.search)
+pub returns-clause-nodes : goal.returns-clause-nodes
+returns-clause-nodes g c = c.nodes-nodes.ensures ∙ ap (λ (s : SearchData). s.nodes) (sym c.requires.book_pass.search)

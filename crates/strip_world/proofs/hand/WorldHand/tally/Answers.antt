@@ -8,8 +8,8 @@ returns-clause-lines c =
     let most = ap (λ (w : WorldData). w.search.nodes) c.self.view_is in
     omega (arith, c.len.ensures, lines, most, c.requires.sound.few)
 
-pub returns-clause-most : goal.returns-clause-most
-returns-clause-most c = ap (λ (w : WorldData). w.search.nodes) c.self.view_is
+pub returns-clause-nodes : goal.returns-clause-nodes
+returns-clause-nodes c = ap (λ (w : WorldData). w.search.nodes) c.self.view_is
 
 pub returns-clause-least : goal.returns-clause-least
 returns-clause-least c = ap (λ (w : WorldData). w.least) c.self.view_is
