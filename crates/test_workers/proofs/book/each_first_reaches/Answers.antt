@@ -10,7 +10,7 @@ use Rattle.strip_film.specs.Shoot.{step_cost}
 use Rattle.strip_bound.specs.Bounds.{bound}
 use Rattle.strip_rule.specs.Rule.{open_firsts}
 use Rattle.strip_rule.proofs.Firsts.{first_there, firsts_set}
-use Rattle.strip_world.proofs.Reached.{each_more}
+use Rattle.strip_lines.proofs.Reached.{each_more}
 use Rattle.test_workers.proofs.book.each_first_reaches.Given.{Over}
 use Rattle.test_workers.proofs.book.each_first_reaches.Goals as goal
 use Rattle.test_workers.proofs.book.each_first_reaches.Goals.{After-saturating_sub, In-Some}
