@@ -16,9 +16,9 @@ fi
 cp "$repository/HANDLES" "$work/"
 crates="strip_io strip_mask strip_group strip_sets strip_arrivals"
 grep -E "^(${crates// /|}):" "$repository/crates.txt" > "$work/crates.txt"
-echo "values: strip_io strip_mask strip_group strip_arrivals" >> "$work/crates.txt"
+echo "values: strip_io strip_mask strip_group strip_sets strip_arrivals" >> "$work/crates.txt"
 values=$work/crates/values
-mkdir -p "$values/src" "$values/proofs/sum_values"
+mkdir -p "$values/src" "$values/proofs/value_of"
 : > "$values/proofs/Lib.antt"
 for name in $crates; do
     mkdir -p "$work/crates/$name"
@@ -28,8 +28,8 @@ done
 cat > "$values/src/main.rt" <<'END'
 //! Prints the sum of the values of groups and newcomers on random sets: one size for each number of words.
 #![tactic(auto)]
-ghost use Rattle.std.specs.Prelude.{◌≡◌, ◌≤◌, ℕ, length, sum, true, false, IsTrue};
-ghost use Rattle.strip_mask.specs.Set.{LiesBelow, has, size};
+ghost use Rattle.std.specs.Prelude.{◌≡◌, ℕ, length, sum, true, false};
+ghost use Rattle.strip_mask.specs.Set.{has};
 
 use std::alloc::Global;
 use std::env;
@@ -38,6 +38,7 @@ use std::rt::Env;
 use strip_arrivals::ArrivalsTable;
 use strip_io::Memory;
 use strip_mask::Mask;
+use strip_sets::{BySet, SixPlaces};
 
 const TURNS: u64 = 50_000;
 
@@ -87,11 +88,18 @@ fn round(first: u32, count: u32) -> Mask {
     }
 }
 
-/// Whether they can be asked for.
-fn is_party(group: Mask, newcomers: Mask) -> bool
-    ensures { IsTrue result → (size group.0 ≤ 10) × (size newcomers.0 ≤ 2) × LiesBelow 12 group.0 × LiesBelow 12 newcomers.0 }
+/// The value, if it can be asked for, or 0.
+fn value_of(table: &ArrivalsTable, set: Mask, group: Mask, others: Mask, room: &mut [SixPlaces; 224]) -> u64
+    requires { length table.now.holds ≡ 12 }
 {
-    group.size() <= 10 && newcomers.size() <= 2 && group.lies_below(12) && newcomers.lies_below(12)
+    let newcomers = others.minus(group);
+    if group.size() > 10 || newcomers.size() > 2 {
+        return 0;
+    }
+    if !group.lies_below(12) || !newcomers.lies_below(12) {
+        return 0;
+    }
+    table.value(set, group, newcomers, room)
 }
 
 fn sum_values(table: &ArrivalsTable, words: usize) -> u64
@@ -110,30 +118,38 @@ fn sum_values(table: &ArrivalsTable, words: usize) -> u64
         10 => (10, 1),
         _ => (10, 2),
     };
+    let mut room = [SixPlaces::all(0); 224];
     let mut sum: u64 = 0;
     let mut mixed: u64 = 1;
     for _ in 0..TURNS {
         mixed = next(mixed);
         let first = (mixed >> 50) as u32 % 12;
         let group = round(first, places);
-        let newcomers = round((first + places) % 12, count).minus(group);
-        if is_party(group, newcomers) {
-            let set = Mask(mixed >> 20 & 16_777_215);
-            sum = sum.wrapping_add(table.value(set, group, newcomers));
-        }
+        let others = round((first + places) % 12, count);
+        let set = Mask(mixed >> 20 & 16_777_215);
+        sum = sum.wrapping_add(value_of(table, set, group, others, &mut room));
     }
     sum
 }
 END
 
-cat > "$values/proofs/sum_values/Answers.antt" <<'END'
-use Rattle.std.proofs.Common.{◌≡◌, ◌∙◌, ap, sym}
-use Rattle.strip_mask.specs.Set.{has}
+cat > "$values/proofs/value_of/Answers.antt" <<'END'
+use Rattle.std.proofs.Common.{◌≡◌, ◌∙◌, ◌+◌, ◌*◌, ◌-◌, ◌^◌, ◌≤◌, ap, sym, arith}
+use Rattle.std.proofs.Math.Nat.{mul-le-mul}
+use Rattle.std.proofs.Math.Pow.{pow_mono}
+use Rattle.strip_mask.specs.Set.{has, size}
 use Rattle.strip_mask.proofs.ByMembers.{has_from_minus}
-use Rattle.values.proofs.sum_values.Goals as goal
+use Rattle.values.proofs.value_of.Goals as goal
 
-pub value-sum-requires-clause-apart : goal.value-sum-requires-clause-apart
-value-sum-requires-clause-apart c = λ actor there. (has_from_minus c.round.result.0 c.round-group.result.0 actor (ap (λ s. has s actor) (sym c.minus-newcomers.ensures) ∙ there)).1
+pub value-requires-clause-apart : goal.value-requires-clause-apart
+value-requires-clause-apart c = λ actor there. (has_from_minus c.args.others.0 c.args.group.0 actor (ap (λ s. has s actor) (sym c.minus-newcomers.ensures) ∙ there)).1
+
+pub value-requires-clause-room : goal.value-requires-clause-room
+value-requires-clause-room c =
+    let tables : 2 + 6 * size c.minus-newcomers.result.0 ≤ 14 = omega (arith, c.size-else-size-gt10.ensures, c.if-size-gt2.false) in
+    let blocks : 2 ^ (size c.args.group.0 - 6) ≤ 2 ^ 4 = pow_mono {j = 4} (omega (arith, c.size.ensures, c.if-size-gt10.false)) in
+    let all : (2 + 6 * size c.minus-newcomers.result.0) * 2 ^ (size c.args.group.0 - 6) ≤ 14 * 2 ^ 4 = mul-le-mul tables blocks in
+    omega (arith, all)
 END
 
 (cd "$values" && rt run > "$work/log" 2>&1) || {
