@@ -1,6 +1,5 @@
 // A search by one worker.
 ghost use Rattle.std.specs.Prelude.{◌≡◌, ◌≤◌, length, IfOk};
-ghost use Rattle.strip_bound.specs.StoredBound.{Keeps};
 ghost use Rattle.strip_film.specs.Path.{IsComplete};
 ghost use Rattle.strip_film.specs.Shown.{path_data};
 ghost use Rattle.strip_lines.specs.Lines.{rules_of};
@@ -11,10 +10,9 @@ ghost use Rattle.strip_world.specs.Opened.{search_of};
 ghost use Rattle.strip_hand.specs.Limits.{AreLimits};
 ghost use Rattle.strip_lines.specs.Ended.{IsEnded, ended_data};
 ghost use Rattle.strip_worker.specs.Team.{HasFront};
-ghost use Rattle.strip_memo.specs.Memo.{IsMemo};
 
 use std::alloc::Global;
-use strip_bound::StoredBound;
+use strip_bound::Bounds;
 use strip_film::Path;
 use strip_front::laws::tasks_are_starts;
 use strip_front::{Front, make_front};
@@ -32,47 +30,41 @@ const TASK_SCENES: usize = 2;
 /// raises the front's lines. It begins with a complete path and holds at most `nodes` lines, at most 16,777,216. Its
 /// table has `entries` entries, 64 to 4,194,304. The time may grow with the number of open paths that the initial path
 /// leaves. Afterwards the memo has the static bounds that were requested last.
-pub fn alone<F: Fn(u64, u64) -> u64>(
+pub fn alone<B: Bounds>(
     alloc: Global,
-    bounds: &StoredBound<F>,
-    memo: &mut Memo,
+    bounds: &B,
+    memo: &mut Memo<B>,
     start: &Path,
     nodes: u32,
     entries: u32,
 ) -> Result<Ended, Memory>
-    requires keeps { Keeps (F.pre bounds.now.f) (F.post bounds.now.f) bounds.now.kind bounds.now.film.now }
-    requires memo { IsMemo bounds.now.kind bounds.now.film.now memo.old }
-    requires start { IsComplete bounds.now.film.now (path_data start.now) }
+    requires start { IsComplete B.film (path_data start.now) }
     requires some_lines { 1 ≤ nodes }
     requires few_lines { nodes ≤ 16777216 }
     requires some_entries { 64 ≤ entries }
     requires few_entries { entries ≤ 4194304 }
-    ensures memo { IsMemo bounds.now.kind bounds.now.film.now memo.new }
-    ensures ended { IfOk result (λ ended. IsEnded bounds.now.kind bounds.now.film.now (path_data start.now) nodes
+    ensures ended { IfOk result (λ ended. IsEnded B.kind B.film (path_data start.now) nodes
         (ended_data ended)) }
 {
     alone_through(alloc, bounds, memo, start, nodes, entries, &OpenGate)
 }
 
 /// Searches as `alone` does, and reports progress to the gate. The worker's number is 0.
-pub fn alone_through<F: Fn(u64, u64) -> u64, G: Gate>(
+pub fn alone_through<B: Bounds, G: Gate>(
     alloc: Global,
-    bounds: &StoredBound<F>,
-    memo: &mut Memo,
+    bounds: &B,
+    memo: &mut Memo<B>,
     start: &Path,
     nodes: u32,
     entries: u32,
     gate: &G,
 ) -> Result<Ended, Memory>
-    requires keeps { Keeps (F.pre bounds.now.f) (F.post bounds.now.f) bounds.now.kind bounds.now.film.now }
-    requires memo { IsMemo bounds.now.kind bounds.now.film.now memo.old }
-    requires start { IsComplete bounds.now.film.now (path_data start.now) }
+    requires start { IsComplete B.film (path_data start.now) }
     requires some_lines { 1 ≤ nodes }
     requires few_lines { nodes ≤ 16777216 }
     requires some_entries { 64 ≤ entries }
     requires few_entries { entries ≤ 4194304 }
-    ensures memo { IsMemo bounds.now.kind bounds.now.film.now memo.new }
-    ensures ended { IfOk result (λ ended. IsEnded bounds.now.kind bounds.now.film.now (path_data start.now) nodes
+    ensures ended { IfOk result (λ ended. IsEnded B.kind B.film (path_data start.now) nodes
         (ended_data ended)) }
 {
     let mut front = make_front(alloc, bounds, TASK_SCENES)?;
@@ -99,22 +91,22 @@ pub fn alone_through<F: Fn(u64, u64) -> u64, G: Gate>(
 }
 
 /// Returns the initial world (the whole search state), in which the worker has claimed the front.
-fn open<F: Fn(u64, u64) -> u64>(
+fn open<B: Bounds>(
     alloc: Global,
-    bounds: &StoredBound<F>,
+    bounds: &B,
     start: &Path,
     front: &Front,
     limits: &Limits,
 ) -> Result<World, Memory>
-    requires start { IsComplete bounds.now.film.now (path_data start.now) }
-    requires front { IsFrontOf (rules_of bounds.now.kind bounds.now.film.now) (front_data front.now) }
+    requires start { IsComplete B.film (path_data start.now) }
+    requires front { IsFrontOf (rules_of B.kind B.film) (front_data front.now) }
     requires limits { AreLimits limits.now }
     requires one_worker { limits.now.workers ≡ 1 }
     ensures sound { IfOk result IsOwned }
     ensures one_worker { IfOk result (λ world. length world.workers ≡ 1) }
     ensures front { IfOk result (λ world. HasFront (hand_data world)) }
     ensures search { IfOk result (λ world. world.search
-        ≡ search_of bounds.now.film.now bounds.now.kind (path_data start.now)
+        ≡ search_of B.film B.kind (path_data start.now)
         (front_data front.now).tasks limits.now) }
 {
     bounds.film().keeps_limits();

@@ -29,7 +29,7 @@ mod Prices
 mod ByPlace
 mod Counted
 mod Masks
-mod Room
+mod Fits
 mod Stages
 mod Staged
 mod Fewer

@@ -19,7 +19,7 @@ use Rattle.strip_arrivals.proofs.Classes.{AreDays, AreKinds, kinds_none, kinds_o
 use Rattle.strip_arrivals.proofs.Masks.{has_one, two}
 use Rattle.strip_arrivals.proofs.Passing.{row_least}
 use Rattle.strip_arrivals.proofs.Prices.{price_alone, price_both, price_first, price_neither, price_second, price_with, price_without}
-use Rattle.strip_arrivals.proofs.Room.{all_rates, class_days, days_rise, hold_low, holds_low, rates_low}
+use Rattle.strip_arrivals.proofs.Fits.{all_rates, class_days, days_rise, hold_low, holds_low, rates_low}
 use Rattle.strip_arrivals.proofs.Lowered.{IsBegun, IsLowered}
 
 -- of one class

@@ -7,7 +7,9 @@
 mod crew;
 pub mod laws;
 mod party;
+mod room;
 mod rows;
 mod table;
 
+pub use room::Room;
 pub use table::ArrivalsTable;

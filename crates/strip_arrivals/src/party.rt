@@ -84,9 +84,7 @@ impl ArrivalsTable {
         requires low { sum_over self.now.holds crew.now.group.0 + sum_over self.now.holds newcomers.0 < never }
         requires room { 4 * never ≤ B.most }
         requires wide { 2 ^ 32 - 1 ≤ B.most }
-        ensures crew { result.crew.now ≡ crew.now }
-        ensures newcomers { result.newcomers ≡ newcomers }
-        ensures higher { result.higher ≡ higher }
+        ensures same { (result.crew.now ≡ crew.now) × (result.newcomers ≡ newcomers) × (result.higher ≡ higher) }
         ensures party { IsParty (number B.value B.places) (higher + B.places) B.most self.now result }
     {
         let without = crew.set.minus(self.scenes_with(newcomers));

@@ -8,12 +8,13 @@ ghost use Rattle.strip_arrivals.specs.Company.{ArePlays, IsCompany, IsCrew, most
 ghost use Rattle.strip_arrivals.specs.Gross.{own_pay};
 
 use crate::crew::Crew;
+use crate::room::Room;
 use std::alloc::{AllocError, Global};
 use std::marker::Model;
 use strip_group::DaySums;
 use strip_io::Memory;
 use strip_mask::{Mask, sum_over};
-use strip_sets::{BySet, FivePlaces, FourPlaces, SixPlaces, WideFourPlaces};
+use strip_sets::{BySet, WideFourPlaces};
 
 /// A quarter of the greatest number of 32 bits.
 const NARROW: u64 = 1_073_741_823;
@@ -67,19 +68,16 @@ impl ArrivalsTable {
     }
 
     /// Returns the value of a group of at most ten actors and at most two newcomers outside it, while the set of
-    /// scenes remains, in whole units of money. The room is for its tables: what is in it doesn't matter, and what
-    /// it has afterwards is of no use. It allocates nothing. Time is linear in the number of sets of the group's
-    /// actors, times their number.
-    pub fn value(&self, set: Mask, group: Mask, newcomers: Mask, room: &mut [SixPlaces]) -> u64
+    /// scenes remains, in whole units of money. The room is scratch memory. It allocates nothing. Time is linear in the
+    /// number of sets of the group's actors, times their number.
+    pub fn value(&self, set: Mask, group: Mask, newcomers: Mask, room: &mut Room) -> u64
         requires few { size group.0 ≤ 10 }
         requires few_newcomers { size newcomers.0 ≤ 2 }
         requires known { LiesBelow (length self.now.holds) group.0 }
         requires known_newcomers { LiesBelow (length self.now.holds) newcomers.0 }
         requires apart { (actor : ℕ) → has newcomers.0 actor ≡ true → has group.0 actor ≡ false }
-        requires room { (2 + 6 * size newcomers.0) * 2 ^ (size group.0 - 6) ≤ length room.old }
         ensures same { result ≡ arrivals_value self.now set.0 group.0 newcomers.0 }
         ensures small { result ≤ sum self.now.days * sum self.now.holds }
-        ensures room { length room.new ≡ length room.old }
     {
         self.keeps_limits();
         let crew = self.crew(set, group);
@@ -88,15 +86,9 @@ impl ArrivalsTable {
             return self.wide_value(&crew, newcomers, never);
         }
         match group.size() {
-            0..=4 => {
-                let mut room = [FourPlaces::all(0); 14];
-                self.value_in(&crew, newcomers, never, 0, &mut room)
-            }
-            5 => {
-                let mut room = [FivePlaces::all(0); 14];
-                self.value_in(&crew, newcomers, never, 0, &mut room)
-            }
-            size => self.value_in(&crew, newcomers, never, size as usize - 6, room),
+            0..=4 => self.value_in(&crew, newcomers, never, 0, &mut room.four),
+            5 => self.value_in(&crew, newcomers, never, 0, &mut room.five),
+            size => self.value_in(&crew, newcomers, never, size as usize - 6, &mut room.six),
         }
     }
 
@@ -136,7 +128,6 @@ impl ArrivalsTable {
         requires room { (2 + 6 * size newcomers.0) * 2 ^ higher ≤ length room.old }
         ensures same { result ≡ arrivals_value self.now crew.now.set.0 crew.now.group.0 newcomers.0 }
         ensures small { result ≤ sum self.now.days * sum self.now.holds }
-        ensures room { length room.new ≡ length room.old }
     {
         let (days, room) = room.split_at_mut(1 << higher);
         let party = self.party(crew, newcomers, never, higher, days);

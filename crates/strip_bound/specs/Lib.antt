@@ -4,4 +4,4 @@ pub mod Promise
 pub mod Waiting
 pub mod Tables
 pub mod Parties
-pub mod StoredBound
+pub mod Bounded

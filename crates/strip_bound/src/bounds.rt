@@ -9,6 +9,7 @@ ghost use Rattle.strip_bound.specs.Tables.{AreTables};
 
 use crate::parties::extra_of_parties;
 use crate::tables::BoundTables;
+use strip_arrivals::Room;
 use strip_film::{Film, on};
 use strip_mask::{Mask, sum_over};
 use strip_model::Kind;
@@ -25,14 +26,21 @@ pub fn static_bound(film: &Film, tables: &BoundTables, kind: Kind, q: Mask) -> u
         Kind::Plain => plain(film, tables, q),
         Kind::Pairs => pairs(film, tables, q),
         Kind::Groups => groups(film, tables, q),
-        Kind::Arrivals => arrivals_reach(film, tables, q, u64::MAX),
+        Kind::Arrivals => arrivals_reach(film, tables, q, u64::MAX, &mut Room::new()),
     }
 }
 
 /// Returns a number that is at most the static bound of this kind, and at least `need` or the bound, in whole units of
 /// money. The bound `Arrivals` is a sum that is computed only until it reaches `need`; the other kinds return their
 /// bound. It allocates no memory.
-pub fn static_reach(film: &Film, tables: &BoundTables, kind: Kind, q: Mask, need: u64) -> u64
+pub(crate) fn static_reach(
+    film: &Film,
+    tables: &BoundTables,
+    kind: Kind,
+    q: Mask,
+    need: u64,
+    room: &mut Room,
+) -> u64
     requires tables { AreTables film.now tables.now }
     requires lies { LiesIn film.now q.0 }
     ensures most { result ≤ bound kind film.now q.0 }
@@ -40,7 +48,7 @@ pub fn static_reach(film: &Film, tables: &BoundTables, kind: Kind, q: Mask, need
 {
     match kind {
         Kind::Plain | Kind::Pairs | Kind::Groups => static_bound(film, tables, kind, q),
-        Kind::Arrivals => arrivals_reach(film, tables, q, need),
+        Kind::Arrivals => arrivals_reach(film, tables, q, need, room),
     }
 }
 
@@ -78,7 +86,7 @@ pub fn groups(film: &Film, tables: &BoundTables, q: Mask) -> u64
 }
 
 /// Returns the plain bound. If `need` exceeds it, adds the parties' pay for waiting.
-fn arrivals_reach(film: &Film, tables: &BoundTables, q: Mask, need: u64) -> u64
+fn arrivals_reach(film: &Film, tables: &BoundTables, q: Mask, need: u64, room: &mut Room) -> u64
     requires tables { AreTables film.now tables.now }
     requires lies { LiesIn film.now q.0 }
     ensures most { result ≤ bound Arrivals film.now q.0 }
@@ -89,7 +97,7 @@ fn arrivals_reach(film: &Film, tables: &BoundTables, q: Mask, need: u64) -> u64
     if plain >= need {
         return plain;
     }
-    plain + extra_of_parties(film, tables, q, need - plain)
+    plain + extra_of_parties(film, tables, q, need - plain, room)
 }
 
 /// Returns the sum of the extras of the actors on location, paired by rising number. A single last actor adds nothing.

@@ -9,7 +9,7 @@ ghost use Rattle.strip_bound.specs.Tables.{AreTables};
 
 use crate::bounds::days_apart;
 use crate::falling::{Falling, place};
-use crate::parties::{PARTIES, Parties, set_from};
+use crate::parties::{OnLocation, PARTIES, Parties, set_from};
 use crate::tables::BoundTables;
 use arrayvec::ArrayVec;
 use strip_film::{Film, cast_of};
@@ -36,29 +36,19 @@ impl Choices {
 
     /// Chooses the newcomers of the parties greedily. Each party in turn takes, of the newcomers left, the two with the
     /// greatest scores for its group.
-    pub(crate) fn of(
-        film: &Film,
-        tables: &BoundTables,
-        q: Mask,
-        located: &[u32],
-        newcomers: Mask,
-        parties: &Parties,
-    ) -> Choices
-        requires tables { AreTables film.now tables.now }
-        requires lies { LiesIn film.now q.0 }
-        requires located { located.now ≡ located_by_hold film.now q.0 }
-        requires newcomers { newcomers.0 ≡ newcomers_of film.now q.0 }
+    pub(crate) fn of(here: &OnLocation, newcomers: Mask, parties: &Parties) -> Choices
+        requires newcomers { newcomers.0 ≡ newcomers_of here.now.film.now here.now.q.0 }
         requires many { (parties.now.many ≡ 7) ⊎ (parties.now.many ≡ 10) }
-        requires parties { AreParties film.now q.0 parties.now.many parties.now }
-        ensures { AreChoices film.now q.0 parties.now.many result }
+        requires parties { AreParties here.now.film.now here.now.q.0 parties.now.many parties.now }
+        ensures { AreChoices here.now.film.now here.now.q.0 parties.now.many result }
     {
-        film.keeps_limits();
+        here.film.keeps_limits();
         let many = parties.many;
         let mut choices = Choices::none();
         let mut left = newcomers;
         for place in 0..parties.number {
-            let group = set_from(located, place * many, many);
-            let chosen = chosen(film, tables, q, group, left);
+            let group = set_from(here.actors, place * many, many);
+            let chosen = chosen(here.film, here.tables, here.q, group, left);
             let both = set_from(&chosen, 0, NEWCOMERS);
             choices.first[place] = set_from(&chosen, 0, 1).0;
             choices.both[place] = both.0;

@@ -12,10 +12,10 @@ use crate::falling::Falling;
 use crate::newcomers::{Choices, newcomers};
 use crate::tables::BoundTables;
 use arrayvec::ArrayVec;
+use strip_arrivals::Room;
 use strip_arrivals::laws::fewer_newcomers_wait_no_more;
 use strip_film::{Film, on};
 use strip_mask::Mask;
-use strip_sets::{BySet, SixPlaces};
 
 /// Number of actors of a small group; the last group has the rest.
 const FEW: usize = 7;
@@ -44,17 +44,28 @@ pub(crate) struct Parties {
     pub(crate) need: u64,
 }
 
-/// A set of remaining scenes, and the actors on location by falling hold rate.
+/// A set of a film's scenes that remain, and the actors on location by falling hold rate.
 #[derive(Drop)]
 pub(crate) struct OnLocation<'a> {
+    pub(crate) film: &'a Film,
+    pub(crate) tables: &'a BoundTables,
     pub(crate) q: Mask,
     pub(crate) actors: &'a [u32],
+    pub ghost are_tables: { AreTables film.now tables.now },
+    pub ghost lies: { LiesIn film.now q.0 },
+    pub ghost located: { actors.now ≡ located_by_hold film.now q.0 },
 }
 
 /// Returns the extra of parties of seven or of ten, whichever is greater, or a part of it that is at least `need`. It
 /// first computes the values of groups of seven alone, then with newcomers. Last come groups of ten, with all newcomers
 /// at once, since more newcomers don't lower a value.
-pub(crate) fn extra_of_parties(film: &Film, tables: &BoundTables, q: Mask, need: u64) -> u64
+pub(crate) fn extra_of_parties(
+    film: &Film,
+    tables: &BoundTables,
+    q: Mask,
+    need: u64,
+    room: &mut Room,
+) -> u64
     requires tables { AreTables film.now tables.now }
     requires lies { LiesIn film.now q.0 }
     ensures most { result ≤ max (parties_extra film.now q.0 7) (parties_extra film.now q.0 10) }
@@ -64,68 +75,43 @@ pub(crate) fn extra_of_parties(film: &Film, tables: &BoundTables, q: Mask, need:
     let on = on(film, q);
     let located = located(film, tables, on);
     let here = OnLocation {
+        film,
+        tables,
         q,
         actors: &located,
     };
-    let mut few = Parties::new(film, &here, FEW, need);
-    let mut room = [SixPlaces::all(0); 4];
-    few.ask(film, tables, &here, &Choices::none(), 0, &mut room);
+    let mut few = Parties::new(&here, FEW, need);
+    few.ask(&here, &Choices::none(), 0, room);
     if few.extra >= need {
         return few.extra;
     }
     let newcomers = newcomers(film, tables, q, on);
-    let choices = Choices::of(film, tables, q, here.actors, newcomers, &few);
-    let mut room = [SixPlaces::all(0); 28];
-    few.ask_all(film, tables, &here, &choices, &mut room);
+    let choices = Choices::of(&here, newcomers, &few);
+    few.ask_all(&here, &choices, room);
     if few.extra >= need || here.actors.len() <= FEW {
         return few.extra;
     }
-    few.extra
-        .max(extra_of_many(film, tables, &here, newcomers, need))
+    few.extra.max(extra_of_many(&here, newcomers, need, room))
 }
 
-/// Returns the extra of parties of ten, or a part of it that is at least `need`. The room for their tables is cleared
-/// for as many actors as are on location.
-fn extra_of_many(
-    film: &Film,
-    tables: &BoundTables,
-    here: &OnLocation,
-    newcomers: Mask,
-    need: u64,
-) -> u64
-    requires tables { AreTables film.now tables.now }
-    requires lies { LiesIn film.now here.now.q.0 }
-    requires located { here.now.actors.now ≡ located_by_hold film.now here.now.q.0 }
-    requires newcomers { newcomers.0 ≡ newcomers_of film.now here.now.q.0 }
-    ensures most { result ≤ parties_extra film.now here.now.q.0 10 }
-    ensures reaches { (need ≤ result) ⊎ (result ≡ parties_extra film.now here.now.q.0 10) }
+/// Returns the extra of parties of ten, or a part of it that is at least `need`.
+fn extra_of_many(here: &OnLocation, newcomers: Mask, need: u64, room: &mut Room) -> u64
+    requires newcomers { newcomers.0 ≡ newcomers_of here.now.film.now here.now.q.0 }
+    ensures most { result ≤ parties_extra here.now.film.now here.now.q.0 10 }
+    ensures reaches { (need ≤ result) ⊎ (result ≡ parties_extra here.now.film.now here.now.q.0 10) }
 {
-    let mut many = Parties::new(film, here, MANY, need);
-    let choices = Choices::of(film, tables, here.q, here.actors, newcomers, &many);
-    match here.actors.len() {
-        0..=8 => {
-            let mut room = [SixPlaces::all(0); 56];
-            many.ask(film, tables, here, &choices, 2, &mut room);
-        }
-        9 => {
-            let mut room = [SixPlaces::all(0); 112];
-            many.ask(film, tables, here, &choices, 2, &mut room);
-        }
-        _ => {
-            let mut room = [SixPlaces::all(0); 224];
-            many.ask(film, tables, here, &choices, 2, &mut room);
-        }
-    }
+    let mut many = Parties::new(here, MANY, need);
+    let choices = Choices::of(here, newcomers, &many);
+    many.ask(here, &choices, 2, room);
     many.extra
 }
 
 impl Parties {
     /// Makes the parties, with no value known.
-    fn new(film: &Film, here: &OnLocation, many: usize, need: u64) -> Parties
-        requires located { here.now.actors.now ≡ located_by_hold film.now here.now.q.0 }
-        requires many { (many ≡ 7) ⊎ (many ≡ 10) }
-        ensures parties { AreParties film.now here.now.q.0 many result }
-        ensures asked { AreAsked film.now here.now.q.0 many result }
+    fn new(here: &OnLocation, many: usize, need: u64) -> Parties
+        requires { (many ≡ 7) ⊎ (many ≡ 10) }
+        ensures parties { AreParties here.now.film.now here.now.q.0 many result }
+        ensures asked { AreAsked here.now.film.now here.now.q.0 many result }
         ensures none { result.asked ≡ 0 }
         ensures need { result.need ≡ need }
     {
@@ -141,36 +127,23 @@ impl Parties {
 
     /// Computes each party's value with all of its newcomers. If the groups alone come near to `need`, it tries the
     /// first newcomer alone before.
-    fn ask_all(
-        &mut self,
-        film: &Film,
-        tables: &BoundTables,
-        here: &OnLocation,
-        choices: &Choices,
-        room: &mut [SixPlaces],
-    )
-        requires tables { AreTables film.now tables.now }
-        requires lies { LiesIn film.now here.now.q.0 }
-        requires located { here.now.actors.now ≡ located_by_hold film.now here.now.q.0 }
-        requires choices { AreChoices film.now here.now.q.0 self.old.many choices.now }
+    fn ask_all(&mut self, here: &OnLocation, choices: &Choices, room: &mut Room)
+        requires choices { AreChoices here.now.film.now here.now.q.0 self.old.many choices.now }
         requires many { (self.old.many ≡ 7) ⊎ (self.old.many ≡ 10) }
-        requires parties { AreParties film.now here.now.q.0 self.old.many self.old }
-        requires asked { AreAsked film.now here.now.q.0 self.old.many self.old }
+        requires parties { AreParties here.now.film.now here.now.q.0 self.old.many self.old }
+        requires asked { AreAsked here.now.film.now here.now.q.0 self.old.many self.old }
         requires fewer { self.old.asked ≤ 1 }
-        requires room { 14 * 2 ^ (min self.old.many (length here.now.actors.now) - 6) ≤ length room.old }
-        ensures many { self.new.many ≡ self.old.many }
-        ensures need { self.new.need ≡ self.old.need }
-        ensures parties { AreParties film.now here.now.q.0 self.new.many self.new }
-        ensures asked { AreAsked film.now here.now.q.0 self.new.many self.new }
+        ensures same { (self.new.many ≡ self.old.many) × (self.new.need ≡ self.old.need) }
+        ensures parties { AreParties here.now.film.now here.now.q.0 self.new.many self.new }
+        ensures asked { AreAsked here.now.film.now here.now.q.0 self.new.many self.new }
         ensures all { self.new.asked ≡ 3 }
-        ensures room { length room.new ≡ length room.old }
     {
         if !self.is_near() {
-            self.ask(film, tables, here, choices, 2, room);
+            self.ask(here, choices, 2, room);
             return;
         }
-        self.ask(film, tables, here, choices, 1, room);
-        self.ask(film, tables, here, choices, 2, room);
+        self.ask(here, choices, 1, room);
+        self.ask(here, choices, 2, room);
     }
 
     /// Returns whether at most a sixth of `need` is lacking. It affects the time only, not the result.
@@ -180,33 +153,19 @@ impl Parties {
 
     /// Computes each party's value with at most `count` of its newcomers, until `need` is reached. A party without
     /// further newcomers is skipped.
-    fn ask(
-        &mut self,
-        film: &Film,
-        tables: &BoundTables,
-        here: &OnLocation,
-        choices: &Choices,
-        count: usize,
-        room: &mut [SixPlaces],
-    )
-        requires tables { AreTables film.now tables.now }
-        requires lies { LiesIn film.now here.now.q.0 }
-        requires located { here.now.actors.now ≡ located_by_hold film.now here.now.q.0 }
-        requires choices { (count ≡ 0) ⊎ AreChoices film.now here.now.q.0 self.old.many choices.now }
+    fn ask(&mut self, here: &OnLocation, choices: &Choices, count: usize, room: &mut Room)
+        requires choices { (count ≡ 0) ⊎ AreChoices here.now.film.now here.now.q.0 self.old.many choices.now }
         requires count { count ≤ 2 }
         requires many { (self.old.many ≡ 7) ⊎ (self.old.many ≡ 10) }
-        requires parties { AreParties film.now here.now.q.0 self.old.many self.old }
-        requires asked { AreAsked film.now here.now.q.0 self.old.many self.old }
+        requires parties { AreParties here.now.film.now here.now.q.0 self.old.many self.old }
+        requires asked { AreAsked here.now.film.now here.now.q.0 self.old.many self.old }
         requires fewer { self.old.asked ≤ count }
-        requires room { (2 + 6 * count) * 2 ^ (min self.old.many (length here.now.actors.now) - 6) ≤ length room.old }
-        ensures many { self.new.many ≡ self.old.many }
-        ensures need { self.new.need ≡ self.old.need }
-        ensures parties { AreParties film.now here.now.q.0 self.new.many self.new }
-        ensures asked { AreAsked film.now here.now.q.0 self.new.many self.new }
+        ensures same { (self.new.many ≡ self.old.many) × (self.new.need ≡ self.old.need) }
+        ensures parties { AreParties here.now.film.now here.now.q.0 self.new.many self.new }
+        ensures asked { AreAsked here.now.film.now here.now.q.0 self.new.many self.new }
         ensures more { self.new.asked ≡ count + 1 }
-        ensures room { length room.new ≡ length room.old }
     {
-        film.keeps_limits();
+        here.film.keeps_limits();
         fewer_newcomers_wait_no_more();
         let asked = self.asked;
         self.asked = count + 1;
@@ -219,7 +178,7 @@ impl Parties {
                 continue;
             }
             let group = set_from(here.actors, place * self.many, self.many);
-            let value = tables.arrivals.value(here.q, group, newcomers, room);
+            let value = here.tables.arrivals.value(here.q, group, newcomers, room);
             self.raise(place, value);
         }
     }

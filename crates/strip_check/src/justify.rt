@@ -3,12 +3,10 @@ ghost use Rattle.std.specs.Prelude.{◌≡◌, ◌≢◌, ◌↔◌, ℕ, ◌+�
 ghost use Rattle.strip_mask.specs.Set.{has, members, without};
 ghost use Rattle.strip_film.specs.Film.{LiesIn};
 ghost use Rattle.strip_film.specs.Shoot.{on_location, step_cost};
-ghost use Rattle.strip_bound.specs.StoredBound.{Keeps};
 ghost use Rattle.strip_lines.specs.Lines.{known, least_step, rules_of};
-ghost use Rattle.strip_memo.specs.Memo.{IsMemo};
 ghost use Rattle.strip_check.specs.Reasons.{by_lines, justified};
 
-use strip_bound::StoredBound;
+use strip_bound::Bounds;
 use strip_film::{Film, on, step, step_with};
 use strip_mask::Mask;
 use strip_memo::Memo;
@@ -18,19 +16,16 @@ use strip_trim::Best;
 
 /// Tells whether the lines justify a bound for a set: its static bound reaches it, or the step plus known bound of the
 /// rest does for each open first. If static bounds are expensive, the steps are tried first.
-pub(crate) fn is_justified<F: Fn(u64, u64) -> u64>(
-    bounds: &StoredBound<F>,
-    memo: &mut Memo,
+pub(crate) fn is_justified<B: Bounds>(
+    bounds: &B,
+    memo: &mut Memo<B>,
     best: &Best,
     q: Mask,
     bound: u64,
 ) -> bool
-    requires keeps { Keeps (F.pre bounds.now.f) (F.post bounds.now.f) bounds.now.kind bounds.now.film.now }
-    requires memo { IsMemo bounds.now.kind bounds.now.film.now memo.old }
-    requires lies { LiesIn bounds.now.film.now q.0 }
-    ensures memo { IsMemo bounds.now.kind bounds.now.film.now memo.new }
+    requires lies { LiesIn B.film q.0 }
     ensures justified { result
-        ≡ nat_le bound (justified (rules_of bounds.now.kind bounds.now.film.now) best.now.lines q.0) }
+        ≡ nat_le bound (justified (rules_of B.kind B.film) best.now.lines q.0) }
 {
     if is_dear(bounds.kind()) && is_by_steps(bounds, memo, best, q, bound) {
         return true;
@@ -50,20 +45,11 @@ fn is_dear(kind: Kind) -> bool {
 }
 
 /// Tells whether the set has open firsts, and the step of each plus the known bound of the rest reaches the bound.
-fn is_by_steps<F: Fn(u64, u64) -> u64>(
-    bounds: &StoredBound<F>,
-    memo: &mut Memo,
-    best: &Best,
-    q: Mask,
-    bound: u64,
-) -> bool
-    requires keeps { Keeps (F.pre bounds.now.f) (F.post bounds.now.f) bounds.now.kind bounds.now.film.now }
-    requires memo { IsMemo bounds.now.kind bounds.now.film.now memo.old }
-    requires lies { LiesIn bounds.now.film.now q.0 }
-    ensures memo { IsMemo bounds.now.kind bounds.now.film.now memo.new }
-    ensures enough { IsTrue result → bound ≤ justified (rules_of bounds.now.kind bounds.now.film.now) best.now.lines q.0 }
-    ensures decides { (rules_of bounds.now.kind bounds.now.film.now).bound q.0 < bound
-        → result ≡ nat_le bound (justified (rules_of bounds.now.kind bounds.now.film.now) best.now.lines q.0) }
+fn is_by_steps<B: Bounds>(bounds: &B, memo: &mut Memo<B>, best: &Best, q: Mask, bound: u64) -> bool
+    requires lies { LiesIn B.film q.0 }
+    ensures enough { IsTrue result → bound ≤ justified (rules_of B.kind B.film) best.now.lines q.0 }
+    ensures decides { (rules_of B.kind B.film).bound q.0 < bound
+        → result ≡ nat_le bound (justified (rules_of B.kind B.film) best.now.lines q.0) }
 {
     let film = bounds.film();
     film.keeps_limits();
@@ -73,23 +59,20 @@ fn is_by_steps<F: Fn(u64, u64) -> u64>(
 }
 
 /// Tells whether each open first's step plus the known bound of the rest reaches the bound.
-fn steps_reach<F: Fn(u64, u64) -> u64>(
-    bounds: &StoredBound<F>,
-    memo: &mut Memo,
+fn steps_reach<B: Bounds>(
+    bounds: &B,
+    memo: &mut Memo<B>,
     best: &Best,
     q: Mask,
     on: Mask,
     firsts: Mask,
     bound: u64,
 ) -> bool
-    requires keeps { Keeps (F.pre bounds.now.f) (F.post bounds.now.f) bounds.now.kind bounds.now.film.now }
-    requires memo { IsMemo bounds.now.kind bounds.now.film.now memo.old }
-    requires lies { LiesIn bounds.now.film.now q.0 }
-    requires on { on.0 ≡ on_location bounds.now.film.now q.0 }
+    requires lies { LiesIn B.film q.0 }
+    requires on { on.0 ≡ on_location B.film q.0 }
     requires firsts { (scene : ℕ) → has firsts.0 scene ≡ true → has q.0 scene ≡ true }
-    ensures memo { IsMemo bounds.now.kind bounds.now.film.now memo.new }
-    ensures reach { IsTrue result ↔ All (λ scene. bound ≤ step_cost bounds.now.film.now q.0 scene
-        + known (rules_of bounds.now.kind bounds.now.film.now) best.now.lines (without q.0 scene)) (members firsts.0) }
+    ensures reach { IsTrue result ↔ All (λ scene. bound ≤ step_cost B.film q.0 scene
+        + known (rules_of B.kind B.film) best.now.lines (without q.0 scene)) (members firsts.0) }
 {
     for scene in firsts.iter() {
         if !step_reaches(bounds, memo, best, q, on, scene, bound) {
@@ -100,23 +83,20 @@ fn steps_reach<F: Fn(u64, u64) -> u64>(
 }
 
 /// Tells whether the step of a scene plus the known bound of the rest reaches the bound.
-fn step_reaches<F: Fn(u64, u64) -> u64>(
-    bounds: &StoredBound<F>,
-    memo: &mut Memo,
+fn step_reaches<B: Bounds>(
+    bounds: &B,
+    memo: &mut Memo<B>,
     best: &Best,
     q: Mask,
     on: Mask,
     s: u32,
     bound: u64,
 ) -> bool
-    requires keeps { Keeps (F.pre bounds.now.f) (F.post bounds.now.f) bounds.now.kind bounds.now.film.now }
-    requires memo { IsMemo bounds.now.kind bounds.now.film.now memo.old }
-    requires lies { LiesIn bounds.now.film.now q.0 }
-    requires on { on.0 ≡ on_location bounds.now.film.now q.0 }
+    requires lies { LiesIn B.film q.0 }
+    requires on { on.0 ≡ on_location B.film q.0 }
     requires scene { has q.0 s ≡ true }
-    ensures memo { IsMemo bounds.now.kind bounds.now.film.now memo.new }
-    ensures reach { IsTrue result ↔ (bound ≤ step_cost bounds.now.film.now q.0 s
-        + known (rules_of bounds.now.kind bounds.now.film.now) best.now.lines (without q.0 s)) }
+    ensures reach { IsTrue result ↔ (bound ≤ step_cost B.film q.0 s
+        + known (rules_of B.kind B.film) best.now.lines (without q.0 s)) }
 {
     let film = bounds.film();
     film.keeps_limits();
@@ -125,18 +105,9 @@ fn step_reaches<F: Fn(u64, u64) -> u64>(
 }
 
 /// Tells whether a set's static bound or one of its lines reaches `need`.
-fn is_known<F: Fn(u64, u64) -> u64>(
-    bounds: &StoredBound<F>,
-    memo: &mut Memo,
-    best: &Best,
-    q: Mask,
-    need: u64,
-) -> bool
-    requires keeps { Keeps (F.pre bounds.now.f) (F.post bounds.now.f) bounds.now.kind bounds.now.film.now }
-    requires memo { IsMemo bounds.now.kind bounds.now.film.now memo.old }
-    requires lies { LiesIn bounds.now.film.now q.0 }
-    ensures memo { IsMemo bounds.now.kind bounds.now.film.now memo.new }
-    ensures known { IsTrue result ↔ (need ≤ known (rules_of bounds.now.kind bounds.now.film.now) best.now.lines q.0) }
+fn is_known<B: Bounds>(bounds: &B, memo: &mut Memo<B>, best: &Best, q: Mask, need: u64) -> bool
+    requires lies { LiesIn B.film q.0 }
+    ensures known { IsTrue result ↔ (need ≤ known (rules_of B.kind B.film) best.now.lines q.0) }
 {
     if is_dear(bounds.kind()) && best.bound_of(q.0) >= need {
         return true;
@@ -146,16 +117,11 @@ fn is_known<F: Fn(u64, u64) -> u64>(
 
 /// Returns the greatest bound that the lines justify for a set, in units of money. Static bounds are computed in full.
 /// The sums may exceed 64 bits, since a plan's bounds may be any numbers.
-pub(crate) fn justified<F: Fn(u64, u64) -> u64>(
-    bounds: &StoredBound<F>,
-    best: &Best,
-    q: Mask,
-) -> u128
-    requires keeps { Keeps (F.pre bounds.now.f) (F.post bounds.now.f) bounds.now.kind bounds.now.film.now }
-    requires lies { LiesIn bounds.now.film.now q.0 }
-    ensures { result ≡ justified (rules_of bounds.now.kind bounds.now.film.now) best.now.lines q.0 }
+pub(crate) fn justified<B: Bounds>(bounds: &B, best: &Best, q: Mask) -> u128
+    requires lies { LiesIn B.film q.0 }
+    ensures { result ≡ justified (rules_of B.kind B.film) best.now.lines q.0 }
 {
-    let bound = u128::from(bounds.at(q));
+    let bound = u128::from(bounds.whole(q));
     let film = bounds.film();
     let firsts = open_firsts(film, q);
     if firsts.is_empty() {
@@ -165,17 +131,11 @@ pub(crate) fn justified<F: Fn(u64, u64) -> u64>(
 }
 
 /// Returns the least step plus known bound of the rest, over these open firsts.
-fn least_step<F: Fn(u64, u64) -> u64>(
-    bounds: &StoredBound<F>,
-    best: &Best,
-    q: Mask,
-    firsts: Mask,
-) -> u128
-    requires keeps { Keeps (F.pre bounds.now.f) (F.post bounds.now.f) bounds.now.kind bounds.now.film.now }
-    requires lies { LiesIn bounds.now.film.now q.0 }
+fn least_step<B: Bounds>(bounds: &B, best: &Best, q: Mask, firsts: Mask) -> u128
+    requires lies { LiesIn B.film q.0 }
     requires firsts { (scene : ℕ) → has firsts.0 scene ≡ true → has q.0 scene ≡ true }
     requires some { firsts.0 ≢ 0 }
-    ensures { (none : ℕ) → result ≡ least_step (by_lines (rules_of bounds.now.kind bounds.now.film.now) best.now.lines)
+    ensures { (none : ℕ) → result ≡ least_step (by_lines (rules_of B.kind B.film) best.now.lines)
         q.0 none (members firsts.0) }
 {
     let film = bounds.film();
@@ -190,10 +150,9 @@ fn least_step<F: Fn(u64, u64) -> u64>(
 }
 
 /// Returns the bound known of a set, in units of money: the greater of its static bound and its lines' bounds.
-pub(crate) fn known<F: Fn(u64, u64) -> u64>(bounds: &StoredBound<F>, best: &Best, q: Mask) -> u64
-    requires keeps { Keeps (F.pre bounds.now.f) (F.post bounds.now.f) bounds.now.kind bounds.now.film.now }
-    requires lies { LiesIn bounds.now.film.now q.0 }
-    ensures { result ≡ known (rules_of bounds.now.kind bounds.now.film.now) best.now.lines q.0 }
+pub(crate) fn known<B: Bounds>(bounds: &B, best: &Best, q: Mask) -> u64
+    requires lies { LiesIn B.film q.0 }
+    ensures { result ≡ known (rules_of B.kind B.film) best.now.lines q.0 }
 {
-    bounds.at(q).max(best.bound_of(q.0))
+    bounds.whole(q).max(best.bound_of(q.0))
 }

@@ -1,9 +1,8 @@
 // Checks of a plan's lines, bound and status.
 ghost use Rattle.std.specs.Prelude.{◌≡◌, None, nat_le, All, IfOk, length};
 ghost use Rattle.strip_film.specs.Film.{LiesIn};
-ghost use Rattle.strip_bound.specs.StoredBound.{Keeps};
+ghost use Rattle.strip_bound.specs.Tables.{AreTables};
 ghost use Rattle.strip_lines.specs.Lines.{rules_of};
-ghost use Rattle.strip_memo.specs.Memo.{IsMemo};
 ghost use Rattle.strip_reduce.specs.Shown.{reduced_data};
 ghost use Rattle.strip_proof.specs.Plan.{plan_data};
 ghost use Rattle.strip_text.specs.Checks.{below, checks_of_one, first_fault};
@@ -13,7 +12,8 @@ ghost use Rattle.strip_check.specs.Reasons.{bound_checks, end_checks, is_right, 
 use crate::justify::{is_justified, justified, known};
 use crate::verdict::Reason;
 use std::alloc::Global;
-use strip_bound::{BoundTables, StoredBound, static_reach};
+use std::marker::Brand;
+use strip_bound::{BoundTables, Bounded, Bounds, FilmBounds};
 use strip_film::{Film, Line};
 use strip_io::Memory;
 use strip_mask::Mask;
@@ -36,11 +36,7 @@ pub(crate) fn against_proof(
         return Ok(Some(reason));
     }
     let tables = BoundTables::of(alloc, film)?;
-    let kind = plan.kind;
-    let bounds = StoredBound::new(film, kind, |q, need| {
-        static_reach(film, &tables, kind, Mask(q), need)
-    });
-    against_bounds(alloc, &bounds, reduced.apart, plan)
+    against_bounds::<Brand>(alloc, film, &tables, reduced.apart, plan)
 }
 
 /// Returns the first of the lines with a set that doesn't lie in the film.
@@ -58,40 +54,42 @@ fn against_sets(film: &Film, lines: &[Line]) -> Option<Reason>
     None
 }
 
-/// Returns the first reason against the bounds of the lines, the plan's bound and its status.
-fn against_bounds<F: Fn(u64, u64) -> u64>(
+/// Returns the first reason against the bounds of the lines, the plan's bound and its status. A type brand names the
+/// film and the kind of the bounds.
+fn against_bounds<N: Bounded>(
     alloc: Global,
-    bounds: &StoredBound<F>,
+    film: &Film,
+    tables: &BoundTables,
     apart: u64,
     plan: &Plan,
 ) -> Result<Option<Reason>, Memory>
-    requires keeps { Keeps (F.pre bounds.now.f) (F.post bounds.now.f) bounds.now.kind bounds.now.film.now }
-    requires lie { All (λ line. LiesIn bounds.now.film.now line.set) plan.now.lines.items }
+    requires film { film.now ≡ N.film }
+    requires kind { plan.now.kind ≡ N.kind }
+    requires tables { AreTables film.now tables.now }
+    requires lie { All (λ line. LiesIn film.now line.set) plan.now.lines.items }
     ensures { IfOk result (λ reason. reason
-        ≡ first_fault (bound_checks (rules_of bounds.now.kind bounds.now.film.now) apart (plan_data plan.now))) }
+        ≡ first_fault (bound_checks (rules_of plan.now.kind film.now) apart (plan_data plan.now))) }
 {
-    let mut memo = Memo::new(alloc, bounds)?;
+    let bounds: FilmBounds<N> = FilmBounds::new(film, tables, plan.kind);
+    let mut memo = Memo::new(alloc, &bounds)?;
     let best = Best::of(alloc, &plan.lines)?;
-    if let Some(reason) = against_lines(bounds, &mut memo, &best, &plan.lines) {
+    if let Some(reason) = against_lines(&bounds, &mut memo, &best, &plan.lines) {
         return Ok(Some(reason));
     }
-    Ok(against_end(bounds, &best, apart, plan))
+    Ok(against_end(&bounds, &best, apart, plan))
 }
 
 /// Returns the first of the lines with a bound greater than the lines justify for its set.
-fn against_lines<F: Fn(u64, u64) -> u64>(
-    bounds: &StoredBound<F>,
-    memo: &mut Memo,
+fn against_lines<B: Bounds>(
+    bounds: &B,
+    memo: &mut Memo<B>,
     best: &Best,
     lines: &[Line],
 ) -> Option<Reason>
-    requires keeps { Keeps (F.pre bounds.now.f) (F.post bounds.now.f) bounds.now.kind bounds.now.film.now }
-    requires memo { IsMemo bounds.now.kind bounds.now.film.now memo.old }
-    requires lie { All (λ line. LiesIn bounds.now.film.now line.set) lines.now }
+    requires lie { All (λ line. LiesIn B.film line.set) lines.now }
     requires best { best.now.lines ≡ lines.now }
-    ensures memo { IsMemo bounds.now.kind bounds.now.film.now memo.new }
     ensures first { result ≡ first_fault (below (length lines.now)
-        (line_check (rules_of bounds.now.kind bounds.now.film.now) lines.now)) }
+        (line_check (rules_of B.kind B.film) lines.now)) }
 {
     for (place, line) in lines.iter().enumerate() {
         let q = Mask(line.set);
@@ -106,16 +104,10 @@ fn against_lines<F: Fn(u64, u64) -> u64>(
 }
 
 /// Returns the first reason against the plan's bound and its status.
-fn against_end<F: Fn(u64, u64) -> u64>(
-    bounds: &StoredBound<F>,
-    best: &Best,
-    apart: u64,
-    plan: &Plan,
-) -> Option<Reason>
-    requires keeps { Keeps (F.pre bounds.now.f) (F.post bounds.now.f) bounds.now.kind bounds.now.film.now }
+fn against_end<B: Bounds>(bounds: &B, best: &Best, apart: u64, plan: &Plan) -> Option<Reason>
     requires best { best.now.lines ≡ plan.now.lines.items }
     ensures { result
-        ≡ first_fault (end_checks (rules_of bounds.now.kind bounds.now.film.now) apart (plan_data plan.now)) }
+        ≡ first_fault (end_checks (rules_of B.kind B.film) apart (plan_data plan.now)) }
 {
     let known = u128::from(apart) + u128::from(known(bounds, best, bounds.film().all()));
     if let Some(reason) = against_bound(known, plan.bound) {

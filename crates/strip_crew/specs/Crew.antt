@@ -2,13 +2,13 @@
 use Rattle.std.specs.Prelude.{◌≡◌, ℕ, suc, ◌+◌, ◌<◌, None, List, length, All}
 use Rattle.strip_model.specs.declared.kind.Kind.{Kind}
 use Rattle.strip_model.specs.Film.{FilmData}
+use Rattle.strip_bound.specs.declared.source.Bounds.{Ghosts}
 use Rattle.strip_hand.specs.Hand.{HandData, IsSearchOf}
 use Rattle.strip_least.specs.declared.least.Least.{Least}
 use Rattle.strip_least.specs.Rule.{full_weight}
 use Rattle.strip_least.specs.Pass.{known as known_least}
 use Rattle.strip_book.specs.declared.book.Book.{Book}
 use Rattle.strip_book.specs.Pass.{known, table_of}
-use Rattle.strip_memo.specs.Memo.{IsMemo}
 use Rattle.strip_front.specs.Front.{FrontData}
 use Rattle.strip_worker.specs.declared.walked.Walked.{Walked}
 use Rattle.strip_worker.specs.Closed.{AreCountedBy, HasAll}
@@ -64,27 +64,26 @@ pub record AreSettled (before after : HubParts) : Type 0 where
   pub counts : Weigh full_weight before → AreCountedBy (shown after) (shown after).lines
   pub all : Weigh full_weight before → NoPartLeft before → HasAll (shown after)
 
--- a worker's job in a search of the film by its tasks: passes of weight 1, a worker's source, what was found with them
--- so far, and a true memo
-pub record IsJob (kind : Kind) (film : FilmData) (front : FrontData) (least : Least) (book : Book)
-    (home : SourceHome) (job : Job) : Type 0 where
+-- a worker's job in a search of the film by its tasks: passes of weight 1, a worker's source, and what was found with
+-- them so far
+pub record IsJob {B : Type 0} {bounds : Ghosts B} (kind : Kind) (film : FilmData) (front : FrontData) (least : Least) (book : Book)
+    (home : SourceHome) (job : Job B bounds) : Type 0 where
   pub passes : ArePassesOf least book job.passes
   pub light : Weigh 1 job.passes
   pub worker : IsWorkers job.passes.source
   pub from : source_home job.passes.source ≡ home
   pub search : IsSearchOf kind film (shown job.passes)
   pub worked : HasWorked (shown job.passes) front job.walked.found.items job.walked.spent
-  pub memo : IsMemo kind film job.memo
 
 -- the job is done: no part is left
-pub record IsDone (kind : Kind) (film : FilmData) (front : FrontData) (least : Least) (book : Book)
-    (home : SourceHome) (job : Job) : Type 0 where
+pub record IsDone {B : Type 0} {bounds : Ghosts B} (kind : Kind) (film : FilmData) (front : FrontData) (least : Least) (book : Book)
+    (home : SourceHome) (job : Job B bounds) : Type 0 where
   pub is_job : IsJob kind film front least book home job
   pub left : NoPartLeft job.passes
 
 -- so many jobs were dealt from passes
-pub record AreDealt (kind : Kind) (film : FilmData) (front : FrontData) (least : Least) (book : Book)
-    (before after : HubParts) (jobs : List Job) (workers : ℕ) : Type 0 where
+pub record AreDealt {B : Type 0} {bounds : Ghosts B} (kind : Kind) (film : FilmData) (front : FrontData) (least : Least) (book : Book)
+    (before after : HubParts) (jobs : List (Job B bounds)) (workers : ℕ) : Type 0 where
   pub passes : ArePassesOf least book after
   pub same : shown after ≡ shown before
   pub weight : (rest : ℕ) → Weigh (rest + workers) before → Weigh rest after
@@ -93,8 +92,8 @@ pub record AreDealt (kind : Kind) (film : FilmData) (front : FrontData) (least :
   pub jobs_are : All (IsJob kind film front least book (split_home before.source)) jobs
 
 -- a job that is done was put to passes, and what it found to what was found
-pub record HasGathered (least : Least) (book : Book) (before : HubParts) (was : Walked) (job : Job)
-    (after : HubParts) (walked : Walked) : Type 0 where
+pub record HasGathered {B : Type 0} {bounds : Ghosts B} (least : Least) (book : Book) (before : HubParts)
+    (was : Walked) (job : Job B bounds) (after : HubParts) (walked : Walked) : Type 0 where
   pub passes : ArePassesOf least book after
   pub goes_on : GoesOn (shown before) (shown after)
   pub weight : (rest : ℕ) → Weigh rest before → Weigh 1 job.passes → Weigh (rest + 1) after

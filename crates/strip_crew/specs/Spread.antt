@@ -1,5 +1,5 @@
--- How asks are dealt to workers by turns, and where their values stand: by worker, and then by turn.
-use Rattle.std.specs.Prelude.{◌≡◌, ℕ, ◌+◌, ◌*◌, ◌/◌, ◌%◌, ◌<◌, List, false, All, Result, IfOk, length, slice_index_or}
+-- How asks are dealt to workers by turns, and the values that each worker finds.
+use Rattle.std.specs.Prelude.{◌≡◌, ℕ, ◌+◌, ◌*◌, ◌<◌, ◌≤◌, ◌^◌, List, false, All, Result, IfOk, length, slice_index_or, vec_len}
 use denote.Ref.{MutBor}
 use Rattle.strip_io.specs.declared.files.Memory.{Memory}
 use Rattle.strip_model.specs.declared.kind.Kind.{Kind}
@@ -7,24 +7,37 @@ use Rattle.strip_model.specs.Film.{FilmData}
 use Rattle.strip_film.specs.Film.{LiesIn}
 use Rattle.strip_layers.specs.declared.ask.Ask.{Ask}
 use Rattle.strip_layers.specs.Asks.{AreAnswered, Suffices}
+use Rattle.strip_crew.specs.declared.answering.Share.{Share}
 
--- the number of the ask whose value stands at a place
+-- the number of the ask that a worker has in a turn
 abbrev pub ask_of : ℕ → ℕ → ℕ → ℕ
-ask_of turns workers place = place % turns * workers + place / turns
-
--- the place of the value of the ask with a number
-abbrev pub place_of : ℕ → ℕ → ℕ → ℕ
-place_of turns workers number = number % workers * turns + number / workers
+ask_of workers worker turn = turn * workers + worker
 
 -- where the ask with this number exists and isn't known, the value suffices
 pub record IsValue (kind : Kind) (film : FilmData) (asks : List Ask) (number value : ℕ) : Type 0 where
   pub asked : (d : Ask) → number < length asks → (slice_index_or asks number d).is_known ≡ false
       → Suffices kind film (slice_index_or asks number d).set (slice_index_or asks number d).need value
 
--- each place has the value of its ask
-pub record AreValues (kind : Kind) (film : FilmData) (asks : List Ask) (turns workers : ℕ) (values : List ℕ) : Type 0 where
-  pub count : length values ≡ turns * workers
-  pub each : (place : ℕ) → place < turns * workers → IsValue kind film asks (ask_of turns workers place) (slice_index_or values place 0)
+-- a worker's share has the value of its ask in each turn
+pub record HasValues (kind : Kind) (film : FilmData) (asks : List Ask) (workers worker : ℕ) (share : Share) : Type 0 where
+  pub each : (turn : ℕ) → turn < vec_len share.values
+      → IsValue kind film asks (ask_of workers worker turn) (slice_index_or share.values.items turn 0)
+
+-- a share has enough turns that all asks are dealt, and the asks of its turns can be numbered
+pub record HasTurns (asks workers : ℕ) (share : Share) : Type 0 where
+  pub all : asks ≤ vec_len share.values * workers
+  pub few : vec_len share.values * workers < 2 ^ 64
+
+-- each worker has such a share
+pub record AreShares (asks workers : ℕ) (shares : List Share) : Type 0 where
+  pub count : length shares ≡ workers
+  pub each : All (HasTurns asks workers) shares
+
+-- each worker's share has its values
+pub record AreValues (kind : Kind) (film : FilmData) (asks : List Ask) (workers : ℕ) (shares : List Share) : Type 0 where
+  pub are : AreShares (length asks) workers shares
+  pub each : (worker : ℕ) (d : Share) → worker < workers
+      → HasValues kind film asks workers worker (slice_index_or shares worker d)
 
 -- the closure may be called with asks for sets of the film, and answers them
 pub record AnswersAll (pre : MutBor (List Ask) → Type 0) (post : MutBor (List Ask) → Result (Unit {0}) Memory → MutBor (List Ask) → Type 0)

@@ -1,16 +1,15 @@
 // Parallel answers to requests for static bounds.
-ghost use Rattle.std.specs.Prelude.{◌≡◌, ◌*◌, ◌<◌, ◌≤◌, ◌^◌, All, IfOk, false, length};
+ghost use Rattle.std.specs.Prelude.{◌≡◌, ◌+◌, ◌<◌, ◌^◌, All, IfOk, false, length};
 ghost use Rattle.strip_model.specs.declared.kind.Kind.{Kind};
 ghost use Rattle.strip_model.specs.Film.{FilmData};
 ghost use Rattle.strip_film.specs.Film.{LiesIn};
-ghost use Rattle.strip_bound.specs.StoredBound.{Keeps};
 ghost use Rattle.strip_layers.specs.Asks.{AreAnswered, IsAnswer, Suffices};
-ghost use Rattle.strip_crew.specs.Spread.{AnswersAll, AreValues, IsValue, ask_of};
+ghost use Rattle.strip_crew.specs.Spread.{AnswersAll, AreShares, AreValues, HasTurns, HasValues, IsValue};
 
 use std::alloc::Global;
 use std::thread;
 use std::thread::Threads;
-use strip_bound::StoredBound;
+use strip_bound::{Bounds, Room};
 use strip_film::Film;
 use strip_io::Memory;
 use strip_layers::{Answers, Ask, answer_in_turn};
@@ -20,29 +19,26 @@ use strip_mask::Mask;
 const FEW: usize = 64;
 
 /// Several workers, who answer the requests of a layer in parallel, each in a thread. `by` is a closure that calls
-/// `answer_beside`. The caller makes it, because a trait method can't hand the stored bound to threads.
+/// `answer_beside`. The caller makes it, because a trait method can't hand the bounds to threads.
 #[derive(Drop)]
-pub struct Beside<'k, 'f, F: Fn(u64, u64) -> u64, G: Fn(&mut [Ask]) -> Result<(), Memory>> {
-    pub bounds: &'k StoredBound<'f, F>,
+pub struct Beside<'k, B: Bounds, G: Fn(&mut [Ask]) -> Result<(), Memory>> {
+    pub bounds: &'k B,
     pub by: G,
 }
 
-impl<'k, 'f, F: Fn(u64, u64) -> u64, G: Fn(&mut [Ask]) -> Result<(), Memory>> Answers
-    for Beside<'k, 'f, F, G> {
-    ghost film = { λ beside. beside.bounds.now.film.now };
+impl<'k, B: Bounds, G: Fn(&mut [Ask]) -> Result<(), Memory>> Answers for Beside<'k, B, G> {
+    ghost film = { B.film };
 
-    ghost kind = { λ beside. beside.bounds.now.kind };
+    ghost kind = { B.kind };
 
-    ghost is_ready = { λ beside.
-        Keeps (F.pre beside.bounds.now.f) (F.post beside.bounds.now.f) beside.bounds.now.kind beside.bounds.now.film.now
-        × AnswersAll (G.pre beside.by) (G.post beside.by) beside.bounds.now.kind beside.bounds.now.film.now };
+    ghost is_ready = { λ beside. AnswersAll (G.pre beside.by) (G.post beside.by) B.kind B.film };
 
     fn film(&self) -> &Film {
         self.bounds.film()
     }
 
     fn bound(&self, set: Mask) -> u64 {
-        self.bounds.at(set)
+        self.bounds.whole(set)
     }
 
     fn answer(&self, asks: &mut [Ask]) -> Result<(), Memory> {
@@ -50,30 +46,35 @@ impl<'k, 'f, F: Fn(u64, u64) -> u64, G: Fn(&mut [Ask]) -> Result<(), Memory>> An
     }
 }
 
+/// One worker's share of the requests: a value for each of its turns.
+#[derive(Drop)]
+struct Share {
+    values: Vec<u64>,
+}
+
 /// Answers each request that isn't known, on `workers` threads, or on the caller alone if fewer than `FEW` are unknown.
-/// It calls the stored bound once for each, and takes a number for each request and at most one more for each worker.
-pub fn answer_beside<R: Threads + Sync, F: Fn(u64, u64) -> u64 + Sync>(
+/// It asks for one bound for each. It takes a list for each worker, with a number for each of its requests and at most
+/// one more.
+pub fn answer_beside<R: Threads + Sync, B: Bounds + Sync>(
     rt: &R,
     alloc: Global,
-    bounds: &StoredBound<F>,
+    bounds: &B,
     workers: u32,
     asks: &mut [Ask],
 ) -> Result<(), Memory>
     requires workers { 0 < workers }
-    requires keeps { Keeps (F.pre bounds.now.f) (F.post bounds.now.f) bounds.now.kind bounds.now.film.now }
-    requires lies { All (λ ask. LiesIn bounds.now.film.now ask.set) asks.old }
-    ensures { IfOk result (λ _. AreAnswered bounds.now.kind bounds.now.film.now asks.old asks.new) }
+    requires lies { All (λ ask. LiesIn B.film ask.set) asks.old }
+    ensures { IfOk result (λ _. AreAnswered B.kind B.film asks.old asks.new) }
 {
     if unknown_count(asks) < FEW {
         answer_in_turn(bounds, asks);
         return Ok(());
     }
     let workers = workers as usize;
-    let turns = asks.len().div_ceil(workers);
-    let mut room = vec![in alloc; 0u64; turns * workers]?;
-    let values = &mut room[..];
-    find_values(rt, bounds, asks, turns, workers, values);
-    take_values(asks, turns, workers, values);
+    let mut shares = make_shares(alloc, asks.len(), workers)?;
+    let shares = &mut shares[..];
+    find_values(rt, bounds, asks, workers, shares);
+    take_values(asks, workers, shares);
     Ok(())
 }
 
@@ -82,65 +83,82 @@ fn unknown_count(asks: &[Ask]) -> usize {
     asks.iter().filter(|ask| !ask.is_known).count()
 }
 
-/// Computes the value of each request that isn't known, on `workers` threads. Neighbours cost about the same, so they
-/// go to the workers in turn. Each worker's `turns` values lie in a row in `values`.
-fn find_values<R: Threads + Sync, F: Fn(u64, u64) -> u64 + Sync>(
+/// Makes a share for each worker, with as many turns as it takes to deal the requests.
+fn make_shares(alloc: Global, asks: usize, workers: usize) -> Result<Vec<Share>, Memory>
+    requires workers { 0 < workers }
+    requires room { asks + workers < 2 ^ 64 }
+    ensures { IfOk result (λ shares. AreShares asks workers shares.items) }
+{
+    let turns = asks.div_ceil(workers);
+    let mut shares = Vec::with_capacity(alloc, workers)?;
+    for _worker in 0..workers {
+        shares.push(Share {
+            values: vec![in alloc; 0; turns]?,
+        })?;
+    }
+    Ok(shares)
+}
+
+/// Computes the value of each request that isn't known, each worker's in a thread. Neighbours cost about the same, so
+/// they go to the workers in turn.
+fn find_values<R: Threads + Sync, B: Bounds + Sync>(
     rt: &R,
-    bounds: &StoredBound<F>,
+    bounds: &B,
     asks: &[Ask],
-    turns: usize,
     workers: usize,
-    values: &mut [u64],
+    shares: &mut [Share],
 )
     requires workers { 0 < workers }
-    requires room { length values.old ≡ turns * workers }
-    requires keeps { Keeps (F.pre bounds.now.f) (F.post bounds.now.f) bounds.now.kind bounds.now.film.now }
-    requires lies { All (λ ask. LiesIn bounds.now.film.now ask.set) asks.now }
-    ensures { AreValues bounds.now.kind bounds.now.film.now asks.now turns workers values.new }
+    requires shares { AreShares (length asks.now) workers shares.old }
+    requires lies { All (λ ask. LiesIn B.film ask.set) asks.now }
+    ensures { AreValues B.kind B.film asks.now workers shares.new }
 {
     thread::for_each_mut(
         rt,
-        values,
+        shares,
         workers,
-        &|place, value| {
-            *value = value_at(bounds, asks, turns, workers, place);
-        },
+        &|worker, share| fill(bounds, asks, workers, worker, share),
     );
 }
 
-/// Returns the value of the request that belongs to this place of `values`, or 0 if there is none or it is known. It
-/// calls the stored bound at most once.
-fn value_at<F: Fn(u64, u64) -> u64>(
-    bounds: &StoredBound<F>,
-    asks: &[Ask],
-    turns: usize,
-    workers: usize,
-    place: usize,
-) -> u64
-    requires room { turns * workers < 2 ^ 64 }
-    requires place { place < turns * workers }
-    requires keeps { Keeps (F.pre bounds.now.f) (F.post bounds.now.f) bounds.now.kind bounds.now.film.now }
-    requires lies { All (λ ask. LiesIn bounds.now.film.now ask.set) asks.now }
-    ensures { IsValue bounds.now.kind bounds.now.film.now asks.now (ask_of turns workers place) result }
+/// Computes the values of one worker's requests. All are computed in one room, since a room takes longer to clear than
+/// most values take.
+fn fill<B: Bounds>(bounds: &B, asks: &[Ask], workers: usize, worker: usize, share: &mut Share)
+    requires worker { worker < workers }
+    requires turns { HasTurns (length asks.now) workers share.old }
+    requires lies { All (λ ask. LiesIn B.film ask.set) asks.now }
+    ensures turns { HasTurns (length asks.now) workers share.new }
+    ensures values { HasValues B.kind B.film asks.now workers worker share.new }
 {
-    match asks.get(place % turns * workers + place / turns) {
-        Some(ask) if !ask.is_known => bounds.reach(Mask(ask.set), ask.need),
+    let mut room = Room::new();
+    for turn in 0..share.values.len() {
+        share.values[turn] = value_at(bounds, asks, turn * workers + worker, &mut room);
+    }
+}
+
+/// Returns the value of the request with this number, or 0 if there is none or it is known. It asks for at most one
+/// bound.
+fn value_at<B: Bounds>(bounds: &B, asks: &[Ask], number: usize, room: &mut Room) -> u64
+    requires { All (λ ask. LiesIn B.film ask.set) asks.now }
+    ensures { IsValue B.kind B.film asks.now number result }
+{
+    match asks.get(number) {
+        Some(ask) if !ask.is_known => bounds.reach(Mask(ask.set), ask.need, room),
         _ => 0,
     }
 }
 
 /// Copies the values to the requests that aren't known, in one pass.
-fn take_values(asks: &mut [Ask], turns: usize, workers: usize, values: &[u64])
+fn take_values(asks: &mut [Ask], workers: usize, shares: &[Share])
     requires workers { 0 < workers }
-    requires turns { length asks.old ≤ turns * workers }
-    requires room { length values.now ≡ turns * workers }
-    ensures { (kind : Kind) (film : FilmData) → AreValues kind film asks.old turns workers values.now
+    requires shares { AreShares (length asks.old) workers shares.now }
+    ensures { (kind : Kind) (film : FilmData) → AreValues kind film asks.old workers shares.now
         → AreAnswered kind film asks.old asks.new }
 {
     for number in 0..asks.len() {
         take_value(
             &mut asks[number],
-            values[number % workers * turns + number / workers],
+            shares[number % workers].values[number / workers],
         );
     }
 }

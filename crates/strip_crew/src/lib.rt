@@ -9,6 +9,7 @@ mod asked;
 mod calls;
 mod hub;
 mod job;
+mod lent;
 mod passes;
 mod queues;
 mod racing;
@@ -20,6 +21,7 @@ mod working;
 
 pub use answering::{Beside, answer_beside};
 pub use hub::{Hub, HubParts};
+pub use lent::Race;
 pub use racing::race;
 pub use rooted::Rooted;
 pub use source::{Gatherer, Source};

@@ -2,7 +2,6 @@
 ghost use Rattle.std.specs.Prelude.{◌≡◌, IfOk, IfErr};
 ghost use Rattle.strip_io.specs.Counts.{Rose};
 ghost use Rattle.strip_film.specs.Shown.{cursor_data, path_data};
-ghost use Rattle.strip_bound.specs.StoredBound.{Keeps};
 ghost use Rattle.strip_hand.specs.Hand.{IsHand, IsSearchOf};
 ghost use Rattle.strip_hand.specs.Search.{search_rules};
 ghost use Rattle.strip_front.specs.Calls.{GoesDown, IsDown, KeepsTasks, MayGoDown};
@@ -11,7 +10,7 @@ ghost use Rattle.strip_front.specs.Tried.{IsBegun, IsEnlisted, ListsLines, MayTr
 
 use crate::front::Front;
 use crate::marks::mark_wanted;
-use strip_bound::StoredBound;
+use strip_bound::Bounds;
 use strip_film::{Cursor, Listed, Path};
 use strip_hand::Hand;
 use strip_io::Memory;
@@ -27,15 +26,14 @@ use strip_io::Memory;
 /// front paths.
 ///
 /// It takes a few calls of the hand and one of the stored bound for each path, and a lookup for each task that follows.
-pub fn go_down<H: Hand, F: Fn(u64, u64) -> u64>(
-    bounds: &StoredBound<F>,
+pub fn go_down<H: Hand, B: Bounds>(
+    bounds: &B,
     hand: &mut H,
     cursor: &mut Cursor,
     front: &mut Front,
 ) -> Result<bool, Memory>
     requires sound { H.is_sound hand.old }
-    requires keeps { Keeps (F.pre bounds.now.f) (F.post bounds.now.f) bounds.now.kind bounds.now.film.now }
-    requires search { IsSearchOf bounds.now.kind bounds.now.film.now (H.shows hand.old) }
+    requires search { IsSearchOf B.kind B.film (H.shows hand.old) }
     requires may { MayGoDown (H.shows hand.old) (cursor_data cursor.old) (front_data front.old) }
     ensures sound { H.is_sound hand.new }
     ensures home { H.home hand.new ≡ H.home hand.old }
@@ -86,15 +84,14 @@ impl Tried {
 }
 
 /// Enlists the path, if its pay plus the static bound of the rest is below the least cost.
-fn try_path<H: Hand, F: Fn(u64, u64) -> u64>(
-    bounds: &StoredBound<F>,
+fn try_path<H: Hand, B: Bounds>(
+    bounds: &B,
     hand: &mut H,
     cursor: &mut Cursor,
     path: &Path,
 ) -> Result<Tried, Memory>
     requires sound { H.is_sound hand.old }
-    requires keeps { Keeps (F.pre bounds.now.f) (F.post bounds.now.f) bounds.now.kind bounds.now.film.now }
-    requires search { IsSearchOf bounds.now.kind bounds.now.film.now (H.shows hand.old) }
+    requires search { IsSearchOf B.kind B.film (H.shows hand.old) }
     requires stands { StandsInFront (H.shows hand.old) (cursor_data cursor.old) }
     requires may { MayTry (H.shows hand.old).search (cursor_data cursor.old) (path_data path.now) }
     ensures sound { H.is_sound hand.new }
@@ -103,7 +100,7 @@ fn try_path<H: Hand, F: Fn(u64, u64) -> u64>(
     ensures tried { Tries (H.shows hand.old) (cursor_data cursor.old) (path_data path.now) result (H.shows hand.new)
         (cursor_data cursor.new) }
 {
-    let bound = bounds.at(path.rest());
+    let bound = bounds.whole(path.rest());
     let least = hand.look();
     hand.keeps_limits();
     if least <= path.paid() + bound {
@@ -118,15 +115,14 @@ fn try_path<H: Hand, F: Fn(u64, u64) -> u64>(
 }
 
 /// Enlists the empty path, and then the others, each if it is below the least cost.
-fn enlist_paths<H: Hand, F: Fn(u64, u64) -> u64>(
-    bounds: &StoredBound<F>,
+fn enlist_paths<H: Hand, B: Bounds>(
+    bounds: &B,
     hand: &mut H,
     cursor: &mut Cursor,
     front: &mut Front,
 ) -> Result<bool, Memory>
     requires sound { H.is_sound hand.old }
-    requires keeps { Keeps (F.pre bounds.now.f) (F.post bounds.now.f) bounds.now.kind bounds.now.film.now }
-    requires search { IsSearchOf bounds.now.kind bounds.now.film.now (H.shows hand.old) }
+    requires search { IsSearchOf B.kind B.film (H.shows hand.old) }
     requires may { MayGoDown (H.shows hand.old) (cursor_data cursor.old) (front_data front.old) }
     ensures sound { H.is_sound hand.new }
     ensures home { H.home hand.new ≡ H.home hand.old }
@@ -148,15 +144,14 @@ fn enlist_paths<H: Hand, F: Fn(u64, u64) -> u64>(
 }
 
 /// Enlists the paths after the empty one, each if it is below the least cost.
-fn enlist_longer<H: Hand, F: Fn(u64, u64) -> u64>(
-    bounds: &StoredBound<F>,
+fn enlist_longer<H: Hand, B: Bounds>(
+    bounds: &B,
     hand: &mut H,
     cursor: &mut Cursor,
     front: &mut Front,
 ) -> Result<bool, Memory>
     requires sound { H.is_sound hand.old }
-    requires keeps { Keeps (F.pre bounds.now.f) (F.post bounds.now.f) bounds.now.kind bounds.now.film.now }
-    requires search { IsSearchOf bounds.now.kind bounds.now.film.now (H.shows hand.old) }
+    requires search { IsSearchOf B.kind B.film (H.shows hand.old) }
     requires begun { IsBegun (H.shows hand.old) (cursor_data cursor.old) (front_data front.old) }
     ensures sound { H.is_sound hand.new }
     ensures home { H.home hand.new ≡ H.home hand.old }

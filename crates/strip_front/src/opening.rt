@@ -1,6 +1,5 @@
 // Making the front.
 ghost use Rattle.std.specs.Prelude.{◌≡◌, ◌≤◌, ℕ, suc, false, None, min, length, replicate, IfOk};
-ghost use Rattle.strip_bound.specs.StoredBound.{Keeps};
 ghost use Rattle.strip_lines.specs.Lines.{rules_of};
 ghost use Rattle.strip_paths.specs.Shown.{paths_of};
 ghost use Rattle.strip_front.specs.Front.{IsEmptyFront};
@@ -12,7 +11,7 @@ use crate::layer::layer_after;
 use crate::shorter::shorter_paths;
 use crate::tasks::by_promise;
 use std::alloc::Global;
-use strip_bound::StoredBound;
+use strip_bound::Bounds;
 use strip_io::Memory;
 use strip_paths::PathsBySet;
 
@@ -24,16 +23,11 @@ use strip_paths::PathsBySet;
 ///
 /// It copies a few paths for each set that can remain after at most that number of scenes. It asks once for the stored
 /// bound of each task and of each shorter path. It fails only if memory runs out.
-pub fn make_front<F: Fn(u64, u64) -> u64>(
-    alloc: Global,
-    bounds: &StoredBound<F>,
-    most: usize,
-) -> Result<Front, Memory>
-    requires keeps { Keeps (F.pre bounds.now.f) (F.post bounds.now.f) bounds.now.kind bounds.now.film.now }
+pub fn make_front<B: Bounds>(alloc: Global, bounds: &B, most: usize) -> Result<Front, Memory>
     requires some { 2 ≤ most }
     requires few { most ≤ 4 }
-    ensures empty { IfOk result (λ front. IsEmptyFront (rules_of bounds.now.kind bounds.now.film.now) (front_data front)) }
-    ensures depth { IfOk result (λ front. (front_data front).depth ≡ min most (length bounds.now.film.now.casts)) }
+    ensures empty { IfOk result (λ front. IsEmptyFront (rules_of B.kind B.film) (front_data front)) }
+    ensures depth { IfOk result (λ front. (front_data front).depth ≡ min most (length B.film.casts)) }
 {
     let film = bounds.film();
     film.keeps_limits();
@@ -45,15 +39,14 @@ pub fn make_front<F: Fn(u64, u64) -> u64>(
 }
 
 /// Makes the tasks that follow the paths of the layer `last`.
-fn tasks_behind<F: Fn(u64, u64) -> u64>(
+fn tasks_behind<B: Bounds>(
     alloc: Global,
-    bounds: &StoredBound<F>,
+    bounds: &B,
     last: &PathsBySet,
 ) -> Result<PathsBySet, Memory>
-    requires keeps { Keeps (F.pre bounds.now.f) (F.post bounds.now.f) bounds.now.kind bounds.now.film.now }
-    requires layer { (before : ℕ) × (paths_of last.now ≡ layer bounds.now.film.now before) }
-    ensures { (before : ℕ) → paths_of last.now ≡ layer bounds.now.film.now before
-        → IfOk result (λ tasks. AreTasksOf (rules_of bounds.now.kind bounds.now.film.now) (suc before) (paths_of tasks)) }
+    requires layer { (before : ℕ) × (paths_of last.now ≡ layer B.film before) }
+    ensures { (before : ℕ) → paths_of last.now ≡ layer B.film before
+        → IfOk result (λ tasks. AreTasksOf (rules_of B.kind B.film) (suc before) (paths_of tasks)) }
 {
     let film = bounds.film();
     film.keeps_limits();

@@ -7,7 +7,6 @@ ghost use Rattle.strip_film.specs.Path.{IsPath, PathData};
 ghost use Rattle.strip_film.specs.Rules.{rank};
 ghost use Rattle.strip_film.specs.Shown.{path_data, turns_data};
 ghost use Rattle.strip_film.specs.Turns.{GoBy};
-ghost use Rattle.strip_bound.specs.StoredBound.{Keeps};
 ghost use Rattle.strip_rule.specs.Rule.{open_firsts};
 ghost use Rattle.strip_lines.specs.Lines.{rules_of};
 ghost use Rattle.strip_paths.specs.Shown.{paths_of};
@@ -17,7 +16,7 @@ ghost use Rattle.strip_front.specs.Onward.{AreOnward};
 
 use crate::layer::{first_layer, layer_after};
 use std::alloc::Global;
-use strip_bound::StoredBound;
+use strip_bound::{Bounds, rank};
 use strip_film::{MAX_COUNT, Path, Turns};
 use strip_io::Memory;
 use strip_mask::Mask;
@@ -26,17 +25,16 @@ use strip_rule::open_firsts;
 
 /// Returns the paths with fewer than `depth` scenes, each before its successors, and the last of their layers. It calls
 /// the stored bound for each open first of each path, except for the paths of the last layer.
-pub(crate) fn shorter_paths<F: Fn(u64, u64) -> u64>(
+pub(crate) fn shorter_paths<B: Bounds>(
     alloc: Global,
-    bounds: &StoredBound<F>,
+    bounds: &B,
     depth: usize,
 ) -> Result<(Vec<Path>, PathsBySet), Memory>
-    requires keeps { Keeps (F.pre bounds.now.f) (F.post bounds.now.f) bounds.now.kind bounds.now.film.now }
-    requires depth { IsDepth bounds.now.film.now depth }
-    ensures shorter { IfOk result (λ both. AreShorter (rules_of bounds.now.kind bounds.now.film.now) depth
+    requires depth { IsDepth B.film depth }
+    ensures shorter { IfOk result (λ both. AreShorter (rules_of B.kind B.film) depth
         (map path_data both.0.items)) }
     ensures last { IfOk result (λ both. (before : ℕ) → depth ≡ before + 1
-        → paths_of both.1 ≡ layer bounds.now.film.now before) }
+        → paths_of both.1 ≡ layer B.film before) }
 {
     let film = bounds.film();
     film.keeps_limits();
@@ -50,19 +48,18 @@ pub(crate) fn shorter_paths<F: Fn(u64, u64) -> u64>(
 }
 
 /// Inserts the paths of the next layer, of `count` scenes, into the list of shorter paths, each behind its predecessor.
-fn with_layer<F: Fn(u64, u64) -> u64>(
+fn with_layer<B: Bounds>(
     alloc: Global,
-    bounds: &StoredBound<F>,
+    bounds: &B,
     shorter: &[Path],
     next: &PathsBySet,
     count: usize,
 ) -> Result<Vec<Path>, Memory>
-    requires keeps { Keeps (F.pre bounds.now.f) (F.post bounds.now.f) bounds.now.kind bounds.now.film.now }
     requires some { 1 ≤ count }
-    requires most { count < length bounds.now.film.now.casts }
-    requires shorter { AreShorter (rules_of bounds.now.kind bounds.now.film.now) count (map path_data shorter.now) }
-    requires layer { paths_of next.now ≡ layer bounds.now.film.now count }
-    ensures { IfOk result (λ paths. AreShorter (rules_of bounds.now.kind bounds.now.film.now) (count + 1)
+    requires most { count < length B.film.casts }
+    requires shorter { AreShorter (rules_of B.kind B.film) count (map path_data shorter.now) }
+    requires layer { paths_of next.now ≡ layer B.film count }
+    ensures { IfOk result (λ paths. AreShorter (rules_of B.kind B.film) (count + 1)
         (map path_data paths.items)) }
 {
     bounds.film().keeps_limits();
@@ -77,19 +74,18 @@ fn with_layer<F: Fn(u64, u64) -> u64>(
 }
 
 /// Appends the layer's successors of this path, by rank.
-fn push_kept<F: Fn(u64, u64) -> u64>(
-    bounds: &StoredBound<F>,
+fn push_kept<B: Bounds>(
+    bounds: &B,
     path: &Path,
     layer: &PathsBySet,
     paths: &mut Vec<Path>,
 ) -> Result<(), Memory>
-    requires keeps { Keeps (F.pre bounds.now.f) (F.post bounds.now.f) bounds.now.kind bounds.now.film.now }
-    requires path { IsPath bounds.now.film.now (path_data path.now) }
-    requires layer { All (IsPath bounds.now.film.now) (paths_of layer.now) }
+    requires path { IsPath B.film (path_data path.now) }
+    requires layer { All (IsPath B.film) (paths_of layer.now) }
     requires apart { AllPairs (λ a b. a.rest ≢ b.rest) (paths_of layer.now) }
     ensures { IfOk result (λ _. (more : List PathData)
         × (map path_data paths.new.items ≡ map path_data paths.old.items ++ more)
-        × AreOnward (rules_of bounds.now.kind bounds.now.film.now) (paths_of layer.now) (path_data path.now) more) }
+        × AreOnward (rules_of B.kind B.film) (paths_of layer.now) (path_data path.now) more) }
 {
     let film = bounds.film();
     film.keeps_limits();
@@ -116,18 +112,17 @@ fn has(paths: &PathsBySet, path: &Path) -> bool
 }
 
 /// Returns the open firsts of a set in the order of their ranks. It calls the stored bound once for each.
-fn turns_of<F: Fn(u64, u64) -> u64>(bounds: &StoredBound<F>, rest: Mask) -> Turns
-    requires keeps { Keeps (F.pre bounds.now.f) (F.post bounds.now.f) bounds.now.kind bounds.now.film.now }
-    requires lies { LiesIn bounds.now.film.now rest.0 }
-    ensures left { (turns_data result).left ≡ open_firsts bounds.now.film.now rest.0 }
-    ensures by_rank { GoBy (rank (rules_of bounds.now.kind bounds.now.film.now) rest.0) (turns_data result) }
+fn turns_of<B: Bounds>(bounds: &B, rest: Mask) -> Turns
+    requires lies { LiesIn B.film rest.0 }
+    ensures left { (turns_data result).left ≡ open_firsts B.film rest.0 }
+    ensures by_rank { GoBy (rank (rules_of B.kind B.film) rest.0) (turns_data result) }
 {
     let film = bounds.film();
     film.keeps_limits();
     let firsts = open_firsts(film, rest);
     let mut ranks = [0; MAX_COUNT];
     for first in firsts.iter() {
-        ranks[first as usize] = bounds.rank(rest, first);
+        ranks[first as usize] = rank(bounds, rest, first);
     }
     Turns::of(firsts, &ranks)
 }

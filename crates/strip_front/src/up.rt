@@ -5,7 +5,6 @@ ghost use Rattle.strip_mask.specs.Set.{has};
 ghost use Rattle.strip_model.specs.declared.kind.Kind.{Kind};
 ghost use Rattle.strip_model.specs.Film.{FilmData};
 ghost use Rattle.strip_film.specs.Film.{IsFilm, LiesIn};
-ghost use Rattle.strip_bound.specs.StoredBound.{Keeps};
 ghost use Rattle.strip_rule.specs.Rule.{open_firsts};
 ghost use Rattle.strip_lines.specs.Lines.{rules_of};
 ghost use Rattle.strip_hand.specs.Hand.{IsSearchOf};
@@ -15,7 +14,7 @@ ghost use Rattle.strip_front.specs.Raised.{AreRaised, IsNumberOf, IsRaisedTo, Re
 ghost use Rattle.strip_front.specs.Shown.{front_data};
 
 use crate::front::Front;
-use strip_bound::StoredBound;
+use strip_bound::Bounds;
 use strip_film::{Film, step};
 use strip_hand::Hand;
 use strip_io::Memory;
@@ -31,15 +30,14 @@ use strip_rule::open_firsts;
 ///
 /// Returns the raised bound of the empty path, or the static bound of all scenes if it has no line. It takes a call of
 /// the hand for each line, and two lookups for each open first of each path.
-pub fn close_up<H: Hand, F: Fn(u64, u64) -> u64>(
-    bounds: &StoredBound<F>,
+pub fn close_up<H: Hand, B: Bounds>(
+    bounds: &B,
     hand: &mut H,
     front: &mut Front,
     found: &[u64],
 ) -> Result<u64, Memory>
     requires sound { H.is_sound hand.old }
-    requires keeps { Keeps (F.pre bounds.now.f) (F.post bounds.now.f) bounds.now.kind bounds.now.film.now }
-    requires search { IsSearchOf bounds.now.kind bounds.now.film.now (H.shows hand.old) }
+    requires search { IsSearchOf B.kind B.film (H.shows hand.old) }
     requires walked { IsWalked (H.shows hand.old) (front_data front.old) found.now }
     ensures sound { H.is_sound hand.new }
     ensures home { H.home hand.new ≡ H.home hand.old }
@@ -50,7 +48,7 @@ pub fn close_up<H: Hand, F: Fn(u64, u64) -> u64>(
 {
     hand.keeps_limits();
     if front.lines[0].is_none() {
-        return Ok(bounds.at(bounds.film().all()));
+        return Ok(bounds.whole(bounds.film().all()));
     }
     for scene_count in (0..front.depth).rev() {
         raise_layer(bounds, hand, front, found, scene_count)?;
@@ -59,16 +57,15 @@ pub fn close_up<H: Hand, F: Fn(u64, u64) -> u64>(
 }
 
 /// Raises the lines of the paths with `scene_count` scenes.
-fn raise_layer<H: Hand, F: Fn(u64, u64) -> u64>(
-    bounds: &StoredBound<F>,
+fn raise_layer<H: Hand, B: Bounds>(
+    bounds: &B,
     hand: &mut H,
     front: &mut Front,
     found: &[u64],
     scene_count: usize,
 ) -> Result<(), Memory>
     requires sound { H.is_sound hand.old }
-    requires keeps { Keeps (F.pre bounds.now.f) (F.post bounds.now.f) bounds.now.kind bounds.now.film.now }
-    requires search { IsSearchOf bounds.now.kind bounds.now.film.now (H.shows hand.old) }
+    requires search { IsSearchOf B.kind B.film (H.shows hand.old) }
     requires raised { IsRaisedTo (H.shows hand.old) (front_data front.old) found.now front.old.numbers.items
         (scene_count + 1) }
     ensures sound { H.is_sound hand.new }
@@ -90,16 +87,15 @@ fn raise_layer<H: Hand, F: Fn(u64, u64) -> u64>(
 }
 
 /// Raises the line of a path and returns the raised bound, or returns the static bound if the path has no line.
-fn raise_path<H: Hand, F: Fn(u64, u64) -> u64>(
-    bounds: &StoredBound<F>,
+fn raise_path<H: Hand, B: Bounds>(
+    bounds: &B,
     hand: &mut H,
     front: &Front,
     found: &[u64],
     place: usize,
 ) -> Result<u64, Memory>
     requires sound { H.is_sound hand.old }
-    requires keeps { Keeps (F.pre bounds.now.f) (F.post bounds.now.f) bounds.now.kind bounds.now.film.now }
-    requires search { IsSearchOf bounds.now.kind bounds.now.film.now (H.shows hand.old) }
+    requires search { IsSearchOf B.kind B.film (H.shows hand.old) }
     requires place { place < length (front_data front.now).paths }
     requires raised { IsRaisedTo (H.shows hand.old) (front_data front.now) found.now front.now.numbers.items
         (length (path_at (front_data front.now) place).scenes + 1) }
@@ -115,9 +111,9 @@ fn raise_path<H: Hand, F: Fn(u64, u64) -> u64>(
     hand.keeps_limits();
     let rest = front.paths.paths()[place].rest();
     match front.lines[place] {
-        None => Ok(bounds.at(rest)),
+        None => Ok(bounds.whole(rest)),
         Some(line) => {
-            let number = bounds.at(rest).max(least_over(film, front, found, rest));
+            let number = bounds.whole(rest).max(least_over(film, front, found, rest));
             hand.raise(line, number)?;
             Ok(number)
         }

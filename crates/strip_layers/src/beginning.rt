@@ -25,13 +25,12 @@ pub(crate) fn begin<A: Answers>(
     nodes: u32,
     static_bound: u64,
 ) -> Result<Search, Memory>
-    requires ready { A.is_ready answers.now }
-    requires start { IsComplete (A.film answers.now) (path_data start.now) }
+    requires start { IsComplete A.film (path_data start.now) }
     requires some { 1 ≤ nodes }
-    requires bound { static_bound ≡ bound (A.kind answers.now) (A.film answers.now) (all_scenes (A.film answers.now)) }
+    requires bound { static_bound ≡ bound A.kind A.film (all_scenes A.film) }
     requires below { static_bound < (path_data start.now).paid }
-    ensures found { IfOk result (λ search. AreTrue (A.kind answers.now) (A.film answers.now) search.found.entries) }
-    ensures begun { IfOk result (λ search. HasBegun (rules_of (A.kind answers.now) (A.film answers.now)) (path_data start.now) nodes
+    ensures found { IfOk result (λ search. AreTrue A.kind A.film search.found.entries) }
+    ensures begun { IfOk result (λ search. HasBegun (rules_of A.kind A.film) (path_data start.now) nodes
         (search_data search)) }
 {
     let film = answers.film();
@@ -45,8 +44,7 @@ pub(crate) fn begin<A: Answers>(
 /// Returns the look-ahead: the least step plus static bound of the rest, over the open firsts of all scenes, in units
 /// of money.
 fn look_ahead<A: Answers>(answers: &A) -> u64
-    requires { A.is_ready answers.now }
-    ensures { LooksAhead (rules_of (A.kind answers.now) (A.film answers.now)) result }
+    ensures { LooksAhead (rules_of A.kind A.film) result }
 {
     let film = answers.film();
     film.keeps_limits();

@@ -1,13 +1,11 @@
 // Static bounds that a search by layers computed.
-ghost use Rattle.std.specs.Prelude.{◌≡◌, ◌≤◌, ◌⊎◌};
-ghost use Rattle.strip_film.specs.Film.{LiesIn};
-ghost use Rattle.strip_bound.specs.Bounds.{bound};
-ghost use Rattle.strip_bound.specs.StoredBound.{Keeps};
 ghost use Rattle.strip_layers.specs.Search.{AreTrue};
 
 use indexmap::IndexMap;
-use strip_bound::StoredBound;
+use strip_bound::{Bounds, Room};
+use strip_film::Film;
 use strip_mask::Mask;
+use strip_model::Kind;
 
 /// A lower bound of a set's static bound, in units of money, and whether it equals the static bound.
 #[derive(Clone, Copy, Debug)]
@@ -23,19 +21,41 @@ pub struct Found {
     pub(crate) values: IndexMap<u64, Lowest>,
 }
 
-impl Found {
-    /// Returns a lower bound of the set, in units of money: its static bound, or a number from `need` up to that bound.
-    /// It takes the number found in the search if that suffices, and asks the stored bound otherwise.
-    pub fn reach<F: Fn(u64, u64) -> u64>(&self, bounds: &StoredBound<F>, q: Mask, need: u64) -> u64
-        requires keeps { Keeps (F.pre bounds.now.f) (F.post bounds.now.f) bounds.now.kind bounds.now.film.now }
-        requires found { AreTrue bounds.now.kind bounds.now.film.now self.now.values.entries }
-        requires lies { LiesIn bounds.now.film.now q.0 }
-        ensures most { result ≤ bound bounds.now.kind bounds.now.film.now q.0 }
-        ensures reaches { (need ≤ result) ⊎ (result ≡ bound bounds.now.kind bounds.now.film.now q.0) }
+/// The static bounds that a search by layers computed, and of another source where they don't suffice.
+#[derive(Drop)]
+pub struct FoundBounds<'l, B: Bounds> {
+    found: &'l Found,
+    bounds: &'l B,
+    pub ghost are_true: { AreTrue B.kind B.film found.now.values.entries },
+}
+
+impl<'l, B: Bounds> FoundBounds<'l, B> {
+    /// Makes the bounds of what was found, and of the source that was asked.
+    pub fn new(found: &'l Found, bounds: &'l B) -> FoundBounds<'l, B>
+        requires { AreTrue B.kind B.film found.now.values.entries }
     {
-        match self.values.get(&q.0) {
+        FoundBounds { found, bounds }
+    }
+}
+
+impl<'l, B: Bounds> Bounds for FoundBounds<'l, B> {
+    ghost film = { B.film };
+
+    ghost kind = { B.kind };
+
+    fn film(&self) -> &Film {
+        self.bounds.film()
+    }
+
+    fn kind(&self) -> Kind {
+        self.bounds.kind()
+    }
+
+    /// It takes the number found in the search if that suffices, and asks the other source otherwise.
+    fn reach(&self, q: Mask, need: u64, room: &mut Room) -> u64 {
+        match self.found.values.get(&q.0) {
             Some(lowest) if lowest.value >= need || lowest.is_whole => lowest.value,
-            _ => bounds.reach(q, need),
+            _ => self.bounds.reach(q, need, room),
         }
     }
 }

@@ -19,7 +19,7 @@ mod state;
 mod walking;
 
 pub use ask::{Alone, Answers, Ask, answer_in_turn};
-pub use found::Found;
+pub use found::{Found, FoundBounds};
 pub use layered::Layered;
 pub use limits::{Reached, Watch};
 pub use searching::search_by_layers;

@@ -30,11 +30,11 @@ pub(crate) fn ask_all<A: Answers>(
     limit: u64,
 ) -> Result<Vec<Ask>, Memory>
     requires ready { A.is_ready answers.now }
-    requires found { AreTrue (A.kind answers.now) (A.film answers.now) search.old.found.entries }
-    requires lie { All (λ path. LiesIn (A.film answers.now) path.rest) (paths_of paths.now) }
-    ensures found { AreTrue (A.kind answers.now) (A.film answers.now) search.new.found.entries }
+    requires found { AreTrue A.kind A.film search.old.found.entries }
+    requires lie { All (λ path. LiesIn A.film path.rest) (paths_of paths.now) }
+    ensures found { AreTrue A.kind A.film search.new.found.entries }
     ensures search { search_data search.new ≡ search_data search.old }
-    ensures looked { IfOk result (λ asks. AreLooked (A.kind answers.now) (A.film answers.now)
+    ensures looked { IfOk result (λ asks. AreLooked A.kind A.film
         (search_data search.old).lines limit (paths_of paths.now) asks.items) }
 {
     let mut asks = asks_for(alloc, search, paths.paths(), limit)?;
@@ -64,16 +64,15 @@ pub(crate) fn go_on<A: Answers>(
     paths: PathsBySet,
     asks: &[Ask],
 ) -> Result<(Layer, PathsBySet), Memory>
-    requires ready { A.is_ready answers.now }
-    requires search { IsSearch (rules_of (A.kind answers.now) (A.film answers.now)) (search_data search.old) }
-    requires level { (left : ℕ) × IsLevel (rules_of (A.kind answers.now) (A.film answers.now)) (suc left) (paths_of paths) }
-    requires looked { (limit : ℕ) × (limit ≤ (search_data search.old).goal) × AreLooked (A.kind answers.now) (A.film answers.now)
+    requires search { IsSearch (rules_of A.kind A.film) (search_data search.old) }
+    requires level { (left : ℕ) × IsLevel (rules_of A.kind A.film) (suc left) (paths_of paths) }
+    requires looked { (limit : ℕ) × (limit ≤ (search_data search.old).goal) × AreLooked A.kind A.film
         (search_data search.old).lines limit (paths_of paths) asks.now }
     ensures found { search.new.found.entries ≡ search.old.found.entries }
     ensures goes_on { (left limit : ℕ) → limit ≤ (search_data search.old).goal
-        → IsLevel (rules_of (A.kind answers.now) (A.film answers.now)) (suc left) (paths_of paths)
-        → AreLooked (A.kind answers.now) (A.film answers.now) (search_data search.old).lines limit (paths_of paths) asks.now
-        → IfOk result (λ gone. GoesOn (rules_of (A.kind answers.now) (A.film answers.now)) (search_data search.old) left limit
+        → IsLevel (rules_of A.kind A.film) (suc left) (paths_of paths)
+        → AreLooked A.kind A.film (search_data search.old).lines limit (paths_of paths) asks.now
+        → IfOk result (λ gone. GoesOn (rules_of A.kind A.film) (search_data search.old) left limit
         (paths_of paths) gone.0.sets.keys gone.0.standings.items (paths_of gone.1) (search_data search.new)) }
 {
     answers.film().keeps_limits();
@@ -101,14 +100,13 @@ fn look_at<A: Answers>(
     ask: &Ask,
     next: &mut PathsBySet,
 ) -> Result<Standing, Memory>
-    requires ready { A.is_ready answers.now }
-    requires path { IsPath (A.film answers.now) (path_data path.now) }
+    requires { IsPath A.film (path_data path.now) }
     ensures found { search.new.found.entries ≡ search.old.found.entries }
     ensures stands { IfOk result (λ standing. Stands (search_data search.old) (path_data path.now).rest ask.now standing
         (search_data search.new)) }
     ensures closed { IfOk result (λ standing. standing.place ≡ None → paths_of next.new ≡ paths_of next.old) }
     ensures leads { IfOk result (λ standing. standing.place ≢ None
-        → paths_of next.new ≡ fold with_path (paths_of next.old) (paths_after (A.film answers.now) (path_data path.now))) }
+        → paths_of next.new ≡ fold with_path (paths_of next.old) (paths_after A.film (path_data path.now))) }
 {
     let standing = search.stand(path.rest(), ask)?;
     if standing.place.is_some() {

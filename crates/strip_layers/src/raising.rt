@@ -27,15 +27,14 @@ pub(crate) fn raise_layer<A: Answers>(
     layer: Layer,
     below: &Layer,
 ) -> Layer
-    requires ready { A.is_ready answers.now }
-    requires may { (limit : ℕ) × (paths : List PathData) × MayRaiseLayer (rules_of (A.kind answers.now) (A.film answers.now)) (search_data search.old)
+    requires { (limit : ℕ) × (paths : List PathData) × MayRaiseLayer (rules_of A.kind A.film) (search_data search.old)
         limit paths layer.sets.keys layer.standings.items below.now.sets.keys below.now.standings.items }
     ensures found { search.new.found.entries ≡ search.old.found.entries }
-    ensures raised { (limit : ℕ) (paths : List PathData) → MayRaiseLayer (rules_of (A.kind answers.now) (A.film answers.now))
+    ensures raised { (limit : ℕ) (paths : List PathData) → MayRaiseLayer (rules_of A.kind A.film)
         (search_data search.old) limit paths layer.sets.keys layer.standings.items below.now.sets.keys below.now.standings.items
-        → IsSearch (rules_of (A.kind answers.now) (A.film answers.now)) (search_data search.new)
+        → IsSearch (rules_of A.kind A.film) (search_data search.new)
         × Rises (search_data search.old) (search_data search.new)
-        × IsLayer (rules_of (A.kind answers.now) (A.film answers.now)) (search_data search.new) limit paths
+        × IsLayer (rules_of A.kind A.film) (search_data search.new) limit paths
         result.sets.keys result.standings.items }
 {
     let Layer {
@@ -56,11 +55,10 @@ pub(crate) fn raise_layer<A: Answers>(
 
 /// Raises the line at an index, and returns the bound that it then has.
 fn raise_line<A: Answers>(answers: &A, search: &mut Search, place: usize, below: &Layer) -> u64
-    requires ready { A.is_ready answers.now }
     requires place { place < length (search_data search.old).lines }
-    requires lies { LiesIn (A.film answers.now) (line_at (search_data search.old).lines place).set }
+    requires lies { LiesIn A.film (line_at (search_data search.old).lines place).set }
     ensures found { search.new.found.entries ≡ search.old.found.entries }
-    ensures raised { IsRaised (A.film answers.now) below.now.sets.keys below.now.standings.items (search_data search.old) place
+    ensures raised { IsRaised A.film below.now.sets.keys below.now.standings.items (search_data search.old) place
         result (search_data search.new) }
 {
     let set = search.sheet.set_at(place);

@@ -40,11 +40,11 @@ pub fn search_by_layers<A: Answers, W: Watch>(
     nodes: u32,
 ) -> Result<Layered, Memory>
     requires ready { A.is_ready answers.now }
-    requires start { IsComplete (A.film answers.now) (path_data start.now) }
+    requires start { IsComplete A.film (path_data start.now) }
     requires some { 1 ≤ nodes }
-    ensures layered { IfOk result (λ layered. IsLayered (A.kind answers.now) (A.film answers.now) (path_data start.now) nodes
+    ensures layered { IfOk result (λ layered. IsLayered A.kind A.film (path_data start.now) nodes
         (layered_data layered)) }
-    ensures found { IfOk result (λ layered. AreTrue (A.kind answers.now) (A.film answers.now) layered.found.values.entries) }
+    ensures found { IfOk result (λ layered. AreTrue A.kind A.film layered.found.values.entries) }
 {
     kept_orders_are_ready_lists();
     steps_add_up_to_the_pay();
@@ -77,11 +77,11 @@ fn rise<A: Answers, W: Watch>(
     steps: u32,
 ) -> Result<(), Memory>
     requires ready { A.is_ready answers.now }
-    requires found { AreTrue (A.kind answers.now) (A.film answers.now) search.old.found.entries }
-    requires search { IsSearch (rules_of (A.kind answers.now) (A.film answers.now)) (search_data search.old) }
+    requires found { AreTrue A.kind A.film search.old.found.entries }
+    requires search { IsSearch (rules_of A.kind A.film) (search_data search.old) }
     requires unspent { (search_data search.old).spent ≡ false }
-    ensures found { OnOk result (AreTrue (A.kind answers.now) (A.film answers.now) search.new.found.entries) }
-    ensures search { OnOk result (IsSearch (rules_of (A.kind answers.now) (A.film answers.now)) (search_data search.new)) }
+    ensures found { OnOk result (AreTrue A.kind A.film search.new.found.entries) }
+    ensures search { OnOk result (IsSearch (rules_of A.kind A.film) (search_data search.new)) }
     ensures rises { OnOk result (Rises (search_data search.old) (search_data search.new)) }
     ensures ended { OnOk result (HasEnded (search_data search.new)) }
 {

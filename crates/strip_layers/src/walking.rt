@@ -28,12 +28,12 @@ pub(crate) fn walk_whole<A: Answers>(
     walk: Walk,
 ) -> Result<bool, Memory>
     requires ready { A.is_ready answers.now }
-    requires found { AreTrue (A.kind answers.now) (A.film answers.now) search.old.found.entries }
-    requires search { IsSearch (rules_of (A.kind answers.now) (A.film answers.now)) (search_data search.old) }
+    requires found { AreTrue A.kind A.film search.old.found.entries }
+    requires search { IsSearch (rules_of A.kind A.film) (search_data search.old) }
     requires limit { walk.limit ≤ (search_data search.old).goal }
     requires unspent { (search_data search.old).spent ≡ false }
-    ensures found { AreTrue (A.kind answers.now) (A.film answers.now) search.new.found.entries }
-    ensures walked { IfOk result (λ walked. HasWalked (rules_of (A.kind answers.now) (A.film answers.now)) (search_data search.old)
+    ensures found { AreTrue A.kind A.film search.new.found.entries }
+    ensures walked { IfOk result (λ walked. HasWalked (rules_of A.kind A.film) (search_data search.old)
         walk.may_spend walk.limit walked (search_data search.new)) }
 {
     let film = answers.film();
@@ -61,12 +61,12 @@ fn walk_layer<A: Answers>(
     walk: Walk,
 ) -> Result<Option<Layer>, Memory>
     requires ready { A.is_ready answers.now }
-    requires found { AreTrue (A.kind answers.now) (A.film answers.now) search.old.found.entries }
-    requires search { IsSearch (rules_of (A.kind answers.now) (A.film answers.now)) (search_data search.old) }
-    requires level { IsLevel (rules_of (A.kind answers.now) (A.film answers.now)) left (paths_of paths) }
+    requires found { AreTrue A.kind A.film search.old.found.entries }
+    requires search { IsSearch (rules_of A.kind A.film) (search_data search.old) }
+    requires level { IsLevel (rules_of A.kind A.film) left (paths_of paths) }
     requires limit { walk.limit ≤ (search_data search.old).goal }
-    ensures found { AreTrue (A.kind answers.now) (A.film answers.now) search.new.found.entries }
-    ensures walked { IfOk result (λ layer. WalksLayer (rules_of (A.kind answers.now) (A.film answers.now)) (search_data search.old)
+    ensures found { AreTrue A.kind A.film search.new.found.entries }
+    ensures walked { IfOk result (λ layer. WalksLayer (rules_of A.kind A.film) (search_data search.old)
         walk.may_spend walk.limit (paths_of paths) layer (search_data search.new)) }
 {
     answers.film().keeps_limits();

@@ -3,10 +3,10 @@ ghost use Rattle.std.specs.Prelude.{◌≡◌, ◌-◌, ◌^◌, ◌<◌, ◌≤
 ghost use Rattle.strip_bound.specs.Bounds.{bound};
 ghost use Rattle.strip_memo.specs.Entry.{IsEntry};
 
-use crate::bounded::Bounded;
 use crate::entry::Entry;
 use std::alloc::Global;
 use std::marker::{Model, PhantomData};
+use strip_bound::Bounded;
 use strip_io::Memory;
 use strip_mask::Mask;
 

@@ -3,12 +3,10 @@
 //! a lock. Only `reach` of the store waits for a lock, and no bound is computed while one is held.
 #![tactic(auto)]
 
-mod bounded;
 mod drawer;
 mod entry;
 mod memo;
 mod store;
 
-pub use bounded::Bounded;
 pub use memo::Memo;
-pub use store::Store;
+pub use store::{Shared, Store};

@@ -1,16 +1,14 @@
 // The shared cache of static bounds (store).
 ghost use Rattle.std.specs.Prelude.{◌≡◌, ◌≤◌, ◌⊎◌, true, vec_len};
 ghost use Rattle.strip_film.specs.Film.{LiesIn};
-ghost use Rattle.strip_bound.specs.Bounds.{bound};
-ghost use Rattle.strip_bound.specs.StoredBound.{Keeps};
 ghost use Rattle.strip_memo.specs.Entry.{IsEntry};
 
-use crate::bounded::Bounded;
 use crate::drawer::{DRAWERS, Drawer, drawer_of};
 use crate::entry::Entry;
 use std::alloc::Global;
 use std::sync::{Mutex, Wait};
-use strip_bound::StoredBound;
+use strip_bound::{Bounded, Bounds, Room};
+use strip_film::Film;
 use strip_io::Memory;
 use strip_mask::Mask;
 use strip_model::Kind;
@@ -27,11 +25,8 @@ impl<N: Bounded> Store<N> {
     /// Makes an empty store. It allocates all memory of the store, and fails only if memory runs out. For groups and
     /// arrivals it has 2^20 entries of 24 bytes, some 25 MB, or fewer if the film has few sets. For the cheap kinds it
     /// has 64 entries, which are not used.
-    pub fn new<F: Fn(u64, u64) -> u64>(
-        alloc: Global,
-        bounds: &StoredBound<F>,
-    ) -> Result<Store<N>, Memory> {
-        let bits = bits_of(bounds.kind(), bounds.film().scenes());
+    pub fn new(alloc: Global, kind: Kind, scenes: usize) -> Result<Store<N>, Memory> {
+        let bits = bits_of(kind, scenes);
         let mut drawers = Vec::new(alloc);
         for _turn in 0..64usize {
             let drawer: Drawer<N> = Drawer::new(alloc, bits)?;
@@ -39,45 +34,71 @@ impl<N: Bounded> Store<N> {
         }
         Ok(Store { drawers })
     }
+}
 
-    /// Returns a number that is at most the static bound of the set, in units of money, and at least `need` or the
-    /// bound. It returns the cached value, if that suffices, or computes a value and caches it for all workers. It
-    /// waits for the lock of the set's drawer, and holds no lock while it computes. Bounds of the cheap kinds are
-    /// computed each time.
-    pub fn reach<R: Wait, F: Fn(u64, u64) -> u64>(
-        &self,
-        rt: &R,
-        bounds: &StoredBound<F>,
-        q: Mask,
-        need: u64,
-    ) -> u64
-        requires kind { bounds.now.kind ≡ N.kind }
-        requires film { bounds.now.film.now ≡ N.film }
-        requires keeps { Keeps (F.pre bounds.now.f) (F.post bounds.now.f) bounds.now.kind bounds.now.film.now }
-        requires lies { LiesIn bounds.now.film.now q.0 }
-        ensures most { result ≤ bound bounds.now.kind bounds.now.film.now q.0 }
-        ensures reaches { (need ≤ result) ⊎ (result ≡ bound bounds.now.kind bounds.now.film.now q.0) }
+/// The static bounds of a store, and of another source for what the store doesn't know.
+#[derive(Drop)]
+pub struct Shared<'s, R: Wait, N: Bounded, B: Bounds> {
+    rt: &'s R,
+    store: &'s Store<N>,
+    bounds: &'s B,
+    pub ghost of_film: { B.film ≡ N.film },
+    pub ghost of_kind: { B.kind ≡ N.kind },
+}
+
+impl<'s, R: Wait, N: Bounded, B: Bounds> Shared<'s, R, N, B> {
+    /// Makes the bounds of a store, with another source of the same film and kind.
+    pub fn new(rt: &'s R, store: &'s Store<N>, bounds: &'s B) -> Shared<'s, R, N, B>
+        requires film { B.film ≡ N.film }
+        requires kind { B.kind ≡ N.kind }
     {
-        if is_cheap(bounds.kind()) {
-            return bounds.reach(q, need);
-        }
-        let drawer = &self.drawers[drawer_of(q)];
-        let found = drawer.lock(rt).find(q, need);
-        if let Some(value) = found {
-            return value;
-        }
-        let entry = asked(bounds, q, need);
-        drawer.lock(rt).put(entry);
-        entry.value
+        Shared { rt, store, bounds }
     }
 }
 
-/// Computes an entry of the set from the stored bound, up to `need`.
-fn asked<F: Fn(u64, u64) -> u64>(bounds: &StoredBound<F>, q: Mask, need: u64) -> Entry
-    requires keeps { Keeps (F.pre bounds.now.f) (F.post bounds.now.f) bounds.now.kind bounds.now.film.now }
-    requires lies { LiesIn bounds.now.film.now q.0 }
+impl<'s, R: Wait, N: Bounded, B: Bounds> Bounds for Shared<'s, R, N, B> {
+    ghost film = { B.film };
+
+    ghost kind = { B.kind };
+
+    fn film(&self) -> &Film {
+        self.bounds.film()
+    }
+
+    fn kind(&self) -> Kind {
+        self.bounds.kind()
+    }
+
+    /// It returns the cached value, if that suffices, or computes a value and caches it for all workers. It waits for
+    /// the lock of the set's drawer, and holds no lock while it computes. Bounds of the cheap kinds are computed each
+    /// time.
+    fn reach(&self, q: Mask, need: u64, room: &mut Room) -> u64 {
+        if is_cheap(self.bounds.kind()) {
+            return self.bounds.reach(q, need, room);
+        }
+        let drawer = &self.store.drawers[drawer_of(q)];
+        let found = drawer.lock(self.rt).find(q, need);
+        if let Some(value) = found {
+            return value;
+        }
+        let entry = asked(self.bounds, q, need, room);
+        drawer.lock(self.rt).put(entry);
+        entry.value
+    }
+
+    fn whole(&self, q: Mask) -> u64 {
+        if is_cheap(self.bounds.kind()) {
+            return self.bounds.whole(q);
+        }
+        self.whole_in(q, &mut Room::new())
+    }
+}
+
+/// Computes an entry of the set, up to `need`.
+fn asked<B: Bounds>(bounds: &B, q: Mask, need: u64, room: &mut Room) -> Entry
+    requires lies { LiesIn B.film q.0 }
     ensures set { result.set ≡ q.0 }
-    ensures entry { IsEntry bounds.now.kind bounds.now.film.now result }
+    ensures entry { IsEntry B.kind B.film result }
     ensures reaches { (need ≤ result.value) ⊎ (result.is_whole ≡ true) }
 {
     let needed = match bounds.kind() {
@@ -85,7 +106,7 @@ fn asked<F: Fn(u64, u64) -> u64>(bounds: &StoredBound<F>, q: Mask, need: u64) ->
         // These kinds always compute the whole bound.
         Kind::Plain | Kind::Pairs | Kind::Groups => u64::MAX,
     };
-    let value = bounds.reach(q, needed);
+    let value = bounds.reach(q, needed, room);
     Entry {
         set: q.0,
         value,

@@ -1,7 +1,6 @@
 // The options of a search, and the number of local-search moves that they lead to.
-ghost use Rattle.strip_bound.specs.StoredBound.{Keeps};
 
-use strip_bound::StoredBound;
+use strip_bound::Bounds;
 use strip_film::Path;
 use strip_model::Kind;
 
@@ -30,16 +29,10 @@ pub struct SearchOptions {
 
 /// Returns the number of local-search moves: as many as asked for, or 5,000 for each class if none are. It is 0 if the
 /// static bound of all scenes proves that no path is cheaper.
-pub fn useful_tries<F: Fn(u64, u64) -> u64>(
-    bounds: &StoredBound<F>,
-    start: &Path,
-    asked: Option<u32>,
-) -> u32
-    requires keeps { Keeps (F.pre bounds.now.f) (F.post bounds.now.f) bounds.now.kind bounds.now.film.now }
-{
+pub fn useful_tries<B: Bounds>(bounds: &B, start: &Path, asked: Option<u32>) -> u32 {
     let film = bounds.film();
     film.keeps_limits();
-    if bounds.reach(film.all(), start.paid()) >= start.paid() {
+    if bounds.whole(film.all()) >= start.paid() {
         return 0;
     }
     asked.unwrap_or(TRIES_A_CLASS * film.scenes() as u32)

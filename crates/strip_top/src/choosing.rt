@@ -6,6 +6,7 @@ ghost use Rattle.strip_model.specs.Order.{IsKeptOrder};
 ghost use Rattle.strip_model.specs.Pay.{pay_of};
 ghost use Rattle.strip_film.specs.Path.{IsComplete};
 ghost use Rattle.strip_film.specs.Shown.{path_data};
+ghost use Rattle.strip_bound.specs.Tables.{AreTables};
 ghost use Rattle.strip_reduce.specs.Law.{StandsFor};
 ghost use Rattle.strip_reduce.specs.Reduction.{reduced as reduction};
 ghost use Rattle.strip_reduce.specs.Shown.{reduced_data};
@@ -17,17 +18,18 @@ ghost use Rattle.strip_solve.specs.Solved.{IsChosen};
 ghost use Rattle.strip_top.specs.Closed.{GoesOnFrom};
 
 use crate::ending::{Closed, end_alone};
+use crate::setup::{Setup, Team};
 use crate::solve::{search, search_beside};
 use crate::told::Told;
 use std::alloc::Global;
+use std::marker::Brand;
 use std::sync::Wait;
 use std::thread::Threads;
-use strip_bound::{BoundTables, StoredBound, static_reach};
+use strip_bound::{BoundTables, Bounded, FilmBounds};
 use strip_film::{Film, Path};
 use strip_hand::Gate;
 use strip_io::Memory;
 use strip_lines::Ended;
-use strip_mask::Mask;
 use strip_model::Kind;
 use strip_proof::Plan;
 use strip_reduce::Reduced;
@@ -60,61 +62,63 @@ pub(crate) fn choose_alone<G: Gate>(
     let film = &reduced.film;
     film.keeps_limits();
     let start = improve(film, &greedy(film));
-    let told = Told {
-        gate,
-        apart: reduced.apart,
-    };
-    let cost = own_cost(&own, reduced.apart);
+    let apart = reduced.apart;
     let first = with_pairs(film, options);
-    let searched = search(alloc, film, &start, first, cost, &told)?;
+    let setup = Setup {
+        alloc,
+        options: first,
+        own: own_cost(&own, apart),
+        gate: Told { gate, apart },
+    };
+    let searched = search(film, &start, &setup)?;
     if searched.trimmed.is_some() {
         return plan_of(alloc, reduced, &start, first, own, searched);
     }
     let second = with_arrivals(options);
-    let searched = go_on_alone(alloc, film, &searched.ended, second, cost, &told)?;
+    let setup = Setup {
+        options: second,
+        ..setup
+    };
+    let searched = go_on_alone(film, &searched.ended, &setup)?;
     plan_of(alloc, reduced, &start, second, own, searched)
 }
 
 /// Makes such a plan with several workers, who share the local search before the first search, and answer the bounds of
 /// the second. One worker makes the first search, so that its best order is always the same.
 pub(crate) fn choose_beside<R: Threads + Wait + Sync, G: Gate>(
-    rt: &R,
+    team: &Team<R>,
     alloc: Global,
     reduced: &Reduced,
     own: Option<Own>,
     options: SearchOptions,
-    workers: u32,
     gate: &G,
 ) -> Result<Plan, Memory>
     requires options { MayBe options }
-    requires workers { (2 ≤ workers) × (workers ≤ 64) }
+    requires workers { (2 ≤ team.now.workers) × (team.now.workers ≤ 64) }
     ensures { (film : FilmData) → reduced_data reduced.now ≡ reduction film → StandsFor film (reduced_data reduced.now)
         → IsOwn film own → IfOk result (λ plan. IsChosen film options.nodes (plan_data plan)) }
 {
     let film = &reduced.film;
     film.keeps_limits();
     let start = improve(film, &greedy(film));
-    let told = Told {
-        gate,
-        apart: reduced.apart,
-    };
-    let cost = own_cost(&own, reduced.apart);
+    let apart = reduced.apart;
     let first = with_pairs(film, options);
-    let searched = search_varied(rt, alloc, film, &start, first, cost, workers, &told)?;
+    let setup = Setup {
+        alloc,
+        options: first,
+        own: own_cost(&own, apart),
+        gate: Told { gate, apart },
+    };
+    let searched = search_varied(team, film, &start, &setup)?;
     if searched.trimmed.is_some() {
         return plan_of(alloc, reduced, &start, first, own, searched);
     }
     let second = with_arrivals(options);
-    let searched = go_on_beside(
-        rt,
-        alloc,
-        film,
-        &searched.ended,
-        second,
-        cost,
-        workers,
-        &told,
-    )?;
+    let setup = Setup {
+        options: second,
+        ..setup
+    };
+    let searched = go_on_beside(team, film, &searched.ended, &setup)?;
     plan_of(alloc, reduced, &start, second, own, searched)
 }
 
@@ -156,29 +160,45 @@ fn with_arrivals(options: SearchOptions) -> SearchOptions
 
 /// Runs a search by one worker, after a local search from this path by several.
 fn search_varied<R: Threads + Sync, G: Gate>(
-    rt: &R,
-    alloc: Global,
+    team: &Team<R>,
     film: &Film,
     start: &Path,
-    options: SearchOptions,
-    own: u64,
-    workers: u32,
-    gate: &Told<G>,
+    setup: &Setup<G>,
 ) -> Result<Searched, Memory>
     requires start { IsComplete film.now (path_data start.now) }
-    requires options { MayBe options }
-    requires workers { (2 ≤ workers) × (workers ≤ 64) }
-    ensures { IfOk result (IsSearchedFrom options.kind film.now (path_data start.now) options.nodes own) }
+    requires options { MayBe setup.now.options }
+    requires workers { (2 ≤ team.now.workers) × (team.now.workers ≤ 64) }
+    ensures { IfOk result (IsSearchedFrom setup.now.options.kind film.now (path_data start.now)
+        setup.now.options.nodes setup.now.own) }
 {
-    let tables = BoundTables::of(alloc, film)?;
-    let bounds = StoredBound::new(film, options.kind, |q, need| {
-        static_reach(film, &tables, options.kind, Mask(q), need)
-    });
+    let tables = BoundTables::of(setup.alloc, film)?;
+    search_varied_by_tables::<Brand, R, G>(team, film, &tables, start, setup)
+}
+
+/// Runs such a search, by the bounds from the film's tables. A type brand names the film and the kind of the bounds.
+fn search_varied_by_tables<N: Bounded, R: Threads + Sync, G: Gate>(
+    team: &Team<R>,
+    film: &Film,
+    tables: &BoundTables,
+    start: &Path,
+    setup: &Setup<G>,
+) -> Result<Searched, Memory>
+    requires film { film.now ≡ N.film }
+    requires kind { setup.now.options.kind ≡ N.kind }
+    requires tables { AreTables film.now tables.now }
+    requires start { IsComplete film.now (path_data start.now) }
+    requires options { MayBe setup.now.options }
+    requires workers { (2 ≤ team.now.workers) × (team.now.workers ≤ 64) }
+    ensures { IfOk result (IsSearchedFrom setup.now.options.kind film.now (path_data start.now)
+        setup.now.options.nodes setup.now.own) }
+{
+    let options = setup.options;
+    let bounds: FilmBounds<N> = FilmBounds::new(film, tables, options.kind);
     let tries = useful_tries(&bounds, start, options.tries);
-    let varied = vary_beside(rt, film, start, tries, workers);
+    let varied = vary_beside(team.rt, film, start, tries, team.workers);
     let begun = or_listed(film, &varied);
-    let Closed { ended, trimmed } = end_alone(alloc, &bounds, &begun, options, own, gate)?;
-    gate.end(options.kind, &ended, options.nodes);
+    let Closed { ended, trimmed } = end_alone(&bounds, &begun, setup)?;
+    setup.gate.end(options.kind, &ended, options.nodes);
     Ok(Searched {
         begun,
         ended,
@@ -187,40 +207,31 @@ fn search_varied<R: Threads + Sync, G: Gate>(
 }
 
 /// Runs a search by one worker, from the best order of an earlier search.
-fn go_on_alone<G: Gate>(
-    alloc: Global,
-    film: &Film,
-    before: &Ended,
-    options: SearchOptions,
-    own: u64,
-    gate: &Told<G>,
-) -> Result<Searched, Memory>
+fn go_on_alone<G: Gate>(film: &Film, before: &Ended, setup: &Setup<G>) -> Result<Searched, Memory>
     requires order { IsKeptOrder film.now before.now.order.items }
     requires cost { before.now.cost ≡ pay_of film.now before.now.order.items }
-    requires options { MayBe options }
-    ensures { IfOk result (GoesOnFrom options.kind film.now before.now.cost options.nodes own) }
+    requires options { MayBe setup.now.options }
+    ensures { IfOk result (GoesOnFrom setup.now.options.kind film.now before.now.cost
+        setup.now.options.nodes setup.now.own) }
 {
     let begun = path_of(film, &before.order);
-    search(alloc, film, &begun, options, own, gate)
+    search(film, &begun, setup)
 }
 
 /// Runs a search by several workers, from the best order of an earlier search.
 fn go_on_beside<R: Threads + Wait + Sync, G: Gate>(
-    rt: &R,
-    alloc: Global,
+    team: &Team<R>,
     film: &Film,
     before: &Ended,
-    options: SearchOptions,
-    own: u64,
-    workers: u32,
-    gate: &Told<G>,
+    setup: &Setup<G>,
 ) -> Result<Searched, Memory>
     requires order { IsKeptOrder film.now before.now.order.items }
     requires cost { before.now.cost ≡ pay_of film.now before.now.order.items }
-    requires options { MayBe options }
-    requires workers { (2 ≤ workers) × (workers ≤ 64) }
-    ensures { IfOk result (GoesOnFrom options.kind film.now before.now.cost options.nodes own) }
+    requires options { MayBe setup.now.options }
+    requires workers { (2 ≤ team.now.workers) × (team.now.workers ≤ 64) }
+    ensures { IfOk result (GoesOnFrom setup.now.options.kind film.now before.now.cost
+        setup.now.options.nodes setup.now.own) }
 {
     let begun = path_of(film, &before.order);
-    search_beside(rt, alloc, film, &begun, options, own, workers, gate)
+    search_beside(team, film, &begun, setup)
 }

@@ -4,7 +4,6 @@ ghost use Rattle.std.specs.Prelude.{◌≡◌, ℕ, ◌<◌, ◌≤◌, All, IfO
 ghost use Rattle.strip_film.specs.Film.{LiesIn};
 ghost use Rattle.strip_film.specs.Path.{IsComplete};
 ghost use Rattle.strip_film.specs.Shown.{path_data};
-ghost use Rattle.strip_bound.specs.StoredBound.{Keeps};
 ghost use Rattle.strip_layers.specs.Asks.{AreAnswered};
 ghost use Rattle.strip_layers.specs.Layered.{IsLayered};
 ghost use Rattle.strip_layers.specs.Search.{AreTrue};
@@ -13,21 +12,21 @@ ghost use Rattle.strip_lines.specs.Ended.{IsEnded, ended_data};
 ghost use Rattle.strip_solve.specs.Answer.{MayBe};
 ghost use Rattle.strip_top.specs.Closed.{IsClosed};
 
-use crate::told::Told;
+use crate::setup::{Setup, Team};
 use std::alloc::Global;
+use std::sync::Wait;
 use std::thread::Threads;
 use strip_alone::alone_through;
-use strip_bound::StoredBound;
-use strip_crew::{Beside, answer_beside};
+use strip_bound::Bounds;
+use strip_crew::{Beside, Race, answer_beside, race};
 use strip_film::laws::{kept_orders_are_ready_lists, steps_add_up_to_the_pay};
 use strip_film::{Line, Path};
-use strip_hand::Gate;
+use strip_hand::{Gate, Limits};
 use strip_io::Memory;
-use strip_layers::{Alone, Ask, Layered, search_by_layers};
+use strip_layers::{Alone, Ask, Found, FoundBounds, Layered, search_by_layers};
 use strip_lines::Ended;
-use strip_mask::Mask;
 use strip_memo::Memo;
-use strip_solve::{SearchOptions, trimmed};
+use strip_solve::trimmed;
 
 /// The result of a search. It has the lines that its bound needs, if this bound is the lesser of its cost and the cost
 /// of the rows' order.
@@ -38,116 +37,157 @@ pub(crate) struct Closed {
 }
 
 /// Runs the search from this path with one worker: by layers if the options have steps, otherwise depth-first.
-pub(crate) fn end_alone<F: Fn(u64, u64) -> u64, G: Gate>(
-    alloc: Global,
-    bounds: &StoredBound<F>,
+pub(crate) fn end_alone<B: Bounds, G: Gate>(
+    bounds: &B,
     begun: &Path,
-    options: SearchOptions,
-    own: u64,
-    gate: &Told<G>,
+    setup: &Setup<G>,
 ) -> Result<Closed, Memory>
-    requires keeps { Keeps (F.pre bounds.now.f) (F.post bounds.now.f) bounds.now.kind bounds.now.film.now }
-    requires begun { IsComplete bounds.now.film.now (path_data begun.now) }
-    requires options { MayBe options }
-    ensures { IfOk result (IsClosed bounds.now.kind bounds.now.film.now (path_data begun.now) options.nodes own) }
+    requires begun { IsComplete B.film (path_data begun.now) }
+    requires options { MayBe setup.now.options }
+    ensures { IfOk result (IsClosed B.kind B.film (path_data begun.now) setup.now.options.nodes setup.now.own) }
 {
-    match options.steps {
-        None => walk_alone(alloc, bounds, begun, options, own, gate),
-        Some(steps) => layers_alone(alloc, bounds, begun, steps, options.nodes, own, gate),
+    match setup.options.steps {
+        None => walk_alone(bounds, begun, setup),
+        Some(steps) => layers_alone(bounds, begun, steps, setup),
     }
 }
 
 /// Runs the depth-first search with one worker.
-fn walk_alone<F: Fn(u64, u64) -> u64, G: Gate>(
-    alloc: Global,
-    bounds: &StoredBound<F>,
+fn walk_alone<B: Bounds, G: Gate>(
+    bounds: &B,
     begun: &Path,
-    options: SearchOptions,
-    own: u64,
-    gate: &Told<G>,
+    setup: &Setup<G>,
 ) -> Result<Closed, Memory>
-    requires keeps { Keeps (F.pre bounds.now.f) (F.post bounds.now.f) bounds.now.kind bounds.now.film.now }
-    requires begun { IsComplete bounds.now.film.now (path_data begun.now) }
-    requires options { MayBe options }
-    ensures { IfOk result (IsClosed bounds.now.kind bounds.now.film.now (path_data begun.now) options.nodes own) }
+    requires begun { IsComplete B.film (path_data begun.now) }
+    requires options { MayBe setup.now.options }
+    ensures { IfOk result (IsClosed B.kind B.film (path_data begun.now) setup.now.options.nodes setup.now.own) }
 {
-    let mut memo = Memo::new(alloc, bounds)?;
+    let mut memo = Memo::new(setup.alloc, bounds)?;
     let ended = alone_through(
-        alloc,
+        setup.alloc,
         bounds,
         &mut memo,
         begun,
-        options.nodes,
-        options.entries,
-        gate,
+        setup.options.nodes,
+        setup.options.entries,
+        &setup.gate,
     )?;
-    let trimmed = trimmed(alloc, bounds, &mut memo, &ended, own)?;
+    let trimmed = trimmed(setup.alloc, bounds, &mut memo, &ended, setup.own)?;
     Ok(Closed { ended, trimmed })
 }
 
-/// Runs the search by layers with one worker, in `steps` steps and with at most `nodes` lines.
-fn layers_alone<F: Fn(u64, u64) -> u64, G: Gate>(
-    alloc: Global,
-    bounds: &StoredBound<F>,
+/// Runs the depth-first search with several workers.
+pub(crate) fn walk_beside<R: Threads + Wait + Sync, B: Bounds + Send + Sync, G: Gate>(
+    team: &Team<R>,
+    bounds: &B,
+    begun: &Path,
+    setup: &Setup<G>,
+) -> Result<Closed, Memory>
+    requires begun { IsComplete B.film (path_data begun.now) }
+    requires options { MayBe setup.now.options }
+    requires workers { (2 ≤ team.now.workers) × (team.now.workers ≤ 64) }
+    ensures { IfOk result (IsClosed B.kind B.film (path_data begun.now) setup.now.options.nodes setup.now.own) }
+{
+    let limits = Limits {
+        workers: team.workers,
+        nodes: setup.options.nodes,
+        entries: setup.options.entries,
+    };
+    let lent = Race {
+        rt: team.rt,
+        alloc: setup.alloc,
+        bounds,
+        gate: &setup.gate,
+        limits,
+        steal: setup.options.steal,
+    };
+    // The caller has a memo too.
+    let mut memo = Memo::among(setup.alloc, bounds, team.workers + 1)?;
+    let ended = race(&lent, &mut memo, begun)?;
+    let trimmed = trimmed(setup.alloc, bounds, &mut memo, &ended, setup.own)?;
+    Ok(Closed { ended, trimmed })
+}
+
+/// Runs the search by layers with one worker, in `steps` steps.
+fn layers_alone<B: Bounds, G: Gate>(
+    bounds: &B,
     begun: &Path,
     steps: u32,
-    nodes: u32,
-    own: u64,
-    gate: &Told<G>,
+    setup: &Setup<G>,
 ) -> Result<Closed, Memory>
-    requires keeps { Keeps (F.pre bounds.now.f) (F.post bounds.now.f) bounds.now.kind bounds.now.film.now }
-    requires begun { IsComplete bounds.now.film.now (path_data begun.now) }
-    requires some { 1 ≤ nodes }
-    ensures { IfOk result (IsClosed bounds.now.kind bounds.now.film.now (path_data begun.now) nodes own) }
+    requires begun { IsComplete B.film (path_data begun.now) }
+    requires some { 1 ≤ setup.now.options.nodes }
+    ensures { IfOk result (IsClosed B.kind B.film (path_data begun.now) setup.now.options.nodes setup.now.own) }
 {
-    let layered = search_by_layers(alloc, &Alone { bounds }, gate, begun, steps, nodes)?;
-    close_layers(alloc, bounds, begun, nodes, own, layered)
+    let answers = Alone { bounds };
+    let nodes = setup.options.nodes;
+    let layered = search_by_layers(setup.alloc, &answers, &setup.gate, begun, steps, nodes)?;
+    close_layers(bounds, begun, setup, layered)
 }
 
 /// Runs the search by layers with several workers, who answer the requests of each layer in parallel. The result
 /// doesn't depend on their number.
-pub(crate) fn layers_beside<R: Threads + Sync, F: Fn(u64, u64) -> u64 + Sync, G: Gate>(
-    rt: &R,
-    alloc: Global,
-    bounds: &StoredBound<F>,
+pub(crate) fn layers_beside<R: Threads + Sync, B: Bounds + Sync, G: Gate>(
+    team: &Team<R>,
+    bounds: &B,
     begun: &Path,
     steps: u32,
-    nodes: u32,
-    own: u64,
-    workers: u32,
-    gate: &Told<G>,
+    setup: &Setup<G>,
 ) -> Result<Closed, Memory>
-    requires keeps { Keeps (F.pre bounds.now.f) (F.post bounds.now.f) bounds.now.kind bounds.now.film.now }
-    requires begun { IsComplete bounds.now.film.now (path_data begun.now) }
-    requires some { 1 ≤ nodes }
-    requires workers { 0 < workers }
-    ensures { IfOk result (IsClosed bounds.now.kind bounds.now.film.now (path_data begun.now) nodes own) }
+    requires begun { IsComplete B.film (path_data begun.now) }
+    requires some { 1 ≤ setup.now.options.nodes }
+    requires workers { 0 < team.now.workers }
+    ensures { IfOk result (IsClosed B.kind B.film (path_data begun.now) setup.now.options.nodes setup.now.own) }
 {
+    let rt = team.rt;
+    let alloc = setup.alloc;
+    let workers = team.workers;
     let by = |asks: &mut [Ask]| -> Result<(), Memory>
-        requires { IsSync R.row × IsSync F.row × (0 < workers)
-            × Keeps (F.pre bounds.now.f) (F.post bounds.now.f) bounds.now.kind bounds.now.film.now
-            × All (λ ask. LiesIn bounds.now.film.now ask.set) asks.old }
-        ensures { IfOk result (λ _. AreAnswered bounds.entry.now.kind bounds.entry.now.film.now asks.old asks.new) }
+        requires { IsSync R.row × IsSync B.row × (0 < workers)
+            × All (λ ask. LiesIn B.film ask.set) asks.old }
+        ensures { IfOk result (λ _. AreAnswered B.kind B.film asks.old asks.new) }
     { answer_beside(rt, alloc, bounds, workers, asks) };
-    let layered = search_by_layers(alloc, &Beside { bounds, by }, gate, begun, steps, nodes)?;
-    close_layers(alloc, bounds, begun, nodes, own, layered)
+    let answers = Beside { bounds, by };
+    let nodes = setup.options.nodes;
+    let layered = search_by_layers(alloc, &answers, &setup.gate, begun, steps, nodes)?;
+    close_layers(bounds, begun, setup, layered)
 }
 
 /// Makes the trimmed result of a search by layers from this path. Trimming uses the static bounds that the search
 /// found.
-fn close_layers<F: Fn(u64, u64) -> u64>(
-    alloc: Global,
-    bounds: &StoredBound<F>,
+fn close_layers<B: Bounds, G: Gate>(
+    bounds: &B,
     begun: &Path,
-    nodes: u32,
-    own: u64,
+    setup: &Setup<G>,
     layered: Layered,
 ) -> Result<Closed, Memory>
-    requires keeps { Keeps (F.pre bounds.now.f) (F.post bounds.now.f) bounds.now.kind bounds.now.film.now }
-    requires layered { IsLayered bounds.now.kind bounds.now.film.now (path_data begun.now) nodes (layered_data layered) }
-    requires found { AreTrue bounds.now.kind bounds.now.film.now layered.found.values.entries }
-    ensures { IfOk result (IsClosed bounds.now.kind bounds.now.film.now (path_data begun.now) nodes own) }
+    requires layered { IsLayered B.kind B.film (path_data begun.now) setup.now.options.nodes (layered_data layered) }
+    requires found { AreTrue B.kind B.film layered.found.values.entries }
+    ensures { IfOk result (IsClosed B.kind B.film (path_data begun.now) setup.now.options.nodes setup.now.own) }
 {
+    let nodes = setup.options.nodes;
+    let (ended, found) = ended_of(setup.alloc, bounds, begun, nodes, layered)?;
+    let known = FoundBounds::new(&found, bounds);
+    let mut memo = Memo::new(setup.alloc, &known)?;
+    let trimmed = trimmed(setup.alloc, &known, &mut memo, &ended, setup.own)?;
+    Ok(Closed { ended, trimmed })
+}
+
+/// Makes the result of a search by layers from this path, with at most `nodes` lines, and the static bounds that the
+/// search found.
+fn ended_of<B: Bounds>(
+    alloc: Global,
+    bounds: &B,
+    begun: &Path,
+    nodes: u32,
+    layered: Layered,
+) -> Result<(Ended, Found), Memory>
+    requires { IsLayered B.kind B.film (path_data begun.now) nodes (layered_data layered) }
+    ensures ended { IfOk result (λ parts. IsEnded B.kind B.film (path_data begun.now) nodes (ended_data parts.0)) }
+    ensures found { IfOk result (λ parts. parts.1 ≡ layered.found) }
+{
+    kept_orders_are_ready_lists();
+    steps_add_up_to_the_pay();
     bounds.film().keeps_limits();
     let Layered {
         lines,
@@ -156,45 +196,13 @@ fn close_layers<F: Fn(u64, u64) -> u64>(
         is_spent,
         found,
     } = layered;
-    let ended = ended_of(alloc, bounds, begun, nodes, lines, bound, &best, is_spent)?;
-    let known = StoredBound::new(
-        bounds.film(),
-        bounds.kind(),
-        |q, need| found.reach(bounds, Mask(q), need),
-    );
-    let mut memo = Memo::new(alloc, &known)?;
-    let trimmed = trimmed(alloc, &known, &mut memo, &ended, own)?;
-    Ok(Closed { ended, trimmed })
-}
-
-/// Makes the result of a search with these lines, this bound, and this cheapest path.
-fn ended_of<F: Fn(u64, u64) -> u64>(
-    alloc: Global,
-    bounds: &StoredBound<F>,
-    begun: &Path,
-    nodes: u32,
-    lines: Vec<Line>,
-    bound: u64,
-    best: &Path,
-    is_spent: bool,
-) -> Result<Ended, Memory>
-    requires { IsLayered bounds.now.kind bounds.now.film.now (path_data begun.now) nodes (record {
-      lines = lines.items;
-      bound = bound;
-      best = path_data best.now;
-      is_spent = is_spent;
-    }) }
-    ensures { IfOk result (λ ended. IsEnded bounds.now.kind bounds.now.film.now (path_data begun.now) nodes (ended_data ended)) }
-{
-    kept_orders_are_ready_lists();
-    steps_add_up_to_the_pay();
-    bounds.film().keeps_limits();
-    Ok(Ended {
+    let ended = Ended {
         order: best.scenes().to_vec(alloc)?,
         cost: best.paid(),
         bound,
         held: lines.len() as u64,
         lines,
         spent: is_spent,
-    })
+    };
+    Ok((ended, found))
 }

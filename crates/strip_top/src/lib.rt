@@ -6,6 +6,7 @@
 mod choosing;
 mod ending;
 mod program;
+mod setup;
 mod solve;
 mod solver;
 mod told;

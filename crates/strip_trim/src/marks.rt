@@ -2,15 +2,13 @@
 ghost use Rattle.std.specs.Prelude.{◌≡◌, ◌↔◌, ℕ, ◌<◌, false, length, IfOk, IsTrue};
 ghost use Rattle.strip_film.specs.Film.{LiesIn};
 ghost use Rattle.strip_bound.specs.Bounds.{bound};
-ghost use Rattle.strip_bound.specs.StoredBound.{Keeps};
 ghost use Rattle.strip_lines.specs.Lines.{AreJustified, rules_of};
-ghost use Rattle.strip_memo.specs.Memo.{IsMemo};
 ghost use Rattle.strip_trim.specs.Best.{best_bound};
 ghost use Rattle.strip_trim.specs.Marks.{AreMarked, Follows, IsBestOf, MarksMore, is_marked};
 
 use crate::{Best, BestLine};
 use std::alloc::Global;
-use strip_bound::StoredBound;
+use strip_bound::Bounds;
 use strip_film::step;
 use strip_io::Memory;
 use strip_mask::Mask;
@@ -18,20 +16,17 @@ use strip_memo::Memo;
 use strip_rule::open_firsts;
 
 /// Returns for each line whether it stays: whether it is the best line of its set, and the set is reached.
-pub(crate) fn marks_of<F: Fn(u64, u64) -> u64>(
+pub(crate) fn marks_of<B: Bounds>(
     alloc: Global,
-    bounds: &StoredBound<F>,
-    memo: &mut Memo,
+    bounds: &B,
+    memo: &mut Memo<B>,
     best: &Best,
     count: usize,
 ) -> Result<Vec<bool>, Memory>
-    requires keeps { Keeps (F.pre bounds.now.f) (F.post bounds.now.f) bounds.now.kind bounds.now.film.now }
-    requires justified { AreJustified (rules_of bounds.now.kind bounds.now.film.now) best.now.lines }
-    requires memo { IsMemo bounds.now.kind bounds.now.film.now memo.old }
+    requires justified { AreJustified (rules_of B.kind B.film) best.now.lines }
     requires count { count ≡ length best.now.lines }
-    ensures memo { IsMemo bounds.now.kind bounds.now.film.now memo.new }
     ensures marked { IfOk result (λ marks. AreMarked
-        (rules_of bounds.now.kind bounds.now.film.now) best.now.lines marks.items) }
+        (rules_of B.kind B.film) best.now.lines marks.items) }
 {
     let mut marks = vec![in alloc; false; count]?;
     mark_reached(bounds, memo, best, &mut marks);
@@ -40,19 +35,11 @@ pub(crate) fn marks_of<F: Fn(u64, u64) -> u64>(
 
 /// Marks the lines that stay. A reached set leads only to smaller numbers, so one pass by falling set handles each set
 /// after all sets that lead to it.
-fn mark_reached<F: Fn(u64, u64) -> u64>(
-    bounds: &StoredBound<F>,
-    memo: &mut Memo,
-    best: &Best,
-    marks: &mut [bool],
-)
-    requires keeps { Keeps (F.pre bounds.now.f) (F.post bounds.now.f) bounds.now.kind bounds.now.film.now }
-    requires justified { AreJustified (rules_of bounds.now.kind bounds.now.film.now) best.now.lines }
-    requires memo { IsMemo bounds.now.kind bounds.now.film.now memo.old }
+fn mark_reached<B: Bounds>(bounds: &B, memo: &mut Memo<B>, best: &Best, marks: &mut [bool])
+    requires justified { AreJustified (rules_of B.kind B.film) best.now.lines }
     requires count { length marks.old ≡ length best.now.lines }
     requires none { (place : ℕ) → is_marked marks.old place ≡ false }
-    ensures memo { IsMemo bounds.now.kind bounds.now.film.now memo.new }
-    ensures marked { AreMarked (rules_of bounds.now.kind bounds.now.film.now) best.now.lines marks.new }
+    ensures marked { AreMarked (rules_of B.kind B.film) best.now.lines marks.new }
 {
     mark(best, marks, bounds.film().all());
     for entry in best.entries().iter().rev() {
@@ -63,21 +50,18 @@ fn mark_reached<F: Fn(u64, u64) -> u64>(
 }
 
 /// Marks the lines that the bound of a set's best line depends on.
-fn mark_followers<F: Fn(u64, u64) -> u64>(
-    bounds: &StoredBound<F>,
-    memo: &mut Memo,
+fn mark_followers<B: Bounds>(
+    bounds: &B,
+    memo: &mut Memo<B>,
     best: &Best,
     marks: &mut [bool],
     entry: &BestLine,
 )
-    requires keeps { Keeps (F.pre bounds.now.f) (F.post bounds.now.f) bounds.now.kind bounds.now.film.now }
-    requires memo { IsMemo bounds.now.kind bounds.now.film.now memo.old }
     requires count { length marks.old ≡ length best.now.lines }
-    requires lies { LiesIn bounds.now.film.now entry.now.set }
+    requires lies { LiesIn B.film entry.now.set }
     requires bound { entry.now.bound ≡ best_bound best.now.lines entry.now.set }
-    ensures memo { IsMemo bounds.now.kind bounds.now.film.now memo.new }
     ensures marked { MarksMore marks.old marks.new
-        (Follows (rules_of bounds.now.kind bounds.now.film.now) best.now.lines entry.now.set) }
+        (Follows (rules_of B.kind B.film) best.now.lines entry.now.set) }
 {
     let film = bounds.film();
     let q = Mask(entry.set);
@@ -94,20 +78,17 @@ fn mark_followers<F: Fn(u64, u64) -> u64>(
 
 /// Marks the best line of the set, if there is one and the set's static bound is below `need`. The bound is requested
 /// only if the line isn't marked yet.
-fn mark_below<F: Fn(u64, u64) -> u64>(
-    bounds: &StoredBound<F>,
-    memo: &mut Memo,
+fn mark_below<B: Bounds>(
+    bounds: &B,
+    memo: &mut Memo<B>,
     best: &Best,
     marks: &mut [bool],
     q: Mask,
     need: u64,
 )
-    requires keeps { Keeps (F.pre bounds.now.f) (F.post bounds.now.f) bounds.now.kind bounds.now.film.now }
-    requires memo { IsMemo bounds.now.kind bounds.now.film.now memo.old }
     requires count { length marks.old ≡ length best.now.lines }
-    requires lies { LiesIn bounds.now.film.now q.0 }
-    ensures memo { IsMemo bounds.now.kind bounds.now.film.now memo.new }
-    ensures marked { MarksMore marks.old marks.new (λ place. (bound bounds.now.kind bounds.now.film.now q.0 < need)
+    requires lies { LiesIn B.film q.0 }
+    ensures marked { MarksMore marks.old marks.new (λ place. (bound B.kind B.film q.0 < need)
         × IsBestOf best.now.lines q.0 place) }
 {
     if let Some(place) = best.place(q.0) {
@@ -119,17 +100,9 @@ fn mark_below<F: Fn(u64, u64) -> u64>(
 }
 
 /// Tells whether the static bound of the set is below `need`.
-fn is_below<F: Fn(u64, u64) -> u64>(
-    bounds: &StoredBound<F>,
-    memo: &mut Memo,
-    q: Mask,
-    need: u64,
-) -> bool
-    requires keeps { Keeps (F.pre bounds.now.f) (F.post bounds.now.f) bounds.now.kind bounds.now.film.now }
-    requires memo { IsMemo bounds.now.kind bounds.now.film.now memo.old }
-    requires lies { LiesIn bounds.now.film.now q.0 }
-    ensures memo { IsMemo bounds.now.kind bounds.now.film.now memo.new }
-    ensures below { IsTrue result ↔ (bound bounds.now.kind bounds.now.film.now q.0 < need) }
+fn is_below<B: Bounds>(bounds: &B, memo: &mut Memo<B>, q: Mask, need: u64) -> bool
+    requires lies { LiesIn B.film q.0 }
+    ensures below { IsTrue result ↔ (bound B.kind B.film q.0 < need) }
 {
     memo.reach(bounds, q, need) < need
 }

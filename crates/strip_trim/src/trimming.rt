@@ -1,15 +1,13 @@
 // Trimming of a list of lines.
 ghost use Rattle.std.specs.Prelude.{◌≡◌, length, IfOk};
-ghost use Rattle.strip_bound.specs.StoredBound.{Keeps};
 ghost use Rattle.strip_lines.specs.Lines.{AreJustified, rules_of};
-ghost use Rattle.strip_memo.specs.Memo.{IsMemo};
 ghost use Rattle.strip_trim.specs.Marks.{marked_lines};
 ghost use Rattle.strip_trim.specs.Trimmed.{AreTrimmed};
 
 use crate::Best;
 use crate::marks::marks_of;
 use std::alloc::Global;
-use strip_bound::StoredBound;
+use strip_bound::Bounds;
 use strip_film::Line;
 use strip_io::Memory;
 use strip_memo::Memo;
@@ -23,18 +21,15 @@ use strip_memo::Memo;
 ///
 /// It takes time n log n. Each reached set costs a static bound, a step for each open first, and a static bound for
 /// each line that it leads to. The memo answers the bounds; the memo of the search that made the lines serves best.
-pub fn trim<F: Fn(u64, u64) -> u64>(
+pub fn trim<B: Bounds>(
     alloc: Global,
-    bounds: &StoredBound<F>,
-    memo: &mut Memo,
+    bounds: &B,
+    memo: &mut Memo<B>,
     lines: &[Line],
 ) -> Result<Vec<Line>, Memory>
-    requires keeps { Keeps (F.pre bounds.now.f) (F.post bounds.now.f) bounds.now.kind bounds.now.film.now }
-    requires memo { IsMemo bounds.now.kind bounds.now.film.now memo.old }
-    requires justified { AreJustified (rules_of bounds.now.kind bounds.now.film.now) lines.now }
-    ensures memo { IsMemo bounds.now.kind bounds.now.film.now memo.new }
+    requires justified { AreJustified (rules_of B.kind B.film) lines.now }
     ensures trimmed { IfOk result (λ trimmed. AreTrimmed
-        (rules_of bounds.now.kind bounds.now.film.now) lines.now trimmed.items) }
+        (rules_of B.kind B.film) lines.now trimmed.items) }
 {
     let best = Best::of(alloc, lines)?;
     let marks = marks_of(alloc, bounds, memo, &best, lines.len())?;

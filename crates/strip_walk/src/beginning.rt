@@ -3,14 +3,12 @@ ghost use Rattle.std.specs.Prelude.{◌≡◌, ◌≢◌};
 ghost use Rattle.strip_film.specs.Film.{LiesIn};
 ghost use Rattle.strip_film.specs.Path.{IsComplete, PathData};
 ghost use Rattle.strip_film.specs.Shown.{cursor_data, path_data};
-ghost use Rattle.strip_bound.specs.StoredBound.{Keeps};
 ghost use Rattle.strip_hand.specs.Hand.{IsSearchOf};
 ghost use Rattle.strip_walk.specs.Found.{MayExplore};
 ghost use Rattle.strip_walk.specs.Begun.{Asks, BeginsWalk, IsBest, IsThrough, IsWeighed, Meets, Offers};
-ghost use Rattle.strip_memo.specs.Memo.{IsMemo};
 
 use crate::found::{Begun, Found, Met, Opened, Passed};
-use strip_bound::StoredBound;
+use strip_bound::Bounds;
 use strip_film::{Cursor, Listed, Path, Probe};
 use strip_hand::Hand;
 use strip_io::Memory;
@@ -36,21 +34,18 @@ pub(crate) fn offer<H: Hand>(hand: &mut H, path: &Path) -> Found
 
 /// Reads the incumbent cost, and checks whether the static bound or the transposition table rules out a path with this
 /// remaining set and this pay. It doesn't need the path itself, so a child is checked before the path is extended.
-pub(crate) fn meet<H: Hand, F: Fn(u64, u64) -> u64>(
-    bounds: &StoredBound<F>,
+pub(crate) fn meet<H: Hand, B: Bounds>(
+    bounds: &B,
     hand: &mut H,
     rest: Mask,
     paid: u64,
-    memo: &mut Memo,
+    memo: &mut Memo<B>,
 ) -> Met
     requires sound { H.is_sound hand.old }
-    requires keeps { Keeps (F.pre bounds.now.f) (F.post bounds.now.f) bounds.now.kind bounds.now.film.now }
-    requires search { IsSearchOf bounds.now.kind bounds.now.film.now (H.shows hand.old) }
-    requires memo { IsMemo bounds.now.kind bounds.now.film.now memo.old }
-    requires lies { LiesIn bounds.now.film.now rest.0 }
+    requires search { IsSearchOf B.kind B.film (H.shows hand.old) }
+    requires lies { LiesIn B.film rest.0 }
     ensures sound { H.is_sound hand.new }
     ensures home { H.home hand.new ≡ H.home hand.old }
-    ensures memo { IsMemo bounds.now.kind bounds.now.film.now memo.new }
     ensures met { (path : PathData) → path.rest ≡ rest.0 → path.paid ≡ paid
         → Meets (H.shows hand.old) path result (H.shows hand.new) }
 {

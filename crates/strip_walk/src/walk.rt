@@ -4,18 +4,16 @@ ghost use Rattle.strip_film.specs.Path.{extended};
 ghost use Rattle.strip_film.specs.Running.{IsRunning};
 ghost use Rattle.strip_film.specs.Shoot.{step_cost};
 ghost use Rattle.strip_film.specs.Shown.{cursor_data, running_data};
-ghost use Rattle.strip_bound.specs.StoredBound.{Keeps};
 ghost use Rattle.strip_hand.specs.Hand.{IsSearchOf};
 ghost use Rattle.strip_walk.specs.Begun.{IsFirst, IsThrough};
 ghost use Rattle.strip_walk.specs.Found.{MayExplore};
 ghost use Rattle.strip_walk.specs.Walked.{Explores};
-ghost use Rattle.strip_memo.specs.Memo.{IsMemo};
 
 use crate::beginning::{list, meet, offer};
 use crate::ending::close;
 use crate::found::{Begun, Found, Met, Passed};
 use crate::sifting::sift;
-use strip_bound::StoredBound;
+use strip_bound::Bounds;
 use strip_film::{Cursor, Known, Running};
 use strip_hand::Hand;
 use strip_io::Memory;
@@ -28,23 +26,20 @@ use strip_memo::Memo;
 ///
 /// Each path costs a look and a static bound. An enlisted path costs a probe, a raise, a note, and a step and a static
 /// bound for each open first. A child is checked before `running` moves to it. Only the hand takes memory.
-pub fn explore<H: Hand, F: Fn(u64, u64) -> u64>(
-    bounds: &StoredBound<F>,
+pub fn explore<H: Hand, B: Bounds>(
+    bounds: &B,
     hand: &mut H,
     cursor: &mut Cursor,
     running: &mut Running,
-    memo: &mut Memo,
+    memo: &mut Memo<B>,
 ) -> Result<Found, Memory>
     requires sound { H.is_sound hand.old }
-    requires keeps { Keeps (F.pre bounds.now.f) (F.post bounds.now.f) bounds.now.kind bounds.now.film.now }
-    requires search { IsSearchOf bounds.now.kind bounds.now.film.now (H.shows hand.old) }
-    requires memo { IsMemo bounds.now.kind bounds.now.film.now memo.old }
-    requires running { IsRunning bounds.now.film.now (running_data running.old) }
+    requires search { IsSearchOf B.kind B.film (H.shows hand.old) }
+    requires running { IsRunning B.film (running_data running.old) }
     requires may { MayExplore (H.shows hand.old) (cursor_data cursor.old) (running_data running.old).path }
     ensures sound { H.is_sound hand.new }
     ensures home { H.home hand.new ≡ H.home hand.old }
-    ensures memo { IsMemo bounds.now.kind bounds.now.film.now memo.new }
-    ensures running { IfOk result (λ _. IsRunning bounds.now.film.now (running_data running.new)
+    ensures running { IfOk result (λ _. IsRunning B.film (running_data running.new)
         × ((running_data running.new).path ≡ (running_data running.old).path)) }
     ensures explored { Explores (H.shows hand.old) (cursor_data cursor.old) (running_data running.old).path result
         (H.shows hand.new) (cursor_data cursor.new) }
@@ -62,26 +57,23 @@ pub fn explore<H: Hand, F: Fn(u64, u64) -> u64>(
 
 /// Enlists a path that is not ruled out, searches its children, and raises its line.
 #[cycle(children)]
-fn walk_on<H: Hand, F: Fn(u64, u64) -> u64>(
-    bounds: &StoredBound<F>,
+fn walk_on<H: Hand, B: Bounds>(
+    bounds: &B,
     hand: &mut H,
     cursor: &mut Cursor,
     running: &mut Running,
-    memo: &mut Memo,
+    memo: &mut Memo<B>,
     passed: &Passed,
 ) -> Result<Found, Memory>
     requires sound { H.is_sound hand.old }
-    requires keeps { Keeps (F.pre bounds.now.f) (F.post bounds.now.f) bounds.now.kind bounds.now.film.now }
-    requires search { IsSearchOf bounds.now.kind bounds.now.film.now (H.shows hand.old) }
-    requires memo { IsMemo bounds.now.kind bounds.now.film.now memo.old }
-    requires running { IsRunning bounds.now.film.now (running_data running.old) }
+    requires search { IsSearchOf B.kind B.film (H.shows hand.old) }
+    requires running { IsRunning B.film (running_data running.old) }
     requires may { MayExplore (H.shows hand.old) (cursor_data cursor.old) (running_data running.old).path }
     requires some { (running_data running.old).path.rest ≢ 0 }
     requires through { IsThrough (H.shows hand.old) (running_data running.old).path passed.now }
     ensures sound { H.is_sound hand.new }
     ensures home { H.home hand.new ≡ H.home hand.old }
-    ensures memo { IsMemo bounds.now.kind bounds.now.film.now memo.new }
-    ensures running { IfOk result (λ _. IsRunning bounds.now.film.now (running_data running.new)
+    ensures running { IfOk result (λ _. IsRunning B.film (running_data running.new)
         × ((running_data running.new).path ≡ (running_data running.old).path)) }
     ensures explored { Explores (H.shows hand.old) (cursor_data cursor.old) (running_data running.old).path result
         (H.shows hand.new) (cursor_data cursor.new) }
@@ -113,28 +105,25 @@ fn walk_on<H: Hand, F: Fn(u64, u64) -> u64>(
 /// Searches below the path extended by the open first `s`, at the cost `step`. Most children are ruled out by their
 /// remaining set and their pay, so `running` moves only to the others.
 #[cycle(children)]
-fn walk_child<H: Hand, F: Fn(u64, u64) -> u64>(
-    bounds: &StoredBound<F>,
+fn walk_child<H: Hand, B: Bounds>(
+    bounds: &B,
     hand: &mut H,
     cursor: &mut Cursor,
     running: &mut Running,
-    memo: &mut Memo,
+    memo: &mut Memo<B>,
     s: u32,
     step: u64,
 ) -> Result<Found, Memory>
     requires sound { H.is_sound hand.old }
-    requires keeps { Keeps (F.pre bounds.now.f) (F.post bounds.now.f) bounds.now.kind bounds.now.film.now }
-    requires search { IsSearchOf bounds.now.kind bounds.now.film.now (H.shows hand.old) }
-    requires memo { IsMemo bounds.now.kind bounds.now.film.now memo.old }
-    requires running { IsRunning bounds.now.film.now (running_data running.old) }
+    requires search { IsSearchOf B.kind B.film (H.shows hand.old) }
+    requires running { IsRunning B.film (running_data running.old) }
     requires first { IsFirst (H.shows hand.old).search (running_data running.old).path s }
-    requires step { step ≡ step_cost bounds.now.film.now (running_data running.old).path.rest s }
+    requires step { step ≡ step_cost B.film (running_data running.old).path.rest s }
     requires may { MayExplore (H.shows hand.old) (cursor_data cursor.old)
         (extended (H.shows hand.old).search.film (running_data running.old).path s) }
     ensures sound { H.is_sound hand.new }
     ensures home { H.home hand.new ≡ H.home hand.old }
-    ensures memo { IsMemo bounds.now.kind bounds.now.film.now memo.new }
-    ensures running { IfOk result (λ _. IsRunning bounds.now.film.now (running_data running.new)
+    ensures running { IfOk result (λ _. IsRunning B.film (running_data running.new)
         × ((running_data running.new).path ≡ (running_data running.old).path)) }
     ensures explored { Explores (H.shows hand.old) (cursor_data cursor.old)
         (extended (H.shows hand.old).search.film (running_data running.old).path s) result

@@ -1,7 +1,6 @@
 // The end of a search.
 ghost use Rattle.std.specs.Prelude.{◌≡◌, ◌≤◌, true, false, IfErr, IfOk};
 ghost use Rattle.strip_io.specs.Counts.{Rose};
-ghost use Rattle.strip_bound.specs.StoredBound.{Keeps};
 ghost use Rattle.strip_film.specs.Film.{all_scenes};
 ghost use Rattle.strip_film.specs.Shown.{path_data};
 ghost use Rattle.strip_lines.specs.Lines.{known, rules_of};
@@ -14,7 +13,7 @@ ghost use Rattle.strip_worker.specs.Team.{HasWorkedOn};
 
 use crate::walked::Walked;
 use std::alloc::Global;
-use strip_bound::StoredBound;
+use strip_bound::Bounds;
 use strip_film::{Line, Path};
 use strip_front::{Front, close_up};
 use strip_hand::Hand;
@@ -25,21 +24,20 @@ use strip_lines::laws::the_rules_are_true;
 /// Raises the lines of the front (search frontier), after each part was claimed and worked on. It returns the bound to
 /// which it raised the line of all scenes, in units of money. It fails with `Memory` only if the hand was refused
 /// memory.
-pub fn close<H: Hand, F: Fn(u64, u64) -> u64>(
-    bounds: &StoredBound<F>,
+pub fn close<H: Hand, B: Bounds>(
+    bounds: &B,
     hand: &mut H,
     front: &mut Front,
     walked: &Walked,
 ) -> Result<u64, Memory>
     requires sound { H.is_sound hand.old }
-    requires keeps { Keeps (F.pre bounds.now.f) (F.post bounds.now.f) bounds.now.kind bounds.now.film.now }
-    requires worked { HasWorkedOn bounds.now.kind bounds.now.film.now (H.shows hand.old) (front_data front.old)
+    requires worked { HasWorkedOn B.kind B.film (H.shows hand.old) (front_data front.old)
         walked.now.found.items walked.now.spent }
     requires all { HasAll (H.shows hand.old) }
     ensures sound { H.is_sound hand.new }
     ensures home { H.home hand.new ≡ H.home hand.old }
     ensures learns { Learns (H.shows hand.old) (H.shows hand.new) }
-    ensures closed { IfOk result (λ number. IsClosed bounds.now.kind bounds.now.film.now (H.shows hand.new)
+    ensures closed { IfOk result (λ number. IsClosed B.kind B.film (H.shows hand.new)
         walked.now.spent number) }
     ensures memory { IfErr result (λ _. Rose (H.shows hand.old).refusals (H.shows hand.new).refusals) }
 {
@@ -51,18 +49,17 @@ pub fn close<H: Hand, F: Fn(u64, u64) -> u64>(
 /// Makes the result of a search from its best path, its lines, the bound that `close` returned, and whether it was cut
 /// short. It moves the lines, copies the order, and takes a turn for each line if the search was cut short. If a hand
 /// has closed and settled the search, `EndsFrom` holds of the result.
-pub fn tell<F: Fn(u64, u64) -> u64>(
+pub fn tell<B: Bounds>(
     alloc: Global,
-    bounds: &StoredBound<F>,
+    bounds: &B,
     best: &Path,
     lines: Vec<Line>,
     number: u64,
     spent: bool,
 ) -> Result<Ended, Memory>
-    requires keeps { Keeps (F.pre bounds.now.f) (F.post bounds.now.f) bounds.now.kind bounds.now.film.now }
-    ensures ended { IfOk result (λ ended. (hand : HandData) → IsClosed bounds.now.kind bounds.now.film.now hand spent number
+    ensures ended { IfOk result (λ ended. (hand : HandData) → IsClosed B.kind B.film hand spent number
         → IsSettled hand (path_data best.now) lines.items
-        → EndsFrom bounds.now.kind bounds.now.film.now hand.search.start hand.search.nodes (ended_data ended)) }
+        → EndsFrom B.kind B.film hand.search.start hand.search.nodes (ended_data ended)) }
     ensures cost { IfOk result (λ ended. (hand : HandData) → IsSettled hand (path_data best.now) lines.items
         → ended.cost ≤ hand.told) }
 {
@@ -81,16 +78,10 @@ pub fn tell<F: Fn(u64, u64) -> u64>(
 
 /// Returns the bound known of all scenes: the number that `close` returned. If the search was cut short, it looks
 /// through the lines instead, with a turn for each.
-fn whole_bound<F: Fn(u64, u64) -> u64>(
-    bounds: &StoredBound<F>,
-    lines: &[Line],
-    number: u64,
-    spent: bool,
-) -> u64
-    requires keeps { Keeps (F.pre bounds.now.f) (F.post bounds.now.f) bounds.now.kind bounds.now.film.now }
+fn whole_bound<B: Bounds>(bounds: &B, lines: &[Line], number: u64, spent: bool) -> u64
     ensures whole { spent ≡ false → result ≡ number }
-    ensures spent { spent ≡ true → result ≡ known (rules_of bounds.now.kind bounds.now.film.now) lines.now
-        (all_scenes bounds.now.film.now) }
+    ensures spent { spent ≡ true → result ≡ known (rules_of B.kind B.film) lines.now
+        (all_scenes B.film) }
 {
     if spent {
         known_of_all(bounds, lines)
@@ -100,14 +91,13 @@ fn whole_bound<F: Fn(u64, u64) -> u64>(
 }
 
 /// Returns the greatest of the static bound of all scenes and the bounds of their lines.
-fn known_of_all<F: Fn(u64, u64) -> u64>(bounds: &StoredBound<F>, lines: &[Line]) -> u64
-    requires { Keeps (F.pre bounds.now.f) (F.post bounds.now.f) bounds.now.kind bounds.now.film.now }
-    ensures { result ≡ known (rules_of bounds.now.kind bounds.now.film.now) lines.now (all_scenes bounds.now.film.now) }
+fn known_of_all<B: Bounds>(bounds: &B, lines: &[Line]) -> u64
+    ensures { result ≡ known (rules_of B.kind B.film) lines.now (all_scenes B.film) }
 {
     let film = bounds.film();
     film.keeps_limits();
     let all = film.all();
-    let mut greatest = bounds.at(all);
+    let mut greatest = bounds.whole(all);
     for line in lines {
         if line.set == all.0 {
             greatest = greatest.max(line.bound);

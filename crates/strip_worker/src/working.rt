@@ -1,10 +1,8 @@
 // A worker's share of a search: the way down the front, and the tasks.
 ghost use Rattle.std.specs.Prelude.{◌≡◌, IfErr, IfOk};
 ghost use Rattle.strip_io.specs.Counts.{Rose};
-ghost use Rattle.strip_bound.specs.StoredBound.{Keeps};
 ghost use Rattle.strip_film.specs.Shown.{CursorData, path_data};
 ghost use Rattle.strip_hand.specs.Hand.{IsSearchOf};
-ghost use Rattle.strip_memo.specs.Memo.{IsMemo};
 ghost use Rattle.strip_front.specs.Calls.{GoesDown};
 ghost use Rattle.strip_front.specs.Shown.{front_data};
 ghost use Rattle.strip_walk.specs.Found.{MayExplore};
@@ -14,7 +12,7 @@ ghost use Rattle.strip_worker.specs.Team.{WalksPart, WalksTask, beginning};
 use crate::walked::Walked;
 use crate::worker::Worker;
 use std::alloc::Global;
-use strip_bound::StoredBound;
+use strip_bound::Bounds;
 use strip_film::{Cursor, Path, Running};
 use strip_front::{Front, go_down};
 use strip_hand::{Gate, Hand};
@@ -25,15 +23,14 @@ use strip_walk::{Found, explore};
 /// Goes down the front, the only part that the hand has claimed, and returns 0 for each task and whether the front was
 /// cut short. `HasWorked` holds if the hand knows only lines that it made on the way. It takes a number for each task,
 /// and the calls of `go_down`.
-pub fn go_down_front<H: Hand, F: Fn(u64, u64) -> u64>(
+pub fn go_down_front<H: Hand, B: Bounds>(
     alloc: Global,
-    bounds: &StoredBound<F>,
+    bounds: &B,
     hand: &mut H,
     front: &mut Front,
 ) -> Result<Walked, Memory>
     requires sound { H.is_sound hand.old }
-    requires keeps { Keeps (F.pre bounds.now.f) (F.post bounds.now.f) bounds.now.kind bounds.now.film.now }
-    requires search { IsSearchOf bounds.now.kind bounds.now.film.now (H.shows hand.old) }
+    requires search { IsSearchOf B.kind B.film (H.shows hand.old) }
     requires may { MayStart (H.shows hand.old) (front_data front.old) }
     ensures sound { H.is_sound hand.new }
     ensures home { H.home hand.new ≡ H.home hand.old }
@@ -58,22 +55,19 @@ pub fn asked_for(front: &Front) -> u32 {
 /// front, since the caller went down it. `walked` has the hand's earlier results, and then also the new ones. It fails
 /// with `Memory` only if the hand was refused memory. The time may grow with the number of open paths that the initial
 /// path leaves.
-pub fn work<H: Hand, F: Fn(u64, u64) -> u64, G: Gate>(
-    bounds: &StoredBound<F>,
+pub fn work<H: Hand, B: Bounds, G: Gate>(
+    bounds: &B,
     hand: &mut H,
     front: &Front,
     worker: &Worker<G>,
-    memo: &mut Memo,
+    memo: &mut Memo<B>,
     walked: &mut Walked,
 ) -> Result<(), Memory>
     requires sound { H.is_sound hand.old }
-    requires keeps { Keeps (F.pre bounds.now.f) (F.post bounds.now.f) bounds.now.kind bounds.now.film.now }
-    requires memo { IsMemo bounds.now.kind bounds.now.film.now memo.old }
-    requires worked { HasWorkedOn bounds.now.kind bounds.now.film.now (H.shows hand.old) (front_data front.now)
+    requires worked { HasWorkedOn B.kind B.film (H.shows hand.old) (front_data front.now)
         walked.old.found.items walked.old.spent }
     ensures sound { H.is_sound hand.new }
     ensures home { H.home hand.new ≡ H.home hand.old }
-    ensures memo { IsMemo bounds.now.kind bounds.now.film.now memo.new }
     ensures works_on { WorksOn (H.shows hand.old) (H.shows hand.new) }
     ensures ended { IfOk result (λ _. HasEnded (H.shows hand.new) (front_data front.now)
         walked.new.found.items walked.new.spent) }
@@ -86,23 +80,20 @@ pub fn work<H: Hand, F: Fn(u64, u64) -> u64, G: Gate>(
 }
 
 /// Walks the task of a claimed part, if it is wanted.
-fn walk_part<H: Hand, F: Fn(u64, u64) -> u64, G: Gate>(
-    bounds: &StoredBound<F>,
+fn walk_part<H: Hand, B: Bounds, G: Gate>(
+    bounds: &B,
     hand: &mut H,
     front: &Front,
     worker: &Worker<G>,
     part: u32,
-    memo: &mut Memo,
+    memo: &mut Memo<B>,
     walked: &mut Walked,
 ) -> Result<(), Memory>
     requires sound { H.is_sound hand.old }
-    requires keeps { Keeps (F.pre bounds.now.f) (F.post bounds.now.f) bounds.now.kind bounds.now.film.now }
-    requires memo { IsMemo bounds.now.kind bounds.now.film.now memo.old }
-    requires claimed { HasClaimed bounds.now.kind bounds.now.film.now (H.shows hand.old) (front_data front.now)
+    requires claimed { HasClaimed B.kind B.film (H.shows hand.old) (front_data front.now)
         walked.old.found.items walked.old.spent part }
     ensures sound { H.is_sound hand.new }
     ensures home { H.home hand.new ≡ H.home hand.old }
-    ensures memo { IsMemo bounds.now.kind bounds.now.film.now memo.new }
     ensures walks { WalksPart (H.shows hand.old) part (H.shows hand.new) }
     ensures worked { IfOk result (λ _. HasWorked (H.shows hand.new) (front_data front.now)
         walked.new.found.items walked.new.spent) }
@@ -125,21 +116,18 @@ fn walk_part<H: Hand, F: Fn(u64, u64) -> u64, G: Gate>(
 }
 
 /// Walks a task from its path on. `part` is its number among the parts of the search.
-fn walk<H: Hand, F: Fn(u64, u64) -> u64>(
-    bounds: &StoredBound<F>,
+fn walk<H: Hand, B: Bounds>(
+    bounds: &B,
     hand: &mut H,
     task: &Path,
     part: u32,
-    memo: &mut Memo,
+    memo: &mut Memo<B>,
 ) -> Result<Found, Memory>
     requires sound { H.is_sound hand.old }
-    requires keeps { Keeps (F.pre bounds.now.f) (F.post bounds.now.f) bounds.now.kind bounds.now.film.now }
-    requires search { IsSearchOf bounds.now.kind bounds.now.film.now (H.shows hand.old) }
-    requires memo { IsMemo bounds.now.kind bounds.now.film.now memo.old }
+    requires search { IsSearchOf B.kind B.film (H.shows hand.old) }
     requires may { MayExplore (H.shows hand.old) (beginning part) (path_data task.now) }
     ensures sound { H.is_sound hand.new }
     ensures home { H.home hand.new ≡ H.home hand.old }
-    ensures memo { IsMemo bounds.now.kind bounds.now.film.now memo.new }
     ensures walked { WalksTask (H.shows hand.old) part (path_data task.now) result (H.shows hand.new) }
 {
     let mut cursor = Cursor::of(part);

@@ -7,7 +7,6 @@ ghost use Rattle.strip_film.specs.Path.{IsPath};
 ghost use Rattle.strip_film.specs.Shoot.{step_cost};
 ghost use Rattle.strip_film.specs.Shown.{path_data};
 ghost use Rattle.strip_bound.specs.Bounds.{bound};
-ghost use Rattle.strip_bound.specs.StoredBound.{Keeps};
 ghost use Rattle.strip_rule.specs.Rule.{open_firsts};
 ghost use Rattle.strip_lines.specs.Lines.{IsJustified, known};
 ghost use Rattle.strip_lines.specs.Paths.{ComesAfter};
@@ -23,7 +22,7 @@ use crate::event::Event;
 use crate::paths::{is_complete, is_earlier, is_open};
 use crate::state::Asked;
 use crate::world::World;
-use strip_bound::StoredBound;
+use strip_bound::Bounds;
 use strip_film::{Film, Known, Path, Probe, step};
 use strip_mask::Mask;
 use strip_rule::open_firsts;
@@ -31,10 +30,9 @@ use strip_rule::open_firsts;
 impl World {
     /// Returns whether the event is allowed: its worker exists, and its effect is justified. A path is checked from its
     /// start. For a bound it goes over the lines for each open first of the set. It allocates no memory.
-    pub fn allows<F: Fn(u64, u64) -> u64>(&self, bounds: &StoredBound<F>, event: &Event) -> bool
+    pub fn allows<B: Bounds>(&self, bounds: &B, event: &Event) -> bool
         requires sound { IsSound self.now }
-        requires keeps { Keeps (F.pre bounds.now.f) (F.post bounds.now.f) bounds.now.kind bounds.now.film.now }
-        requires search { GoesBy bounds.now.kind bounds.now.film.now self.now.search }
+        requires search { GoesBy B.kind B.film self.now.search }
         ensures { IsTrue result ↔ IsAllowed self.now event.now }
     {
         self.has_worker(actor_of(event)) && self.is_fitting(bounds, event)
@@ -48,10 +46,9 @@ impl World {
     }
 
     /// Returns whether the event of an existing worker is allowed.
-    fn is_fitting<F: Fn(u64, u64) -> u64>(&self, bounds: &StoredBound<F>, event: &Event) -> bool
+    fn is_fitting<B: Bounds>(&self, bounds: &B, event: &Event) -> bool
         requires sound { IsSound self.now }
-        requires keeps { Keeps (F.pre bounds.now.f) (F.post bounds.now.f) bounds.now.kind bounds.now.film.now }
-        requires search { GoesBy bounds.now.kind bounds.now.film.now self.now.search }
+        requires search { GoesBy B.kind B.film self.now.search }
         requires worker { actor_of event.now < length self.now.workers }
         ensures { IsTrue result ↔ IsFitting self.now event.now }
     {
@@ -66,16 +63,9 @@ impl World {
     }
 
     /// Returns whether the worker may enlist the path in the part.
-    fn may_enlist<F: Fn(u64, u64) -> u64>(
-        &self,
-        bounds: &StoredBound<F>,
-        who: u32,
-        part: u32,
-        path: &Path,
-    ) -> bool
+    fn may_enlist<B: Bounds>(&self, bounds: &B, who: u32, part: u32, path: &Path) -> bool
         requires sound { IsSound self.now }
-        requires keeps { Keeps (F.pre bounds.now.f) (F.post bounds.now.f) bounds.now.kind bounds.now.film.now }
-        requires search { GoesBy bounds.now.kind bounds.now.film.now self.now.search }
+        requires search { GoesBy B.kind B.film self.now.search }
         requires worker { who < length self.now.workers }
         ensures { IsTrue result ↔ WorkerMayEnlist self.now who part (path_data path.now) }
     {
@@ -105,15 +95,9 @@ impl World {
 
     /// Returns whether the path comes after the part's last path, if there is one. It compares the scenes that both
     /// begin with, and two ranks.
-    fn comes_after<F: Fn(u64, u64) -> u64>(
-        &self,
-        bounds: &StoredBound<F>,
-        part: u32,
-        path: &Path,
-    ) -> bool
+    fn comes_after<B: Bounds>(&self, bounds: &B, part: u32, path: &Path) -> bool
         requires sound { IsSound self.now }
-        requires keeps { Keeps (F.pre bounds.now.f) (F.post bounds.now.f) bounds.now.kind bounds.now.film.now }
-        requires search { GoesBy bounds.now.kind bounds.now.film.now self.now.search }
+        requires search { GoesBy B.kind B.film self.now.search }
         requires part { part < length self.now.parts }
         requires path { IsPath self.now.search.film (path_data path.now) }
         ensures { IsTrue result ↔ ComesAfter (search_rules self.now.search) (part_at self.now part).last
@@ -126,14 +110,8 @@ impl World {
     }
 
     /// Returns whether the path's pay plus the static bound of the rest is below a cost.
-    fn is_below<F: Fn(u64, u64) -> u64>(
-        &self,
-        bounds: &StoredBound<F>,
-        path: &Path,
-        cost: u64,
-    ) -> bool
-        requires keeps { Keeps (F.pre bounds.now.f) (F.post bounds.now.f) bounds.now.kind bounds.now.film.now }
-        requires search { GoesBy bounds.now.kind bounds.now.film.now self.now.search }
+    fn is_below<B: Bounds>(&self, bounds: &B, path: &Path, cost: u64) -> bool
+        requires search { GoesBy B.kind B.film self.now.search }
         requires path { IsPath self.now.search.film (path_data path.now) }
         ensures { IsTrue result ↔ ((path_data path.now).paid
             + bound self.now.search.kind self.now.search.film (path_data path.now).rest < cost) }
@@ -142,15 +120,9 @@ impl World {
     }
 
     /// Returns whether the line may be raised to the bound.
-    fn may_raise<F: Fn(u64, u64) -> u64>(
-        &self,
-        bounds: &StoredBound<F>,
-        line: u32,
-        bound: u64,
-    ) -> bool
+    fn may_raise<B: Bounds>(&self, bounds: &B, line: u32, bound: u64) -> bool
         requires sound { IsSound self.now }
-        requires keeps { Keeps (F.pre bounds.now.f) (F.post bounds.now.f) bounds.now.kind bounds.now.film.now }
-        requires search { GoesBy bounds.now.kind bounds.now.film.now self.now.search }
+        requires search { GoesBy B.kind B.film self.now.search }
         ensures { IsTrue result ↔ WorkerMayRaise self.now line bound }
     {
         match self.lines.get(line as usize) {
@@ -161,14 +133,8 @@ impl World {
 
     /// Returns whether the lines justify the bound of the set. Its static bound must reach it, or the step plus the
     /// bound known of the rest for each open first.
-    fn is_justified<F: Fn(u64, u64) -> u64>(
-        &self,
-        bounds: &StoredBound<F>,
-        set: Mask,
-        bound: u64,
-    ) -> bool
-        requires keeps { Keeps (F.pre bounds.now.f) (F.post bounds.now.f) bounds.now.kind bounds.now.film.now }
-        requires search { GoesBy bounds.now.kind bounds.now.film.now self.now.search }
+    fn is_justified<B: Bounds>(&self, bounds: &B, set: Mask, bound: u64) -> bool
+        requires search { GoesBy B.kind B.film self.now.search }
         requires lies { LiesIn self.now.search.film set.0 }
         ensures { IsTrue result ↔ IsJustified (search_rules self.now.search) self.now.lines
             (record { set = set.0; bound = bound }) }
@@ -179,14 +145,8 @@ impl World {
 
     /// Returns whether the step plus the bound known of the rest reaches `bound` for each open first. For each first it
     /// takes a step cost, a static bound and a pass over the lines.
-    fn each_first_reaches<F: Fn(u64, u64) -> u64>(
-        &self,
-        bounds: &StoredBound<F>,
-        set: Mask,
-        bound: u64,
-    ) -> bool
-        requires keeps { Keeps (F.pre bounds.now.f) (F.post bounds.now.f) bounds.now.kind bounds.now.film.now }
-        requires search { GoesBy bounds.now.kind bounds.now.film.now self.now.search }
+    fn each_first_reaches<B: Bounds>(&self, bounds: &B, set: Mask, bound: u64) -> bool
+        requires search { GoesBy B.kind B.film self.now.search }
         requires lies { LiesIn self.now.search.film set.0 }
         ensures { IsTrue result ↔ ((scene : ℕ) → has (open_firsts self.now.search.film set.0) scene ≡ true
             → bound ≤ step_cost self.now.search.film set.0 scene
@@ -204,9 +164,8 @@ impl World {
 
     /// Returns the bound known of the set: the greatest of its static bound and its lines' bounds, in units of money.
     /// Time is linear in the number of lines.
-    pub fn known<F: Fn(u64, u64) -> u64>(&self, bounds: &StoredBound<F>, set: Mask) -> u64
-        requires keeps { Keeps (F.pre bounds.now.f) (F.post bounds.now.f) bounds.now.kind bounds.now.film.now }
-        requires search { GoesBy bounds.now.kind bounds.now.film.now self.now.search }
+    pub fn known<B: Bounds>(&self, bounds: &B, set: Mask) -> u64
+        requires search { GoesBy B.kind B.film self.now.search }
         requires lies { LiesIn self.now.search.film set.0 }
         ensures { result ≡ known (search_rules self.now.search) self.now.lines set.0 }
     {
@@ -220,13 +179,12 @@ impl World {
     }
 
     /// Returns the static bound of the set.
-    pub(crate) fn bound<F: Fn(u64, u64) -> u64>(&self, bounds: &StoredBound<F>, set: Mask) -> u64
-        requires keeps { Keeps (F.pre bounds.now.f) (F.post bounds.now.f) bounds.now.kind bounds.now.film.now }
-        requires search { GoesBy bounds.now.kind bounds.now.film.now self.now.search }
+    pub(crate) fn bound<B: Bounds>(&self, bounds: &B, set: Mask) -> u64
+        requires search { GoesBy B.kind B.film self.now.search }
         requires lies { LiesIn self.now.search.film set.0 }
         ensures { result ≡ bound self.now.search.kind self.now.search.film set.0 }
     {
-        bounds.at(set)
+        bounds.whole(set)
     }
 
     /// Returns whether the line may be inserted into the table: its bound is at most that of the recorded line with its

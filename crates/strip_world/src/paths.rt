@@ -7,11 +7,10 @@ ghost use Rattle.strip_film.specs.Path.{IsComplete, IsPath};
 ghost use Rattle.strip_film.specs.Ranks.{IsEarlier, IsSooner};
 ghost use Rattle.strip_film.specs.Rules.{rank};
 ghost use Rattle.strip_film.specs.Shown.{path_data};
-ghost use Rattle.strip_bound.specs.StoredBound.{Keeps};
 ghost use Rattle.strip_lines.specs.Lines.{rules_of};
 ghost use Rattle.strip_rule.specs.Rule.{open_firsts};
 
-use strip_bound::StoredBound;
+use strip_bound::{Bounds, rank};
 use strip_film::{Film, Path, ready};
 use strip_mask::Mask;
 use strip_rule::open_firsts;
@@ -84,17 +83,11 @@ fn is_in(set: Mask, scene: u8) -> bool
 
 /// Returns whether the first list of scenes comes before the second in the order of the search, if both are shot from
 /// the set. It compares the scenes that both begin with, and two ranks.
-pub(crate) fn is_earlier<F: Fn(u64, u64) -> u64>(
-    bounds: &StoredBound<F>,
-    set: Mask,
-    first: &[u8],
-    second: &[u8],
-) -> bool
-    requires keeps { Keeps (F.pre bounds.now.f) (F.post bounds.now.f) bounds.now.kind bounds.now.film.now }
-    requires lies { LiesIn bounds.now.film.now set.0 }
-    requires first { Remained bounds.now.film.now set.0 first.now }
-    requires second { Remained bounds.now.film.now set.0 second.now }
-    ensures { IsTrue result ↔ IsEarlier (rules_of bounds.now.kind bounds.now.film.now) set.0 first.now second.now }
+pub(crate) fn is_earlier<B: Bounds>(bounds: &B, set: Mask, first: &[u8], second: &[u8]) -> bool
+    requires lies { LiesIn B.film set.0 }
+    requires first { Remained B.film set.0 first.now }
+    requires second { Remained B.film set.0 second.now }
+    ensures { IsTrue result ↔ IsEarlier (rules_of B.kind B.film) set.0 first.now second.now }
 {
     bounds.film().keeps_limits();
     let Some((other, after_other)) = second.split_first() else {
@@ -110,14 +103,13 @@ pub(crate) fn is_earlier<F: Fn(u64, u64) -> u64>(
 }
 
 /// Returns whether scene `s` of the set comes before scene `t`: by rank, or by number at equal ranks.
-fn is_sooner<F: Fn(u64, u64) -> u64>(bounds: &StoredBound<F>, set: Mask, s: u32, t: u32) -> bool
-    requires keeps { Keeps (F.pre bounds.now.f) (F.post bounds.now.f) bounds.now.kind bounds.now.film.now }
-    requires lies { LiesIn bounds.now.film.now set.0 }
+fn is_sooner<B: Bounds>(bounds: &B, set: Mask, s: u32, t: u32) -> bool
+    requires lies { LiesIn B.film set.0 }
     requires one { has set.0 s ≡ true }
     requires other { has set.0 t ≡ true }
-    ensures { IsTrue result ↔ IsSooner (rank (rules_of bounds.now.kind bounds.now.film.now) set.0) s t }
+    ensures { IsTrue result ↔ IsSooner (rank (rules_of B.kind B.film) set.0) s t }
 {
-    let rank = bounds.rank(set, s);
-    let other = bounds.rank(set, t);
-    rank < other || rank == other && s < t
+    let own = rank(bounds, set, s);
+    let other = rank(bounds, set, t);
+    own < other || own == other && s < t
 }

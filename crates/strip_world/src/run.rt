@@ -3,7 +3,6 @@ ghost use Rattle.std.specs.Prelude.{◌≡◌, ℕ, ◌<◌, ◌≤◌, length, 
 ghost use Rattle.strip_model.specs.Pay.{IsOptimum};
 ghost use Rattle.strip_film.specs.declared.shared.Known.{Known};
 ghost use Rattle.strip_film.specs.Finish.{IsAtMostFinish};
-ghost use Rattle.strip_bound.specs.StoredBound.{Keeps};
 ghost use Rattle.strip_table.specs.Stripe.{bucket_at};
 ghost use Rattle.strip_hand.specs.Search.{GoesBy};
 ghost use Rattle.strip_world.specs.Sound.{IsSound};
@@ -13,19 +12,14 @@ ghost use Rattle.strip_world.specs.World.{stripe_at};
 use crate::event::Event;
 use crate::laws::a_sound_world_is_true;
 use crate::world::World;
-use strip_bound::StoredBound;
+use strip_bound::Bounds;
 
 impl World {
     /// Applies the events in turn, up to the first that is not allowed, and returns the number applied. For any list,
     /// each table entry is then a valid lower bound, and the least cost is at least the optimum.
-    pub fn run<F: Fn(u64, u64) -> u64>(
-        &mut self,
-        bounds: &StoredBound<F>,
-        events: &[Event],
-    ) -> usize
+    pub fn run<B: Bounds>(&mut self, bounds: &B, events: &[Event]) -> usize
         requires sound { IsSound self.old }
-        requires keeps { Keeps (F.pre bounds.now.f) (F.post bounds.now.f) bounds.now.kind bounds.now.film.now }
-        requires search { GoesBy bounds.now.kind bounds.now.film.now self.old.search }
+        requires search { GoesBy B.kind B.film self.old.search }
         ensures runs { Runs self.old events.now result self.new }
         ensures sound { IsSound self.new }
         ensures entries { (stripe bucket : ℕ) (entry : Known) → stripe < 16

@@ -1,5 +1,4 @@
 // Applying one event.
-ghost use Rattle.strip_bound.specs.StoredBound.{Keeps};
 ghost use Rattle.strip_hand.specs.Search.{GoesBy};
 ghost use Rattle.strip_world.specs.Allowed.{IsAllowed};
 ghost use Rattle.strip_world.specs.Sound.{IsSound};
@@ -8,16 +7,15 @@ ghost use Rattle.strip_world.specs.Steps.{Steps};
 use crate::event::{Event, Reply};
 use crate::laws::steps_keep_worlds_sound;
 use crate::world::World;
-use strip_bound::StoredBound;
+use strip_bound::Bounds;
 use strip_mask::Mask;
 
 impl World {
     /// Applies an allowed event, and returns the reply. It allocates no memory. It takes constant time, and that of the
     /// static bound for an enlisted path.
-    pub fn step<F: Fn(u64, u64) -> u64>(&mut self, bounds: &StoredBound<F>, event: &Event) -> Reply
+    pub fn step<B: Bounds>(&mut self, bounds: &B, event: &Event) -> Reply
         requires sound { IsSound self.old }
-        requires keeps { Keeps (F.pre bounds.now.f) (F.post bounds.now.f) bounds.now.kind bounds.now.film.now }
-        requires search { GoesBy bounds.now.kind bounds.now.film.now self.old.search }
+        requires search { GoesBy B.kind B.film self.old.search }
         requires allowed { IsAllowed self.old event.now }
         ensures steps { Steps self.old event.now self.new result }
         ensures sound { IsSound self.new }

@@ -1,9 +1,12 @@
 // Films from the rows of tables, and their bounds with arrivals.
+ghost use Rattle.std.specs.Prelude.{◌≡◌};
+ghost use Rattle.strip_film.specs.Film.{LiesIn};
 ghost use Rattle.strip_bound.specs.Tables.{AreTables};
 
 use std::alloc::Global;
+use std::marker::Brand;
 use std::test::Fail;
-use strip_bound::{BoundTables, StoredBound, static_reach};
+use strip_bound::{BoundTables, Bounded, Bounds, FilmBounds, Room};
 use strip_film::Film;
 use strip_mask::Mask;
 use strip_model::{Kind, Pair};
@@ -42,11 +45,17 @@ pub(crate) fn kept_reach(film: &Film, tables: &BoundTables, set: Mask, need: u64
     if !set.lies_below(film.scenes() as u32) {
         return None;
     }
-    let kind = Kind::Arrivals;
-    let bounds = StoredBound::new(
-        film,
-        kind,
-        |q, need| static_reach(film, tables, kind, Mask(q), need),
-    );
-    Some(bounds.reach(set, need))
+    Some(reach_of::<Brand>(film, tables, Kind::Arrivals, set, need))
+}
+
+/// Returns the bound of this kind, or a lower bound of it that reaches `need`. A type brand names the film and the
+/// kind.
+fn reach_of<N: Bounded>(film: &Film, tables: &BoundTables, kind: Kind, set: Mask, need: u64) -> u64
+    requires film { film.now ≡ N.film }
+    requires kind { kind ≡ N.kind }
+    requires tables { AreTables film.now tables.now }
+    requires lies { LiesIn N.film set.0 }
+{
+    let bounds: FilmBounds<N> = FilmBounds::new(film, tables, kind);
+    bounds.reach(set, need, &mut Room::new())
 }

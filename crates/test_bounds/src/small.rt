@@ -1,10 +1,13 @@
-// Bounds of small films, worked by hand; each is requested through a stored bound.
+// Bounds of small films, worked by hand; each is requested through a source of bounds.
+ghost use Rattle.std.specs.Prelude.{◌≡◌};
+ghost use Rattle.strip_film.specs.Film.{LiesIn};
 ghost use Rattle.strip_bound.specs.Tables.{AreTables};
 
 use crate::cases::film_of;
 use std::alloc::Global;
+use std::marker::{Brand, PhantomData};
 use std::test::Fail;
-use strip_bound::{BoundTables, StoredBound, plain, static_reach};
+use strip_bound::{BoundTables, Bounded, Bounds, FilmBounds, Room, plain};
 use strip_film::Film;
 use strip_mask::Mask;
 use strip_model::Kind;
@@ -197,6 +200,36 @@ fn are_kept(film: &Film, tables: &BoundTables, set: Mask, bounds: [u64; 4]) -> b
         && kept(film, tables, Kind::Arrivals, set) == Some(arrivals)
 }
 
+/// A source of plain bounds that computes each by `plain`, whatever is needed. The type N names the film.
+#[derive(Drop)]
+struct PlainBounds<'f, N: Bounded> {
+    film: &'f Film,
+    tables: &'f BoundTables,
+    of: PhantomData<N>,
+    ghost film_is: { film.now ≡ N.film },
+    ghost are_tables: { AreTables film.now tables.now },
+}
+
+impl<'f, N: Bounded> Bounds for PlainBounds<'f, N> {
+    ghost use Rattle.strip_model.specs.declared.kind.Kind.TheVariants.{Plain};
+
+    ghost film = { N.film };
+
+    ghost kind = { Plain };
+
+    fn film(&self) -> &Film {
+        self.film
+    }
+
+    fn kind(&self) -> Kind {
+        Kind::Plain
+    }
+
+    fn reach(&self, q: Mask, _need: u64, _room: &mut Room) -> u64 {
+        plain(self.film, self.tables, q)
+    }
+}
+
 // Returns none if the set has a number that is no scene.
 fn kept_plain(film: &Film, tables: &BoundTables, set: Mask) -> Option<u64>
     requires { AreTables film.now tables.now }
@@ -205,10 +238,23 @@ fn kept_plain(film: &Film, tables: &BoundTables, set: Mask) -> Option<u64>
     if !set.lies_below(film.scenes() as u32) {
         return None;
     }
-    let kept = StoredBound::new(film, Kind::Plain, |q, _| plain(film, tables, Mask(q)));
-    Some(kept.reach(set, 0))
+    Some(plain_of::<Brand>(film, tables, set))
 }
 
+fn plain_of<N: Bounded>(film: &Film, tables: &BoundTables, set: Mask) -> u64
+    requires film { film.now ≡ N.film }
+    requires tables { AreTables film.now tables.now }
+    requires lies { LiesIn N.film set.0 }
+{
+    let bounds: PlainBounds<N> = PlainBounds {
+        film,
+        tables,
+        of: PhantomData,
+    };
+    bounds.reach(set, 0, &mut Room::new())
+}
+
+// Returns none if the set has a number that is no scene.
 fn kept(film: &Film, tables: &BoundTables, kind: Kind, set: Mask) -> Option<u64>
     requires { AreTables film.now tables.now }
 {
@@ -216,10 +262,15 @@ fn kept(film: &Film, tables: &BoundTables, kind: Kind, set: Mask) -> Option<u64>
     if !set.lies_below(film.scenes() as u32) {
         return None;
     }
-    let kept = StoredBound::new(
-        film,
-        kind,
-        |q, need| static_reach(film, tables, kind, Mask(q), need),
-    );
-    Some(kept.at(set))
+    Some(bound_of::<Brand>(film, tables, kind, set))
+}
+
+fn bound_of<N: Bounded>(film: &Film, tables: &BoundTables, kind: Kind, set: Mask) -> u64
+    requires film { film.now ≡ N.film }
+    requires kind { kind ≡ N.kind }
+    requires tables { AreTables film.now tables.now }
+    requires lies { LiesIn N.film set.0 }
+{
+    let bounds: FilmBounds<N> = FilmBounds::new(film, tables, kind);
+    bounds.whole(set)
 }

@@ -1,7 +1,6 @@
 // Shared stores of the bounds of the triangle: a film of three scenes and three actors, with two actors in each scene.
 ghost use Rattle.std.specs.Prelude.{◌≡◌};
 ghost use Rattle.strip_film.specs.Film.{LiesIn};
-ghost use Rattle.strip_bound.specs.StoredBound.{Keeps};
 ghost use Rattle.strip_bound.specs.Tables.{AreTables};
 
 use crate::cases::film_of;
@@ -12,10 +11,10 @@ use std::sync::atomic::{AtomicU64, Ordering};
 use std::test::Fail;
 use std::thread;
 use std::thread::Threads;
-use strip_bound::{BoundTables, StoredBound, static_bound, static_reach};
+use strip_bound::{BoundTables, Bounded, Bounds, FilmBounds, Room, static_bound};
 use strip_film::Film;
 use strip_mask::Mask;
-use strip_memo::{Bounded, Store};
+use strip_memo::{Shared, Store};
 use strip_model::Kind;
 
 fn triangle(alloc: Global) -> Result<Film, Fail> {
@@ -36,50 +35,79 @@ fn all_of(film: &Film) -> Mask
     film.all()
 }
 
+/// A source of bounds that counts how often it is asked.
+#[derive(Drop)]
+struct Counted<'b, B: Bounds> {
+    bounds: &'b B,
+    times: AtomicU64,
+}
+
+impl<'b, B: Bounds> Bounds for Counted<'b, B> {
+    ghost film = { B.film };
+
+    ghost kind = { B.kind };
+
+    fn film(&self) -> &Film {
+        self.bounds.film()
+    }
+
+    fn kind(&self) -> Kind {
+        self.bounds.kind()
+    }
+
+    fn reach(&self, q: Mask, need: u64, room: &mut Room) -> u64 {
+        self.times.fetch_add(1, Ordering::SeqCst);
+        self.bounds.reach(q, need, room)
+    }
+}
+
 /// Returns a store's answers for the set of all scenes, if it is asked for 1, for the bound, and for 1 again.
-fn asked_thrice<R: Wait, N: Bounded, F: Fn(u64, u64) -> u64>(
+fn asked_thrice<R: Wait, N: Bounded, B: Bounds>(
     rt: &R,
     alloc: Global,
-    bounds: &StoredBound<F>,
+    bounds: &B,
 ) -> Result<[u64; 3], Fail>
-    requires kind { bounds.now.kind ≡ N.kind }
-    requires film { bounds.now.film.now ≡ N.film }
-    requires keeps { Keeps (F.pre bounds.now.f) (F.post bounds.now.f) bounds.now.kind bounds.now.film.now }
+    requires kind { B.kind ≡ N.kind }
+    requires film { B.film ≡ N.film }
 {
-    let store: Store<N> = Store::new(alloc, bounds)?;
+    let store: Store<N> = Store::new(alloc, bounds.kind(), bounds.film().scenes())?;
+    let shared = Shared::new(rt, &store, bounds);
     let all = all_of(bounds.film());
-    let first = store.reach(rt, bounds, all, 1);
-    let whole = store.reach(rt, bounds, all, u64::MAX);
-    Ok([first, whole, store.reach(rt, bounds, all, 1)])
+    let mut room = Room::new();
+    let first = shared.reach(all, 1, &mut room);
+    let whole = shared.reach(all, u64::MAX, &mut room);
+    Ok([first, whole, shared.reach(all, 1, &mut room)])
 }
 
 /// Returns how often a store of this kind computes the bound if it is asked three times, or none if an answer is wrong.
 fn times_asked<R: Wait>(rt: &R, alloc: Global, kind: Kind) -> Result<Option<u64>, Fail> {
     let film = triangle(alloc)?;
     let tables = BoundTables::of(alloc, &film)?;
-    times_asked_of(rt, alloc, &film, &tables, kind)
+    times_asked_of::<R, Brand>(rt, alloc, &film, &tables, kind)
 }
 
-fn times_asked_of<R: Wait>(
+fn times_asked_of<R: Wait, N: Bounded>(
     rt: &R,
     alloc: Global,
     film: &Film,
     tables: &BoundTables,
     kind: Kind,
 ) -> Result<Option<u64>, Fail>
-    requires { AreTables film.now tables.now }
+    requires film { film.now ≡ N.film }
+    requires kind { kind ≡ N.kind }
+    requires tables { AreTables film.now tables.now }
 {
-    let times = AtomicU64::new(0);
-    let bounds = StoredBound::new(film, kind, |q, need| {
-        times.fetch_add(1, Ordering::SeqCst);
-        static_reach(film, tables, kind, Mask(q), need)
-    });
-    let [first, whole, again] = asked_thrice::<R, Brand, _>(rt, alloc, &bounds)?;
+    let bounds: FilmBounds<N> = FilmBounds::new(film, tables, kind);
+    let counted = Counted {
+        bounds: &bounds,
+        times: AtomicU64::new(0),
+    };
+    let [first, whole, again] = asked_thrice::<R, N, _>(rt, alloc, &counted)?;
     let bound = static_bound(film, tables, kind, all_of(film));
     if first == 0 || first > bound || whole != bound || again > bound {
         return Ok(None);
     }
-    Ok(Some(times.load(Ordering::SeqCst)))
+    Ok(Some(counted.times.load(Ordering::SeqCst)))
 }
 
 #[test]
@@ -91,44 +119,38 @@ fn a_bound_is_worked_out_once(rt: HostRuntime) -> Result<(), Fail> {
     Ok(())
 }
 
-/// Returns the answers of a stored bound for a set, with one thread for each of these requests.
-fn reached<R: Threads + Wait + Sync, F: Fn(u64, u64) -> u64 + Sync>(
+/// Returns the answers of a source of bounds for a set, with one thread for each of these requests.
+fn reached<R: Threads + Wait + Sync, B: Bounds + Sync>(
     rt: &R,
-    bounds: &StoredBound<F>,
+    bounds: &B,
     set: Mask,
     needs: Vec<u64>,
 ) -> Result<Vec<u64>, Fail>
-    requires keeps { Keeps (F.pre bounds.now.f) (F.post bounds.now.f) bounds.now.kind bounds.now.film.now }
-    requires lies { LiesIn bounds.now.film.now set.0 }
+    requires lies { LiesIn B.film set.0 }
 {
     let all = thread::map_vec(
         rt,
         needs,
         &|need: u64| -> u64
-            requires { Keeps (F.pre bounds.now.f) (F.post bounds.now.f) bounds.now.kind bounds.now.film.now
-                × LiesIn bounds.now.film.now set.0 }
-        { bounds.reach(set, need) },
+            requires { LiesIn B.film set.0 }
+        { bounds.reach(set, need, &mut Room::new()) },
     )?;
     Ok(all)
 }
 
 /// Returns the answers for the set of all scenes, if the threads share a store.
-fn reached_by_store<
-    R: Threads + Wait + Sync,
-    N: Bounded + Send + Sync,
-    F: Fn(u64, u64) -> u64 + Sync,
->(rt: &R, alloc: Global, bounds: &StoredBound<F>, needs: Vec<u64>) -> Result<Vec<u64>, Fail>
-    requires kind { bounds.now.kind ≡ N.kind }
-    requires film { bounds.now.film.now ≡ N.film }
-    requires keeps { Keeps (F.pre bounds.now.f) (F.post bounds.now.f) bounds.now.kind bounds.now.film.now }
+fn reached_by_store<R: Threads + Wait + Sync, N: Bounded + Send + Sync, B: Bounds + Sync>(
+    rt: &R,
+    alloc: Global,
+    bounds: &B,
+    needs: Vec<u64>,
+) -> Result<Vec<u64>, Fail>
+    requires kind { B.kind ≡ N.kind }
+    requires film { B.film ≡ N.film }
 {
-    let store: Store<N> = Store::new(alloc, bounds)?;
-    let stored = StoredBound::new(
-        bounds.film(),
-        bounds.kind(),
-        |q, need| store.reach(rt, bounds, Mask(q), need),
-    );
-    reached(rt, &stored, all_of(bounds.film()), needs)
+    let store: Store<N> = Store::new(alloc, bounds.kind(), bounds.film().scenes())?;
+    let shared = Shared::new(rt, &store, bounds);
+    reached(rt, &shared, all_of(bounds.film()), needs)
 }
 
 #[test]
@@ -141,25 +163,23 @@ fn workers_share_a_store(rt: HostRuntime) -> Result<(), Fail> {
 fn is_shared<R: Threads + Wait + Sync>(rt: &R, alloc: Global) -> Result<bool, Fail> {
     let film = triangle(alloc)?;
     let tables = BoundTables::of(alloc, &film)?;
-    is_shared_of(rt, alloc, &film, &tables)
+    is_shared_of::<R, Brand>(rt, alloc, &film, &tables, Kind::Arrivals)
 }
 
-fn is_shared_of<R: Threads + Wait + Sync>(
+fn is_shared_of<R: Threads + Wait + Sync, N: Bounded + Send + Sync>(
     rt: &R,
     alloc: Global,
     film: &Film,
     tables: &BoundTables,
+    kind: Kind,
 ) -> Result<bool, Fail>
-    requires { AreTables film.now tables.now }
+    requires film { film.now ≡ N.film }
+    requires kind { kind ≡ N.kind }
+    requires tables { AreTables film.now tables.now }
 {
-    let kind = Kind::Arrivals;
-    let bounds = StoredBound::new(
-        film,
-        kind,
-        |q, need| static_reach(film, tables, kind, Mask(q), need),
-    );
+    let bounds: FilmBounds<N> = FilmBounds::new(film, tables, kind);
     let needs = Vec::from_slice(alloc, &[u64::MAX, 12, u64::MAX, 1])?;
-    let all = reached_by_store::<R, Brand, _>(rt, alloc, &bounds, needs)?;
+    let all = reached_by_store::<R, N, _>(rt, alloc, &bounds, needs)?;
     Ok(are_reached(&all, static_bound(film, tables, kind, all_of(film))))
 }
 

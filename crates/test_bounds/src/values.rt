@@ -3,10 +3,9 @@ ghost use Rattle.std.specs.Prelude.{◌≡◌, ℕ, ◌<◌, ◌≤◌, All, IsT
 ghost use Rattle.strip_mask.specs.Set.{has};
 
 use std::alloc::Global;
-use strip_arrivals::ArrivalsTable;
+use strip_arrivals::{ArrivalsTable, Room};
 use strip_io::Memory;
 use strip_mask::Mask;
-use strip_sets::{BySet, SixPlaces};
 
 /// Returns the value of the group and its newcomers on the set, if the film, the group and the newcomers keep the
 /// limits.
@@ -36,7 +35,7 @@ pub(crate) fn value_of(
         return Ok(None);
     }
     let table = ArrivalsTable::of(alloc, casts, days, holds)?;
-    let mut room = [SixPlaces::all(0); 224];
+    let mut room = Room::new();
     Ok(Some(table.value(set, group, newcomers, &mut room)))
 }
 

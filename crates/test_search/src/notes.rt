@@ -1,20 +1,21 @@
 // Savings of the transposition table: a search without its entries makes more lines.
+ghost use Rattle.std.specs.Prelude.{◌≡◌};
 ghost use Rattle.strip_film.specs.Path.{IsComplete};
 ghost use Rattle.strip_film.specs.Shown.{path_data};
-ghost use Rattle.strip_bound.specs.StoredBound.{Keeps};
+ghost use Rattle.strip_bound.specs.Tables.{AreTables};
 
 use crate::films::eight;
 use crate::forgetful::Forgetful;
 use crate::searched::searched_by;
 use crate::walks::search;
 use std::alloc::Global;
+use std::marker::Brand;
 use std::test::Fail;
-use strip_bound::{BoundTables, StoredBound, static_reach};
+use strip_bound::{BoundTables, Bounded, Bounds, FilmBounds};
 use strip_film::{Film, Path};
 use strip_front::laws::tasks_are_starts;
 use strip_front::make_front;
 use strip_hand::Limits;
-use strip_mask::Mask;
 use strip_model::Kind;
 use strip_start::{greedy, improve};
 use strip_world::World;
@@ -33,13 +34,8 @@ const CAP: u32 = 10_000;
 const ENTRIES: u32 = 65_536;
 
 /// Runs a search that drops its notes (table entries).
-fn without_notes<F: Fn(u64, u64) -> u64>(
-    alloc: Global,
-    bounds: &StoredBound<F>,
-    start: &Path,
-) -> Result<Outcome, Fail>
-    requires keeps { Keeps (F.pre bounds.now.f) (F.post bounds.now.f) bounds.now.kind bounds.now.film.now }
-    requires start { IsComplete bounds.now.film.now (path_data start.now) }
+fn without_notes<B: Bounds>(alloc: Global, bounds: &B, start: &Path) -> Result<Outcome, Fail>
+    requires start { IsComplete B.film (path_data start.now) }
 {
     let film = bounds.film();
     film.keeps_limits();
@@ -64,13 +60,8 @@ fn without_notes<F: Fn(u64, u64) -> u64>(
 }
 
 /// Runs a search with notes.
-fn with_notes<F: Fn(u64, u64) -> u64>(
-    alloc: Global,
-    bounds: &StoredBound<F>,
-    start: &Path,
-) -> Result<Outcome, Fail>
-    requires keeps { Keeps (F.pre bounds.now.f) (F.post bounds.now.f) bounds.now.kind bounds.now.film.now }
-    requires start { IsComplete bounds.now.film.now (path_data start.now) }
+fn with_notes<B: Bounds>(alloc: Global, bounds: &B, start: &Path) -> Result<Outcome, Fail>
+    requires start { IsComplete B.film (path_data start.now) }
 {
     let ended = searched_by(alloc, bounds, start, CAP, ENTRIES)?;
     Ok(Outcome {
@@ -84,9 +75,20 @@ fn with_notes<F: Fn(u64, u64) -> u64>(
 /// first.
 fn both(alloc: Global, film: &Film, kind: Kind) -> Result<[Outcome; 2], Fail> {
     let tables = BoundTables::of(alloc, film)?;
-    let bounds = StoredBound::new(film, kind, |q, need| {
-        static_reach(film, &tables, kind, Mask(q), need)
-    });
+    both_by::<Brand>(alloc, film, &tables, kind)
+}
+
+fn both_by<N: Bounded>(
+    alloc: Global,
+    film: &Film,
+    tables: &BoundTables,
+    kind: Kind,
+) -> Result<[Outcome; 2], Fail>
+    requires film { film.now ≡ N.film }
+    requires kind { kind ≡ N.kind }
+    requires tables { AreTables film.now tables.now }
+{
+    let bounds: FilmBounds<N> = FilmBounds::new(film, tables, kind);
     let start = improve(film, &greedy(film));
     let noting = with_notes(alloc, &bounds, &start)?;
     let forgetful = without_notes(alloc, &bounds, &start)?;

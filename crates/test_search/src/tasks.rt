@@ -1,14 +1,14 @@
 // The tasks (subproblems) of a film's search.
-ghost use Rattle.std.specs.Prelude.{◌≤◌};
-ghost use Rattle.strip_bound.specs.StoredBound.{Keeps};
+ghost use Rattle.std.specs.Prelude.{◌≡◌, ◌≤◌};
+ghost use Rattle.strip_bound.specs.Tables.{AreTables};
 
 use crate::films::{film, ring};
 use std::alloc::Global;
+use std::marker::Brand;
 use std::test::Fail;
-use strip_bound::{BoundTables, StoredBound, static_reach};
+use strip_bound::{BoundTables, Bounded, FilmBounds};
 use strip_film::Film;
 use strip_front::{Front, make_front};
-use strip_mask::Mask;
 use strip_model::Kind;
 
 /// Tells whether the front's tasks are the paths of these scenes, in this order.
@@ -36,22 +36,24 @@ fn has_tasks(
     requires { (2 ≤ most) × (most ≤ 4) }
 {
     let tables = BoundTables::of(alloc, film)?;
-    let bounds = StoredBound::new(film, kind, |q, need| {
-        static_reach(film, &tables, kind, Mask(q), need)
-    });
-    makes_tasks(alloc, &bounds, most, scenes)
+    makes_tasks::<Brand>(alloc, film, &tables, kind, most, scenes)
 }
 
-fn makes_tasks<F: Fn(u64, u64) -> u64>(
+fn makes_tasks<N: Bounded>(
     alloc: Global,
-    bounds: &StoredBound<F>,
+    film: &Film,
+    tables: &BoundTables,
+    kind: Kind,
     most: usize,
     scenes: &[&[u8]],
 ) -> Result<bool, Fail>
-    requires keeps { Keeps (F.pre bounds.now.f) (F.post bounds.now.f) bounds.now.kind bounds.now.film.now }
+    requires film { film.now ≡ N.film }
+    requires kind { kind ≡ N.kind }
+    requires tables { AreTables film.now tables.now }
     requires most { (2 ≤ most) × (most ≤ 4) }
 {
-    let front = make_front(alloc, bounds, most)?;
+    let bounds: FilmBounds<N> = FilmBounds::new(film, tables, kind);
+    let front = make_front(alloc, &bounds, most)?;
     Ok(are_along(&front, scenes))
 }
 

@@ -1,14 +1,14 @@
 // Lines of films, trimmed by hand.
 ghost use Rattle.std.specs.Prelude.{◌≡◌, IfOk};
-ghost use Rattle.strip_bound.specs.StoredBound.{Keeps};
+ghost use Rattle.strip_bound.specs.Tables.{AreTables};
 ghost use Rattle.strip_lines.specs.Lines.{AreJustified, rules_of};
 ghost use Rattle.test_search.specs.Worked.{ring, triangle};
 
 use std::alloc::Global;
+use std::marker::Brand;
 use std::test::Fail;
-use strip_bound::{BoundTables, StoredBound, static_reach};
+use strip_bound::{BoundTables, Bounded, FilmBounds};
 use strip_film::{Film, Line};
-use strip_mask::Mask;
 use strip_memo::Memo;
 use strip_model::Kind;
 use strip_trim::trim;
@@ -39,24 +39,24 @@ fn trimmed(alloc: Global, film: &Film, kind: Kind, lines: &[Line]) -> Result<Vec
     requires { AreJustified (rules_of kind film.now) lines.now }
 {
     let tables = BoundTables::of(alloc, film)?;
-    let bounds = StoredBound::new(
-        film,
-        kind,
-        |q, need| static_reach(film, &tables, kind, Mask(q), need),
-    );
-    trimmed_by(alloc, &bounds, lines)
+    trimmed_by::<Brand>(alloc, film, &tables, kind, lines)
 }
 
-fn trimmed_by<F: Fn(u64, u64) -> u64>(
+fn trimmed_by<N: Bounded>(
     alloc: Global,
-    bounds: &StoredBound<F>,
+    film: &Film,
+    tables: &BoundTables,
+    kind: Kind,
     lines: &[Line],
 ) -> Result<Vec<Line>, Fail>
-    requires keeps { Keeps (F.pre bounds.now.f) (F.post bounds.now.f) bounds.now.kind bounds.now.film.now }
-    requires lines { AreJustified (rules_of bounds.now.kind bounds.now.film.now) lines.now }
+    requires film { film.now ≡ N.film }
+    requires kind { kind ≡ N.kind }
+    requires tables { AreTables film.now tables.now }
+    requires lines { AreJustified (rules_of N.kind N.film) lines.now }
 {
-    let mut memo = Memo::new(alloc, bounds)?;
-    let lines = trim(alloc, bounds, &mut memo, lines)?;
+    let bounds: FilmBounds<N> = FilmBounds::new(film, tables, kind);
+    let mut memo = Memo::new(alloc, &bounds)?;
+    let lines = trim(alloc, &bounds, &mut memo, lines)?;
     Ok(lines)
 }
 

@@ -1,17 +1,15 @@
 // A search through a hand: down the front, then its tasks as they are claimed, then up the front.
 ghost use Rattle.std.specs.Prelude.{◌≡◌, IfOk, Some};
-ghost use Rattle.strip_bound.specs.StoredBound.{Keeps};
 ghost use Rattle.strip_lines.specs.Lines.{rules_of};
 ghost use Rattle.strip_front.specs.Front.{IsEmptyFront};
 ghost use Rattle.strip_front.specs.Shown.{front_data};
 ghost use Rattle.strip_hand.specs.Calls.{Claims};
 ghost use Rattle.strip_hand.specs.Hand.{IsSearchOf};
 ghost use Rattle.test_search.specs.Way.{IsOnItsWay};
-ghost use Rattle.strip_memo.specs.Memo.{IsMemo};
 
 use std::alloc::Global;
 use std::test::Fail;
-use strip_bound::StoredBound;
+use strip_bound::Bounds;
 use strip_film::{Cursor, Running};
 use strip_front::{Front, close_up, go_down};
 use strip_hand::Hand;
@@ -19,17 +17,16 @@ use strip_memo::Memo;
 use strip_walk::explore;
 
 /// Searches through a hand of a search in which nothing was claimed yet, and returns the resulting bound.
-pub(crate) fn search<H: Hand, F: Fn(u64, u64) -> u64>(
+pub(crate) fn search<H: Hand, B: Bounds>(
     alloc: Global,
-    bounds: &StoredBound<F>,
+    bounds: &B,
     hand: &mut H,
     front: &mut Front,
 ) -> Result<u64, Fail>
     requires sound { H.is_sound hand.old }
-    requires keeps { Keeps (F.pre bounds.now.f) (F.post bounds.now.f) bounds.now.kind bounds.now.film.now }
-    requires search { IsSearchOf bounds.now.kind bounds.now.film.now (H.shows hand.old) }
+    requires search { IsSearchOf B.kind B.film (H.shows hand.old) }
     requires tasks { (H.shows hand.old).search.tasks ≡ (front_data front.old).tasks }
-    requires front { IsEmptyFront (rules_of bounds.now.kind bounds.now.film.now) (front_data front.old) }
+    requires front { IsEmptyFront (rules_of B.kind B.film) (front_data front.old) }
     ensures sound { H.is_sound hand.new }
     ensures home { H.home hand.new ≡ H.home hand.old }
 {
@@ -40,20 +37,19 @@ pub(crate) fn search<H: Hand, F: Fn(u64, u64) -> u64>(
 }
 
 /// Claims the front and goes down it. No task has a result yet.
-fn begin<H: Hand, F: Fn(u64, u64) -> u64>(
+fn begin<H: Hand, B: Bounds>(
     alloc: Global,
-    bounds: &StoredBound<F>,
+    bounds: &B,
     hand: &mut H,
     front: &mut Front,
 ) -> Result<Vec<u64>, Fail>
     requires sound { H.is_sound hand.old }
-    requires keeps { Keeps (F.pre bounds.now.f) (F.post bounds.now.f) bounds.now.kind bounds.now.film.now }
-    requires search { IsSearchOf bounds.now.kind bounds.now.film.now (H.shows hand.old) }
+    requires search { IsSearchOf B.kind B.film (H.shows hand.old) }
     requires tasks { (H.shows hand.old).search.tasks ≡ (front_data front.old).tasks }
-    requires front { IsEmptyFront (rules_of bounds.now.kind bounds.now.film.now) (front_data front.old) }
+    requires front { IsEmptyFront (rules_of B.kind B.film) (front_data front.old) }
     ensures sound { H.is_sound hand.new }
     ensures home { H.home hand.new ≡ H.home hand.old }
-    ensures way { IfOk result (λ found. IsOnItsWay bounds.now.kind bounds.now.film.now (H.shows hand.new)
+    ensures way { IfOk result (λ found. IsOnItsWay B.kind B.film (H.shows hand.new)
         (front_data front.new) found.items) }
 {
     let part = claimed(hand)?;
@@ -79,20 +75,19 @@ fn claimed<H: Hand>(hand: &mut H) -> Result<u32, Fail>
 }
 
 /// Claims as many parts as there are tasks, and walks each wanted task.
-fn take_tasks<H: Hand, F: Fn(u64, u64) -> u64>(
+fn take_tasks<H: Hand, B: Bounds>(
     alloc: Global,
-    bounds: &StoredBound<F>,
+    bounds: &B,
     hand: &mut H,
     front: &Front,
     found: &mut Vec<u64>,
 ) -> Result<(), Fail>
     requires sound { H.is_sound hand.old }
-    requires keeps { Keeps (F.pre bounds.now.f) (F.post bounds.now.f) bounds.now.kind bounds.now.film.now }
-    requires way { IsOnItsWay bounds.now.kind bounds.now.film.now (H.shows hand.old)
+    requires way { IsOnItsWay B.kind B.film (H.shows hand.old)
         (front_data front.now) found.old.items }
     ensures sound { H.is_sound hand.new }
     ensures home { H.home hand.new ≡ H.home hand.old }
-    ensures way { IfOk result (λ _. IsOnItsWay bounds.now.kind bounds.now.film.now (H.shows hand.new)
+    ensures way { IfOk result (λ _. IsOnItsWay B.kind B.film (H.shows hand.new)
         (front_data front.now) found.new.items) }
 {
     let mut memo = Memo::new(alloc, bounds)?;
@@ -103,22 +98,19 @@ fn take_tasks<H: Hand, F: Fn(u64, u64) -> u64>(
 }
 
 /// Claims a task, and walks it if it is wanted.
-fn take_task<H: Hand, F: Fn(u64, u64) -> u64>(
-    bounds: &StoredBound<F>,
+fn take_task<H: Hand, B: Bounds>(
+    bounds: &B,
     hand: &mut H,
     front: &Front,
     found: &mut Vec<u64>,
-    memo: &mut Memo,
+    memo: &mut Memo<B>,
 ) -> Result<(), Fail>
     requires sound { H.is_sound hand.old }
-    requires keeps { Keeps (F.pre bounds.now.f) (F.post bounds.now.f) bounds.now.kind bounds.now.film.now }
-    requires way { IsOnItsWay bounds.now.kind bounds.now.film.now (H.shows hand.old)
+    requires way { IsOnItsWay B.kind B.film (H.shows hand.old)
         (front_data front.now) found.old.items }
-    requires memo { IsMemo bounds.now.kind bounds.now.film.now memo.old }
     ensures sound { H.is_sound hand.new }
     ensures home { H.home hand.new ≡ H.home hand.old }
-    ensures memo { IsMemo bounds.now.kind bounds.now.film.now memo.new }
-    ensures way { IfOk result (λ _. IsOnItsWay bounds.now.kind bounds.now.film.now (H.shows hand.new)
+    ensures way { IfOk result (λ _. IsOnItsWay B.kind B.film (H.shows hand.new)
         (front_data front.now) found.new.items) }
 {
     bounds.film().keeps_limits();

@@ -1,39 +1,33 @@
 // Worlds (search states) of small films: the replies to a run of events, and events that aren't allowed. In the
 // triangle each of three scenes has two of three actors. Its tasks are the paths of the scenes 0 and 1, of 0 and 2, and
 // of 2 and 1. Each of its orders costs 13 or 14. All numbers are worked by hand.
-ghost use Rattle.std.specs.Prelude.{◌≤◌, IfOk};
+ghost use Rattle.std.specs.Prelude.{◌≡◌, ◌≤◌, IfOk};
 ghost use Rattle.strip_film.specs.Path.{IsComplete};
 ghost use Rattle.strip_film.specs.Shown.{path_data};
-ghost use Rattle.strip_bound.specs.StoredBound.{Keeps};
+ghost use Rattle.strip_bound.specs.Tables.{AreTables};
 ghost use Rattle.strip_hand.specs.Search.{GoesBy};
 ghost use Rattle.strip_world.specs.Sound.{IsSound};
 
 use crate::films::{film, plain_triangle, triangle};
 use crate::paths::path;
 use std::alloc::Global;
+use std::marker::Brand;
 use std::test::Fail;
-use strip_bound::{BoundTables, StoredBound, static_reach};
+use strip_bound::{BoundTables, Bounded, Bounds, FilmBounds};
 use strip_film::{Film, Known, Line, Listed, Noted, Path, Probe};
 use strip_front::laws::tasks_are_starts;
 use strip_front::make_front;
 use strip_hand::Limits;
-use strip_mask::Mask;
 use strip_model::Kind;
 use strip_start::greedy;
 use strip_world::laws::what_was_seen_stays_true;
 use strip_world::{Event, Reply, World};
 
-fn world<F: Fn(u64, u64) -> u64>(
-    alloc: Global,
-    bounds: &StoredBound<F>,
-    start: &Path,
-    nodes: u32,
-) -> Result<World, Fail>
-    requires keeps { Keeps (F.pre bounds.now.f) (F.post bounds.now.f) bounds.now.kind bounds.now.film.now }
-    requires start { IsComplete bounds.now.film.now (path_data start.now) }
+fn world<B: Bounds>(alloc: Global, bounds: &B, start: &Path, nodes: u32) -> Result<World, Fail>
+    requires start { IsComplete B.film (path_data start.now) }
     requires nodes { (1 ≤ nodes) × (nodes ≤ 16777216) }
     ensures sound { IfOk result IsSound }
-    ensures search { IfOk result (λ world. GoesBy bounds.now.kind bounds.now.film.now world.search) }
+    ensures search { IfOk result (λ world. GoesBy B.kind B.film world.search) }
 {
     let film = bounds.film();
     film.keeps_limits();
@@ -60,16 +54,11 @@ fn order(film: &Film, scenes: &[u32]) -> Result<Path, Fail>
 }
 
 /// Returns the reply to an event, or none if the event isn't allowed.
-fn reply<F: Fn(u64, u64) -> u64>(
-    bounds: &StoredBound<F>,
-    world: &mut World,
-    event: &Event,
-) -> Option<Reply>
+fn reply<B: Bounds>(bounds: &B, world: &mut World, event: &Event) -> Option<Reply>
     requires sound { IsSound world.old }
-    requires keeps { Keeps (F.pre bounds.now.f) (F.post bounds.now.f) bounds.now.kind bounds.now.film.now }
-    requires search { GoesBy bounds.now.kind bounds.now.film.now world.old.search }
+    requires search { GoesBy B.kind B.film world.old.search }
     ensures sound { IsSound world.new }
-    ensures search { GoesBy bounds.now.kind bounds.now.film.now world.new.search }
+    ensures search { GoesBy B.kind B.film world.new.search }
 {
     what_was_seen_stays_true();
     if world.allows(bounds, event) {
@@ -88,16 +77,11 @@ fn known(line: u32, set: u64, bound: u64) -> Known {
 struct Step(Event, Option<Reply>);
 
 /// Tells whether the events get these replies in turn.
-fn are_replied<F: Fn(u64, u64) -> u64>(
-    bounds: &StoredBound<F>,
-    world: &mut World,
-    steps: &[Step],
-) -> bool
+fn are_replied<B: Bounds>(bounds: &B, world: &mut World, steps: &[Step]) -> bool
     requires sound { IsSound world.old }
-    requires keeps { Keeps (F.pre bounds.now.f) (F.post bounds.now.f) bounds.now.kind bounds.now.film.now }
-    requires search { GoesBy bounds.now.kind bounds.now.film.now world.old.search }
+    requires search { GoesBy B.kind B.film world.old.search }
     ensures sound { IsSound world.new }
-    ensures search { GoesBy bounds.now.kind bounds.now.film.now world.new.search }
+    ensures search { GoesBy B.kind B.film world.new.search }
 {
     for Step(event, expected) in steps {
         if reply(bounds, world, event) != *expected {
@@ -156,24 +140,14 @@ fn nine_steps(start: Path) -> [Step; 9] {
 }
 
 // A run takes the eight allowed events, and stops at the ninth.
-fn runs_eight_of_nine<F: Fn(u64, u64) -> u64>(
-    alloc: Global,
-    bounds: &StoredBound<F>,
-) -> Result<bool, Fail>
-    requires { Keeps (F.pre bounds.now.f) (F.post bounds.now.f) bounds.now.kind bounds.now.film.now }
-{
+fn runs_eight_of_nine<B: Bounds>(alloc: Global, bounds: &B) -> Result<bool, Fail> {
     let film = bounds.film();
     let mut world = world(alloc, bounds, &order(film, &[0, 1, 2])?, 1)?;
     let count = world.run(bounds, &nine_events(Path::start(film)));
     Ok(count == 8 && has_line_of_13(&world))
 }
 
-fn replies_to_nine_events<F: Fn(u64, u64) -> u64>(
-    alloc: Global,
-    bounds: &StoredBound<F>,
-) -> Result<bool, Fail>
-    requires { Keeps (F.pre bounds.now.f) (F.post bounds.now.f) bounds.now.kind bounds.now.film.now }
-{
+fn replies_to_nine_events<B: Bounds>(alloc: Global, bounds: &B) -> Result<bool, Fail> {
     let film = bounds.film();
     let mut world = world(alloc, bounds, &order(film, &[0, 1, 2])?, 1)?;
     let steps = nine_steps(Path::start(film));
@@ -185,12 +159,7 @@ fn has_line_of_13(world: &World) -> bool {
 }
 
 // The first scene pays 3, and finishing costs at least 10: the sum reaches 13, the cost that was told.
-fn rules_out_by_its_bound<F: Fn(u64, u64) -> u64>(
-    alloc: Global,
-    bounds: &StoredBound<F>,
-) -> Result<bool, Fail>
-    requires { Keeps (F.pre bounds.now.f) (F.post bounds.now.f) bounds.now.kind bounds.now.film.now }
-{
+fn rules_out_by_its_bound<B: Bounds>(alloc: Global, bounds: &B) -> Result<bool, Fail> {
     let film = bounds.film();
     let mut world = world(alloc, bounds, &greedy(film), 9)?;
     reply(bounds, &mut world, &Event::Claim { who: 0 });
@@ -198,12 +167,7 @@ fn rules_out_by_its_bound<F: Fn(u64, u64) -> u64>(
     Ok(!world.allows(bounds, &enlist(0, 0, path(film, &[0])?)))
 }
 
-fn are_as_worked_by_pairs<F: Fn(u64, u64) -> u64>(
-    alloc: Global,
-    bounds: &StoredBound<F>,
-) -> Result<bool, Fail>
-    requires { Keeps (F.pre bounds.now.f) (F.post bounds.now.f) bounds.now.kind bounds.now.film.now }
-{
+fn are_as_worked_by_pairs<B: Bounds>(alloc: Global, bounds: &B) -> Result<bool, Fail> {
     Ok(
         replies_to_nine_events(alloc, bounds)?
             && runs_eight_of_nine(alloc, bounds)?
@@ -211,27 +175,51 @@ fn are_as_worked_by_pairs<F: Fn(u64, u64) -> u64>(
     )
 }
 
+/// What is tried in worlds of a film.
+#[derive(Clone, Copy, Debug)]
+enum Trial {
+    Pairs,
+    PlainBounds,
+    Ranks,
+    OpenPaths,
+}
+
+/// Tells whether worlds of the film, with static bounds of this kind, pass the trial.
+fn passes(alloc: Global, film: &Film, kind: Kind, trial: Trial) -> Result<bool, Fail> {
+    let tables = BoundTables::of(alloc, film)?;
+    passes_by::<Brand>(alloc, film, &tables, kind, trial)
+}
+
+fn passes_by<N: Bounded>(
+    alloc: Global,
+    film: &Film,
+    tables: &BoundTables,
+    kind: Kind,
+    trial: Trial,
+) -> Result<bool, Fail>
+    requires film { film.now ≡ N.film }
+    requires kind { kind ≡ N.kind }
+    requires tables { AreTables film.now tables.now }
+{
+    let bounds: FilmBounds<N> = FilmBounds::new(film, tables, kind);
+    match trial {
+        Trial::Pairs => are_as_worked_by_pairs(alloc, &bounds),
+        Trial::PlainBounds => are_as_worked_by_plain_bounds(alloc, &bounds),
+        Trial::Ranks => enlists_by_rank(alloc, &bounds),
+        Trial::OpenPaths => lets_open_paths_through(alloc, &bounds),
+    }
+}
+
 #[test]
 fn worlds_by_pairs(rt: HostRuntime) -> Result<(), Fail> {
     let alloc = rt.alloc();
     let film = plain_triangle(alloc)?;
-    let tables = BoundTables::of(alloc, &film)?;
-    let bounds = StoredBound::new(
-        &film,
-        Kind::Pairs,
-        |q, need| static_reach(&film, &tables, Kind::Pairs, Mask(q), need),
-    );
-    assert!(&rt; are_as_worked_by_pairs(alloc, &bounds)?);
+    assert!(&rt; passes(alloc, &film, Kind::Pairs, Trial::Pairs)?);
     Ok(())
 }
 
 // With at most one line, the second is refused. These events follow the first four.
-fn spends_its_lines<F: Fn(u64, u64) -> u64>(
-    alloc: Global,
-    bounds: &StoredBound<F>,
-) -> Result<bool, Fail>
-    requires { Keeps (F.pre bounds.now.f) (F.post bounds.now.f) bounds.now.kind bounds.now.film.now }
-{
+fn spends_its_lines<B: Bounds>(alloc: Global, bounds: &B) -> Result<bool, Fail> {
     let film = bounds.film();
     let mut world = world(alloc, bounds, &order(film, &[0, 1, 2])?, 1)?;
     let [look, front, task, whole, ..] = nine_events(Path::start(film));
@@ -249,12 +237,11 @@ fn spends_its_lines<F: Fn(u64, u64) -> u64>(
 }
 
 /// Takes the events that are allowed.
-fn take_all<F: Fn(u64, u64) -> u64>(bounds: &StoredBound<F>, world: &mut World, events: &[Event])
+fn take_all<B: Bounds>(bounds: &B, world: &mut World, events: &[Event])
     requires sound { IsSound world.old }
-    requires keeps { Keeps (F.pre bounds.now.f) (F.post bounds.now.f) bounds.now.kind bounds.now.film.now }
-    requires search { GoesBy bounds.now.kind bounds.now.film.now world.old.search }
+    requires search { GoesBy B.kind B.film world.old.search }
     ensures sound { IsSound world.new }
-    ensures search { GoesBy bounds.now.kind bounds.now.film.now world.new.search }
+    ensures search { GoesBy B.kind B.film world.new.search }
 {
     for event in events {
         reply(bounds, world, event);
@@ -263,10 +250,9 @@ fn take_all<F: Fn(u64, u64) -> u64>(bounds: &StoredBound<F>, world: &mut World, 
 
 // The world of the triangle with plain bounds and an order of cost 14. Worker 0 has claimed the front, and worker 1 the
 // first task. The empty path and that of scene 1 are enlisted, with the bounds 12 and 9.
-fn begun<F: Fn(u64, u64) -> u64>(alloc: Global, bounds: &StoredBound<F>) -> Result<World, Fail>
-    requires keeps { Keeps (F.pre bounds.now.f) (F.post bounds.now.f) bounds.now.kind bounds.now.film.now }
+fn begun<B: Bounds>(alloc: Global, bounds: &B) -> Result<World, Fail>
     ensures sound { IfOk result IsSound }
-    ensures search { IfOk result (λ world. GoesBy bounds.now.kind bounds.now.film.now world.search) }
+    ensures search { IfOk result (λ world. GoesBy B.kind B.film world.search) }
 {
     let film = bounds.film();
     let mut world = world(alloc, bounds, &order(film, &[0, 2, 1])?, 9)?;
@@ -346,14 +332,9 @@ fn unfit(unfinished: Path) -> [Event; 9] {
     ]
 }
 
-fn none_may_come<F: Fn(u64, u64) -> u64>(
-    bounds: &StoredBound<F>,
-    world: &World,
-    events: &[Event],
-) -> bool
+fn none_may_come<B: Bounds>(bounds: &B, world: &World, events: &[Event]) -> bool
     requires sound { IsSound world.now }
-    requires keeps { Keeps (F.pre bounds.now.f) (F.post bounds.now.f) bounds.now.kind bounds.now.film.now }
-    requires search { GoesBy bounds.now.kind bounds.now.film.now world.now.search }
+    requires search { GoesBy B.kind B.film world.now.search }
 {
     for event in events {
         if world.allows(bounds, event) {
@@ -363,12 +344,7 @@ fn none_may_come<F: Fn(u64, u64) -> u64>(
     true
 }
 
-fn refuses_events<F: Fn(u64, u64) -> u64>(
-    alloc: Global,
-    bounds: &StoredBound<F>,
-) -> Result<bool, Fail>
-    requires { Keeps (F.pre bounds.now.f) (F.post bounds.now.f) bounds.now.kind bounds.now.film.now }
-{
+fn refuses_events<B: Bounds>(alloc: Global, bounds: &B) -> Result<bool, Fail> {
     let film = bounds.film();
     let unknown = unknown_workers(greedy(film), path(film, &[1])?);
     let unfit = unfit(path(film, &[0, 1])?);
@@ -390,12 +366,7 @@ static PATHS: [(u32, u32, &'static [u32]); 9] = [
     (1, 1, &[0, 1]),
 ];
 
-fn refuses_paths<F: Fn(u64, u64) -> u64>(
-    alloc: Global,
-    bounds: &StoredBound<F>,
-) -> Result<bool, Fail>
-    requires { Keeps (F.pre bounds.now.f) (F.post bounds.now.f) bounds.now.kind bounds.now.film.now }
-{
+fn refuses_paths<B: Bounds>(alloc: Global, bounds: &B) -> Result<bool, Fail> {
     let world = begun(alloc, bounds)?;
     for (who, task, scenes) in &PATHS {
         let event = enlist(*who, *task, path(bounds.film(), scenes)?);
@@ -406,12 +377,7 @@ fn refuses_paths<F: Fn(u64, u64) -> u64>(
     Ok(true)
 }
 
-fn refuses_paths_of_other_films<F: Fn(u64, u64) -> u64>(
-    alloc: Global,
-    bounds: &StoredBound<F>,
-) -> Result<bool, Fail>
-    requires { Keeps (F.pre bounds.now.f) (F.post bounds.now.f) bounds.now.kind bounds.now.film.now }
-{
+fn refuses_paths_of_other_films<B: Bounds>(alloc: Global, bounds: &B) -> Result<bool, Fail> {
     let other = triangle(alloc, &[1, 2, 4], &[1, 2, 4], &[])?;
     let finished = Event::Offer {
         who: 0,
@@ -424,12 +390,7 @@ fn refuses_paths_of_other_films<F: Fn(u64, u64) -> u64>(
 }
 
 // The path of a task may be enlisted once its remaining set was looked up.
-fn asks_for_a_probe<F: Fn(u64, u64) -> u64>(
-    alloc: Global,
-    bounds: &StoredBound<F>,
-) -> Result<bool, Fail>
-    requires { Keeps (F.pre bounds.now.f) (F.post bounds.now.f) bounds.now.kind bounds.now.film.now }
-{
+fn asks_for_a_probe<B: Bounds>(alloc: Global, bounds: &B) -> Result<bool, Fail> {
     let event = enlist(1, 1, path(bounds.film(), &[0, 1])?);
     let mut world = begun(alloc, bounds)?;
     reply(bounds, &mut world, &Event::Probe { who: 1, set: 2 });
@@ -440,12 +401,7 @@ fn asks_for_a_probe<F: Fn(u64, u64) -> u64>(
     Ok(world.allows(bounds, &event))
 }
 
-fn are_as_worked_by_plain_bounds<F: Fn(u64, u64) -> u64>(
-    alloc: Global,
-    bounds: &StoredBound<F>,
-) -> Result<bool, Fail>
-    requires { Keeps (F.pre bounds.now.f) (F.post bounds.now.f) bounds.now.kind bounds.now.film.now }
-{
+fn are_as_worked_by_plain_bounds<B: Bounds>(alloc: Global, bounds: &B) -> Result<bool, Fail> {
     Ok(
         spends_its_lines(alloc, bounds)?
             && refuses_events(alloc, bounds)?
@@ -459,22 +415,11 @@ fn are_as_worked_by_plain_bounds<F: Fn(u64, u64) -> u64>(
 fn worlds_by_plain_bounds(rt: HostRuntime) -> Result<(), Fail> {
     let alloc = rt.alloc();
     let film = plain_triangle(alloc)?;
-    let tables = BoundTables::of(alloc, &film)?;
-    let bounds = StoredBound::new(
-        &film,
-        Kind::Plain,
-        |q, need| static_reach(&film, &tables, Kind::Plain, Mask(q), need),
-    );
-    assert!(&rt; are_as_worked_by_plain_bounds(alloc, &bounds)?);
+    assert!(&rt; passes(alloc, &film, Kind::Plain, Trial::PlainBounds)?);
     Ok(())
 }
 
-fn lets_open_paths_through<F: Fn(u64, u64) -> u64>(
-    alloc: Global,
-    bounds: &StoredBound<F>,
-) -> Result<bool, Fail>
-    requires { Keeps (F.pre bounds.now.f) (F.post bounds.now.f) bounds.now.kind bounds.now.film.now }
-{
+fn lets_open_paths_through<B: Bounds>(alloc: Global, bounds: &B) -> Result<bool, Fail> {
     let film = bounds.film();
     let closed = enlist(0, 0, path(film, &[2])?);
     let opening = enlist(0, 0, path(film, &[1])?);
@@ -490,12 +435,7 @@ fn listed(line: u32) -> Option<Reply> {
 
 // The ranks of the ring's scenes are 21, 23, 22 and 21. So the front has the paths of the scenes 0, 3, 2 and 1, in this
 // order.
-fn enlists_by_rank<F: Fn(u64, u64) -> u64>(
-    alloc: Global,
-    bounds: &StoredBound<F>,
-) -> Result<bool, Fail>
-    requires { Keeps (F.pre bounds.now.f) (F.post bounds.now.f) bounds.now.kind bounds.now.film.now }
-{
+fn enlists_by_rank<B: Bounds>(alloc: Global, bounds: &B) -> Result<bool, Fail> {
     let film = bounds.film();
     let steps = [
         Step(Event::Claim { who: 0 }, Some(Reply::Task(Some(0)))),
@@ -520,13 +460,7 @@ fn worlds_by_groups(rt: HostRuntime) -> Result<(), Fail> {
         &[1; 4],
         &[4, 3, 2, 1],
     )?;
-    let tables = BoundTables::of(alloc, &film)?;
-    let bounds = StoredBound::new(
-        &film,
-        Kind::Groups,
-        |q, need| static_reach(&film, &tables, Kind::Groups, Mask(q), need),
-    );
-    assert!(&rt; enlists_by_rank(alloc, &bounds)?);
+    assert!(&rt; passes(alloc, &film, Kind::Groups, Trial::Ranks)?);
     Ok(())
 }
 
@@ -535,12 +469,6 @@ fn worlds_by_groups(rt: HostRuntime) -> Result<(), Fail> {
 fn paths_that_are_not_open(rt: HostRuntime) -> Result<(), Fail> {
     let alloc = rt.alloc();
     let film = film(alloc, &[0b01, 0b10, 0b11], &[1, 1, 1], &[10, 20])?;
-    let tables = BoundTables::of(alloc, &film)?;
-    let bounds = StoredBound::new(
-        &film,
-        Kind::Plain,
-        |q, need| static_reach(&film, &tables, Kind::Plain, Mask(q), need),
-    );
-    assert!(&rt; lets_open_paths_through(alloc, &bounds)?);
+    assert!(&rt; passes(alloc, &film, Kind::Plain, Trial::OpenPaths)?);
     Ok(())
 }

@@ -3,10 +3,11 @@
 // bound of the rest is 13. All numbers are worked by hand.
 ghost use Rattle.std.specs.Prelude.{◌≡◌, ℕ, ◌+◌, ◌<◌, ◌≤◌, true, Some, IfOk, IfSome, IsTrue, length};
 ghost use Rattle.strip_mask.specs.Set.{has, without};
+ghost use Rattle.strip_model.specs.declared.kind.Kind.TheVariants.{Pairs};
 ghost use Rattle.strip_film.specs.Film.{LiesIn, all_scenes};
 ghost use Rattle.strip_film.specs.Shoot.{step_cost};
 ghost use Rattle.strip_bound.specs.Bounds.{bound};
-ghost use Rattle.strip_bound.specs.StoredBound.{Keeps};
+ghost use Rattle.strip_bound.specs.Tables.{AreTables};
 ghost use Rattle.strip_rule.specs.Rule.{open_firsts};
 ghost use Rattle.strip_lines.specs.Lines.{line_at};
 ghost use Rattle.strip_hand.specs.Hand.{Knows, no_path_yet};
@@ -20,10 +21,9 @@ use std::marker::Brand;
 use std::sync::Wait;
 use std::test::Fail;
 use strip_book::{Book, BookPass};
-use strip_bound::{BoundTables, StoredBound, static_reach};
+use strip_bound::{BoundTables, Bounded, Bounds, FilmBounds};
 use strip_film::{Film, Known, Line, Listed, Noted, Path, Probe, ready, step};
 use strip_io::Memory;
-use strip_mask::Mask;
 use strip_model::Kind;
 use strip_rule::open_firsts;
 use strip_stripes::{Named, Stripes};
@@ -52,15 +52,14 @@ impl Enlisted {
 
 /// Enlists the empty path in the front, and then the path of scene `first`. It returns none if either isn't allowed, or
 /// the empty path gets no line.
-fn enlist_two<F: Fn(u64, u64) -> u64>(
-    bounds: &StoredBound<F>,
+fn enlist_two<B: Bounds>(
+    bounds: &B,
     book: &Book,
     pass: &mut BookPass,
     first: u32,
 ) -> Option<Enlisted>
-    requires keeps { Keeps (F.pre bounds.now.f) (F.post bounds.now.f) bounds.now.kind bounds.now.film.now }
     requires pass { IsPassOf book.now pass.old }
-    requires goes_by { GoesBy bounds.now.kind bounds.now.film.now (known pass.old).search }
+    requires goes_by { GoesBy B.kind B.film (known pass.old).search }
     requires start { (known pass.old).search.start ≡ 14 }
     requires deep { 2 ≤ depth_of (known pass.old).search }
     requires stands { record_at 0 (known pass.old).entries ≡ Some no_path_yet }
@@ -68,13 +67,13 @@ fn enlist_two<F: Fn(u64, u64) -> u64>(
     ensures weight { (known pass.new).weight ≡ (known pass.old).weight }
     ensures search { (known pass.new).search ≡ (known pass.old).search }
     ensures there { IfSome result (λ two. two.line < length (known pass.new).lines) }
-    ensures made { IfSome result (λ two. (line_at (known pass.new).lines two.line).set ≡ all_scenes bounds.now.film.now) }
+    ensures made { IfSome result (λ two. (line_at (known pass.new).lines two.line).set ≡ all_scenes B.film) }
 {
     let film = bounds.film();
     film.keeps_limits();
-    let whole = Path::start(film);
-    let all = whole.rest();
-    let bound = bounds.at(all);
+    let empty = Path::start(film);
+    let all = empty.rest();
+    let bound = bounds.whole(all);
     if all.is_empty() || bound >= 14 || first >= 64 {
         return None;
     }
@@ -82,12 +81,12 @@ fn enlist_two<F: Fn(u64, u64) -> u64>(
     if !firsts.has(first) || !ready(film, all).has(first) {
         return None;
     }
-    let Listed::Line(line) = pass.enlist(book, 0, &whole, bound) else {
+    let Listed::Line(line) = pass.enlist(book, 0, &empty, bound) else {
         return None;
     };
-    let path = whole.extend(film, first);
+    let path = empty.extend(film, first);
     let rest = path.rest();
-    let later = bounds.at(rest);
+    let later = bounds.whole(rest);
     if rest.is_empty() || path.paid() >= 14 || later >= 14 - path.paid() {
         return None;
     }
@@ -101,21 +100,17 @@ fn enlist_two<F: Fn(u64, u64) -> u64>(
 }
 
 /// Tells whether the step of each open first of all scenes, plus the bound of the rest, reaches the number.
-pub(crate) fn each_first_reaches<F: Fn(u64, u64) -> u64>(
-    bounds: &StoredBound<F>,
-    number: u64,
-) -> bool
-    requires keeps { Keeps (F.pre bounds.now.f) (F.post bounds.now.f) bounds.now.kind bounds.now.film.now }
-    ensures { IsTrue result → (scene : ℕ) → has (open_firsts bounds.now.film.now (all_scenes bounds.now.film.now)) scene
+pub(crate) fn each_first_reaches<B: Bounds>(bounds: &B, number: u64) -> bool
+    ensures { IsTrue result → (scene : ℕ) → has (open_firsts B.film (all_scenes B.film)) scene
         ≡ true
-        → number ≤ step_cost bounds.now.film.now (all_scenes bounds.now.film.now) scene
-        + bound bounds.now.kind bounds.now.film.now (without (all_scenes bounds.now.film.now) scene) }
+        → number ≤ step_cost B.film (all_scenes B.film) scene
+        + bound B.kind B.film (without (all_scenes B.film) scene) }
 {
     let film = bounds.film();
     film.keeps_limits();
     let all = film.all();
     for scene in open_firsts(film, all).iter() {
-        let rest = bounds.at(all.without(scene));
+        let rest = bounds.whole(all.without(scene));
         if number.saturating_sub(step(film, all, scene)) > rest {
             return false;
         }
@@ -124,24 +119,23 @@ pub(crate) fn each_first_reaches<F: Fn(u64, u64) -> u64>(
 }
 
 /// Raises the line of all scenes to the number, if each first step justifies that.
-pub(crate) fn raise_whole<F: Fn(u64, u64) -> u64>(
-    bounds: &StoredBound<F>,
+pub(crate) fn raise_whole<B: Bounds>(
+    bounds: &B,
     book: &Book,
     pass: &mut BookPass,
     line: u32,
     number: u64,
 ) -> bool
-    requires keeps { Keeps (F.pre bounds.now.f) (F.post bounds.now.f) bounds.now.kind bounds.now.film.now }
     requires pass { IsPassOf book.now pass.old }
-    requires goes_by { GoesBy bounds.now.kind bounds.now.film.now (known pass.old).search }
+    requires goes_by { GoesBy B.kind B.film (known pass.old).search }
     requires there { line < length (known pass.old).lines }
-    requires made { (line_at (known pass.old).lines line).set ≡ all_scenes bounds.now.film.now }
+    requires made { (line_at (known pass.old).lines line).set ≡ all_scenes B.film }
     ensures pass { IsPassOf book.now pass.new }
     ensures weight { (known pass.new).weight ≡ (known pass.old).weight }
     ensures search { (known pass.new).search ≡ (known pass.old).search }
     ensures entries { (known pass.new).entries ≡ (known pass.old).entries }
     ensures knows { IsTrue result → Knows (known pass.new).lines
-        (record { line = line; set = all_scenes bounds.now.film.now; bound = number }) }
+        (record { line = line; set = all_scenes B.film; bound = number }) }
 {
     if bounds.film().all().is_empty() || !each_first_reaches(bounds, number) {
         return false;
@@ -183,13 +177,7 @@ fn is_found<R: Wait, N: Named>(
 /// Returns the lines of a book with room for one line and a task of two scenes, after two paths of the front are
 /// enlisted. The first path's line is raised to 13, and another worker finds it; for the second path the line budget is
 /// used up.
-fn lines_of_one<R: Wait, F: Fn(u64, u64) -> u64>(
-    rt: &R,
-    alloc: Global,
-    bounds: &StoredBound<F>,
-) -> Result<Vec<Line>, Fail>
-    requires { Keeps (F.pre bounds.now.f) (F.post bounds.now.f) bounds.now.kind bounds.now.film.now }
-{
+fn lines_of_one<R: Wait, B: Bounds>(rt: &R, alloc: Global, bounds: &B) -> Result<Vec<Line>, Fail> {
     let film = bounds.film();
     let task = task_of_two(film).ok_or("a task")?;
     let (book, mut pass) = Book::new(alloc, film, bounds.kind(), 14, &[task], 1)?;
@@ -213,17 +201,27 @@ fn lines_of_one<R: Wait, F: Fn(u64, u64) -> u64>(
     Ok(lines)
 }
 
+/// Returns these lines, with bounds of pairs. A type brand names their film and kind.
+fn lines_by<N: Bounded, R: Wait>(
+    rt: &R,
+    alloc: Global,
+    film: &Film,
+    tables: &BoundTables,
+) -> Result<Vec<Line>, Fail>
+    requires film { film.now ≡ N.film }
+    requires kind { Pairs ≡ N.kind }
+    requires tables { AreTables film.now tables.now }
+{
+    let bounds: FilmBounds<N> = FilmBounds::new(film, tables, Kind::Pairs);
+    lines_of_one(rt, alloc, &bounds)
+}
+
 #[test]
 fn a_book_of_one_line(rt: HostRuntime) -> Result<(), Fail> {
     let alloc = rt.alloc();
     let film = triangle(alloc)?;
     let tables = BoundTables::of(alloc, &film)?;
-    let bounds = StoredBound::new(
-        &film,
-        Kind::Pairs,
-        |q, need| static_reach(&film, &tables, Kind::Pairs, Mask(q), need),
-    );
-    let lines = lines_of_one(&rt, alloc, &bounds)?;
+    let lines = lines_by::<Brand, _>(&rt, alloc, &film, &tables)?;
     assert!(&rt; lines.as_slice() == [Line { set: 7, bound: 13 }].as_slice());
     Ok(())
 }

@@ -1,10 +1,11 @@
 // Two workers' hubs (hands on the shared state): the second finds the line of all scenes and the least cost of the
 // first. Each first step justifies 60. The initial path pays 70, and the other path 60.
 ghost use Rattle.std.specs.Prelude.{◌≡◌, ◌≤◌, ℕ, suc, None, IfOk};
+ghost use Rattle.strip_model.specs.declared.kind.Kind.TheVariants.{Pairs};
 ghost use Rattle.strip_film.specs.Film.{all_scenes};
 ghost use Rattle.strip_film.specs.Path.{IsComplete};
 ghost use Rattle.strip_film.specs.Shown.{cursor_data, path_data};
-ghost use Rattle.strip_bound.specs.StoredBound.{Keeps};
+ghost use Rattle.strip_bound.specs.Tables.{AreTables};
 ghost use Rattle.strip_hand.specs.Calls.{StandsAt};
 ghost use Rattle.strip_hand.specs.Hand.{Knows};
 ghost use Rattle.strip_hand.specs.Search.{GoesBy, depth_of};
@@ -20,12 +21,11 @@ use std::marker::Brand;
 use std::sync::Wait;
 use std::test::Fail;
 use strip_book::Book;
-use strip_bound::{BoundTables, StoredBound, static_reach};
+use strip_bound::{BoundTables, Bounded, Bounds, FilmBounds};
 use strip_crew::{Hub, HubParts, Source};
 use strip_film::{Cursor, Film, Known, Listed, Noted, Path, Probe};
 use strip_hand::Hand;
 use strip_least::Least;
-use strip_mask::Mask;
 use strip_model::Kind;
 use strip_stripes::{Named, Stripes};
 
@@ -80,50 +80,43 @@ fn claim_front<H: Hand>(hand: &mut H) -> Result<Cursor, Fail>
 }
 
 /// Makes a line of all scenes, with their static bound.
-fn enlist_whole<H: Hand, F: Fn(u64, u64) -> u64>(
-    bounds: &StoredBound<F>,
+fn enlist_whole<H: Hand, B: Bounds>(
+    bounds: &B,
     hand: &mut H,
     cursor: &mut Cursor,
 ) -> Result<u32, Fail>
     requires sound { H.is_sound hand.old }
-    requires keeps { Keeps (F.pre bounds.now.f) (F.post bounds.now.f) bounds.now.kind bounds.now.film.now }
-    requires goes_by { GoesBy bounds.now.kind bounds.now.film.now (H.shows hand.old).search }
+    requires goes_by { GoesBy B.kind B.film (H.shows hand.old).search }
     requires deep { 2 ≤ depth_of (H.shows hand.old).search }
     requires front { cursor_data cursor.old ≡ record { task = 0; last = None } }
     requires stands { StandsAt (H.shows hand.old) (cursor_data cursor.old) }
     ensures sound { H.is_sound hand.new }
     ensures search { IfOk result (λ _. (H.shows hand.new).search ≡ (H.shows hand.old).search) }
-    ensures made { IfOk result (HasWhole bounds.now.film.now (H.shows hand.new)) }
+    ensures made { IfOk result (HasWhole B.film (H.shows hand.new)) }
 {
     let film = bounds.film();
     film.keeps_limits();
-    let whole = Path::start(film);
-    let all = whole.rest();
-    let bound = bounds.at(all);
+    let empty = Path::start(film);
+    let all = empty.rest();
+    let bound = bounds.whole(all);
     if all.is_empty() || bound >= hand.look() {
         return Err("a candidate".into());
     }
-    match hand.enlist(cursor, &whole, bound)? {
+    match hand.enlist(cursor, &empty, bound)? {
         Listed::Line(line) => Ok(line),
         Listed::Spent { .. } => Err("room for a line".into()),
     }
 }
 
 /// Raises the line of all scenes, if each first step justifies the bound.
-fn raise_to<H: Hand, F: Fn(u64, u64) -> u64>(
-    bounds: &StoredBound<F>,
-    hand: &mut H,
-    line: u32,
-    bound: u64,
-) -> Result<(), Fail>
+fn raise_to<H: Hand, B: Bounds>(bounds: &B, hand: &mut H, line: u32, bound: u64) -> Result<(), Fail>
     requires sound { H.is_sound hand.old }
-    requires keeps { Keeps (F.pre bounds.now.f) (F.post bounds.now.f) bounds.now.kind bounds.now.film.now }
-    requires goes_by { GoesBy bounds.now.kind bounds.now.film.now (H.shows hand.old).search }
-    requires made { HasWhole bounds.now.film.now (H.shows hand.old) line }
+    requires goes_by { GoesBy B.kind B.film (H.shows hand.old).search }
+    requires made { HasWhole B.film (H.shows hand.old) line }
     ensures sound { H.is_sound hand.new }
     ensures search { IfOk result (λ _. (H.shows hand.new).search ≡ (H.shows hand.old).search) }
     ensures knows { IfOk result (λ _. Knows (H.shows hand.new).lines
-        (record { line = line; set = all_scenes bounds.now.film.now; bound = bound })) }
+        (record { line = line; set = all_scenes B.film; bound = bound })) }
 {
     if bounds.film().all().is_empty() || !each_first_reaches(bounds, bound) {
         return Err("a bound that each first step reaches".into());
@@ -133,13 +126,9 @@ fn raise_to<H: Hand, F: Fn(u64, u64) -> u64>(
 }
 
 /// Makes a line of all scenes in the front, raises it to 60, and notes it.
-fn note_whole<H: Hand, F: Fn(u64, u64) -> u64>(
-    bounds: &StoredBound<F>,
-    hand: &mut H,
-) -> Result<Noted, Fail>
+fn note_whole<H: Hand, B: Bounds>(bounds: &B, hand: &mut H) -> Result<Noted, Fail>
     requires sound { H.is_sound hand.old }
-    requires keeps { Keeps (F.pre bounds.now.f) (F.post bounds.now.f) bounds.now.kind bounds.now.film.now }
-    requires goes_by { GoesBy bounds.now.kind bounds.now.film.now (H.shows hand.old).search }
+    requires goes_by { GoesBy B.kind B.film (H.shows hand.old).search }
     requires deep { 2 ≤ depth_of (H.shows hand.old).search }
     ensures sound { H.is_sound hand.new }
     ensures search { IfOk result (λ _. (H.shows hand.new).search ≡ (H.shows hand.old).search) }
@@ -158,18 +147,17 @@ fn note_whole<H: Hand, F: Fn(u64, u64) -> u64>(
 }
 
 /// The first worker makes and notes a line, and then offers a path; the second asks after each of these.
-fn take_turns<H: Hand, F: Fn(u64, u64) -> u64>(
-    bounds: &StoredBound<F>,
+fn take_turns<H: Hand, B: Bounds>(
+    bounds: &B,
     first: &mut H,
     second: &mut H,
     path: &Path,
 ) -> Result<Told, Fail>
     requires sound { (H.is_sound first.old) × (H.is_sound second.old) }
-    requires keeps { Keeps (F.pre bounds.now.f) (F.post bounds.now.f) bounds.now.kind bounds.now.film.now }
-    requires goes_by { GoesBy bounds.now.kind bounds.now.film.now (H.shows first.old).search }
+    requires goes_by { GoesBy B.kind B.film (H.shows first.old).search }
     requires deep { 2 ≤ depth_of (H.shows first.old).search }
     requires same { (H.shows second.old).search ≡ (H.shows first.old).search }
-    requires path { IsComplete bounds.now.film.now (path_data path.now) }
+    requires path { IsComplete B.film (path_data path.now) }
 {
     let noted = note_whole(bounds, first)?;
     let probed = second.probe(bounds.film().all())?;
@@ -185,23 +173,22 @@ fn take_turns<H: Hand, F: Fn(u64, u64) -> u64>(
 }
 
 /// Returns the replies to two workers with passes that are split from these.
-fn share<N: Named, R: Wait, F: Fn(u64, u64) -> u64>(
+fn share<N: Named, R: Wait, B: Bounds>(
     rt: &R,
     alloc: Global,
-    bounds: &StoredBound<F>,
+    bounds: &B,
     least: &Least,
     book: &Book,
     passes: HubParts,
     path: &Path,
 ) -> Result<Told, Fail>
-    requires keeps { Keeps (F.pre bounds.now.f) (F.post bounds.now.f) bounds.now.kind bounds.now.film.now }
     requires named { table_of book.now ≡ N.table }
     requires passes { ArePassesOf least.now book.now passes }
     requires counter { passes.source ≡ Counter }
     requires weight { (rest : ℕ) × Weigh (suc (suc rest)) passes }
-    requires goes_by { GoesBy bounds.now.kind bounds.now.film.now (known passes.lines).search }
+    requires goes_by { GoesBy B.kind B.film (known passes.lines).search }
     requires deep { 2 ≤ depth_of (known passes.lines).search }
-    requires path { IsComplete bounds.now.film.now (path_data path.now) }
+    requires path { IsComplete B.film (path_data path.now) }
 {
     let HubParts {
         mut told,
@@ -230,16 +217,15 @@ fn share<N: Named, R: Wait, F: Fn(u64, u64) -> u64>(
 }
 
 /// Returns the replies to two workers in a search from `start`, with the front and one task of two scenes.
-fn shared<R: Wait, F: Fn(u64, u64) -> u64>(
+fn shared<R: Wait, B: Bounds>(
     rt: &R,
     alloc: Global,
-    bounds: &StoredBound<F>,
+    bounds: &B,
     start: &Path,
     path: &Path,
 ) -> Result<Told, Fail>
-    requires keeps { Keeps (F.pre bounds.now.f) (F.post bounds.now.f) bounds.now.kind bounds.now.film.now }
-    requires start { IsComplete bounds.now.film.now (path_data start.now) }
-    requires path { IsComplete bounds.now.film.now (path_data path.now) }
+    requires start { IsComplete B.film (path_data start.now) }
+    requires path { IsComplete B.film (path_data path.now) }
 {
     let film = bounds.film();
     film.keeps_limits();
@@ -251,7 +237,26 @@ fn shared<R: Wait, F: Fn(u64, u64) -> u64>(
         lines,
         source: Source::Counter,
     };
-    share::<Brand, R, F>(rt, alloc, bounds, &least, &book, passes, path)
+    share::<Brand, R, B>(rt, alloc, bounds, &least, &book, passes, path)
+}
+
+/// Returns these replies, with bounds of pairs. A type brand names their film and kind.
+fn shared_by<N: Bounded, R: Wait>(
+    rt: &R,
+    alloc: Global,
+    film: &Film,
+    tables: &BoundTables,
+    start: &Path,
+    path: &Path,
+) -> Result<Told, Fail>
+    requires film { film.now ≡ N.film }
+    requires kind { Pairs ≡ N.kind }
+    requires tables { AreTables film.now tables.now }
+    requires start { IsComplete film.now (path_data start.now) }
+    requires path { IsComplete film.now (path_data path.now) }
+{
+    let bounds: FilmBounds<N> = FilmBounds::new(film, tables, Kind::Pairs);
+    shared(rt, alloc, &bounds, start, path)
 }
 
 #[test]
@@ -261,12 +266,7 @@ fn another_worker_is_told_of_a_line_and_a_path(rt: HostRuntime) -> Result<(), Fa
     let start = path(&film, &[0, 1, 2])?;
     let better = path(&film, &[0, 2, 1])?;
     let tables = BoundTables::of(alloc, &film)?;
-    let bounds = StoredBound::new(
-        &film,
-        Kind::Pairs,
-        |q, need| static_reach(&film, &tables, Kind::Pairs, Mask(q), need),
-    );
-    let told = shared(&rt, alloc, &bounds, &start, &better)?;
+    let told = shared_by::<Brand, _>(&rt, alloc, &film, &tables, &start, &better)?;
     assert!(&rt; told.is_as_worked());
     Ok(())
 }

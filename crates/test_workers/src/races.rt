@@ -4,23 +4,24 @@
 // costs 33. No order costs less. The ring has two ways from earlier to later scenes. So at least two actors have scenes
 // on both sides of any point between two consecutive days. The distances between the actors' scenes then add up to at
 // least eight days. Five of these days cause no waiting, and each of the other three costs at least 1.
-ghost use Rattle.std.specs.Prelude.{◌≤◌};
-ghost use Rattle.strip_bound.specs.StoredBound.{Keeps};
+ghost use Rattle.std.specs.Prelude.{◌≡◌, ◌≤◌};
+ghost use Rattle.strip_model.specs.declared.kind.Kind.TheVariants.{Plain};
 ghost use Rattle.strip_film.specs.Path.{IsComplete};
 ghost use Rattle.strip_film.specs.Shown.{path_data};
+ghost use Rattle.strip_bound.specs.Tables.{AreTables};
 ghost use Rattle.strip_hand.specs.Limits.{AreLimits};
 
 use crate::least::{film_of, path};
 use std::alloc::Global;
+use std::marker::Brand;
 use std::sync::Wait;
 use std::test::Fail;
 use std::thread::Threads;
-use strip_bound::{BoundTables, StoredBound, static_reach};
-use strip_crew::race;
+use strip_bound::{BoundTables, Bounded, FilmBounds};
+use strip_crew::{Race, race};
 use strip_film::{Film, Path};
 use strip_hand::{Limits, OpenGate};
 use strip_lines::Ended;
-use strip_mask::Mask;
 use strip_memo::Memo;
 use strip_model::Kind;
 
@@ -49,36 +50,41 @@ fn raced<R: Threads + Wait + Sync>(
     let film = ring(alloc)?;
     let start = path(&film, &[0, 1, 2, 3, 4])?;
     let tables = BoundTables::of(alloc, &film)?;
-    let bounds = StoredBound::new(
-        &film,
-        Kind::Plain,
-        |q, need| static_reach(&film, &tables, Kind::Plain, Mask(q), need),
-    );
     let limits = Limits {
         workers,
         nodes,
         entries: 64,
     };
-    raced_by(rt, alloc, &bounds, &start, limits, steal)
+    raced_by::<Brand, R>(rt, alloc, &film, &tables, &start, limits, steal)
 }
 
-/// Runs a race with a stored bound.
-fn raced_by<R: Threads + Wait + Sync, F: Fn(u64, u64) -> u64 + Sync>(
+/// Runs a race with plain bounds. A type brand names their film and kind.
+fn raced_by<N: Bounded + Send + Sync, R: Threads + Wait + Sync>(
     rt: &R,
     alloc: Global,
-    bounds: &StoredBound<F>,
+    film: &Film,
+    tables: &BoundTables,
     start: &Path,
     limits: Limits,
     steal: bool,
 ) -> Result<Ended, Fail>
-    requires keeps { Keeps (F.pre bounds.now.f) (F.post bounds.now.f) bounds.now.kind bounds.now.film.now }
-    requires start { IsComplete bounds.now.film.now (path_data start.now) }
+    requires film { film.now ≡ N.film }
+    requires kind { Plain ≡ N.kind }
+    requires tables { AreTables film.now tables.now }
+    requires start { IsComplete film.now (path_data start.now) }
     requires limits { AreLimits limits }
 {
-    let mut memo = Memo::among(alloc, bounds, limits.workers + 1)?;
-    let ended = race(
-        rt, alloc, bounds, &mut memo, start, limits, steal, &OpenGate,
-    )?;
+    let bounds: FilmBounds<N> = FilmBounds::new(film, tables, Kind::Plain);
+    let mut memo = Memo::among(alloc, &bounds, limits.workers + 1)?;
+    let lent = Race {
+        rt,
+        alloc,
+        bounds: &bounds,
+        gate: &OpenGate,
+        limits,
+        steal,
+    };
+    let ended = race(&lent, &mut memo, start)?;
     Ok(ended)
 }
 

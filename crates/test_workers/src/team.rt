@@ -1,22 +1,23 @@
 // Four workers that make and raise ten thousand lines of one book. Each begins 2,500 parts, whose tasks are the empty
 // path, and enlists this path in each. A book doesn't require that the parts of two passes differ.
 ghost use Rattle.std.specs.Prelude.{◌≡◌, ℕ, suc, ◌+◌, ◌<◌, ◌≤◌, All, IfOk, IfSome, length, vec_len};
-ghost use Rattle.strip_bound.specs.StoredBound.{Keeps};
+ghost use Rattle.strip_model.specs.declared.kind.Kind.TheVariants.{Pairs};
+ghost use Rattle.strip_bound.specs.Tables.{AreTables};
 ghost use Rattle.strip_book.specs.Pass.{IsPassOf, known};
 ghost use Rattle.strip_book.specs.Rule.{full_weight};
 ghost use Rattle.test_workers.specs.Team.{AreFreshFrom, IsNew, IsOfWholes, IsOne, IsWorker};
 
 use crate::book::{raise_whole, triangle};
 use std::alloc::{AllocError, Global};
+use std::marker::Brand;
 use std::test::Fail;
 use std::thread;
 use std::thread::Threads;
 use strip_book::{Book, BookPass};
-use strip_bound::{BoundTables, StoredBound, static_reach};
+use strip_bound::{BoundTables, Bounded, Bounds, FilmBounds};
 use strip_check::{Verdict, check};
-use strip_film::{Line, Listed, Path};
+use strip_film::{Film, Line, Listed, Path};
 use strip_instance::read_instance;
-use strip_mask::Mask;
 use strip_model::Kind;
 use strip_proof::{Plan, Status};
 
@@ -25,15 +26,9 @@ const WORKERS: u32 = 4;
 const SHARE: u32 = 2500;
 
 /// Begins a part, makes a line of the empty path, and raises it to 13. It tells whether all of this succeeded.
-fn make_line<F: Fn(u64, u64) -> u64>(
-    bounds: &StoredBound<F>,
-    book: &Book,
-    pass: &mut BookPass,
-    part: u32,
-) -> bool
-    requires keeps { Keeps (F.pre bounds.now.f) (F.post bounds.now.f) bounds.now.kind bounds.now.film.now }
+fn make_line<B: Bounds>(bounds: &B, book: &Book, pass: &mut BookPass, part: u32) -> bool
     requires pass { IsPassOf book.now pass.old }
-    requires search { IsOfWholes bounds.now.kind bounds.now.film.now 2500 (known pass.old).search }
+    requires search { IsOfWholes B.kind B.film 2500 (known pass.old).search }
     requires part { (0 < part) × (part ≤ 2500) }
     requires fresh { AreFreshFrom part (known pass.old).entries }
     ensures pass { IsPassOf book.now pass.new }
@@ -44,26 +39,21 @@ fn make_line<F: Fn(u64, u64) -> u64>(
     let film = bounds.film();
     film.keeps_limits();
     pass.begin(book, part);
-    let whole = Path::start(film);
-    let all = whole.rest();
-    let bound = bounds.at(all);
+    let empty = Path::start(film);
+    let all = empty.rest();
+    let bound = bounds.whole(all);
     if all.is_empty() || bound >= 14 {
         return false;
     }
-    let Listed::Line(line) = pass.enlist(book, part, &whole, bound) else {
+    let Listed::Line(line) = pass.enlist(book, part, &empty, bound) else {
         return false;
     };
     raise_whole(bounds, book, pass, line, 13)
 }
 
 /// Makes a line in each part, and returns the pass if all succeeded.
-fn make_lines<F: Fn(u64, u64) -> u64>(
-    bounds: &StoredBound<F>,
-    book: &Book,
-    pass: BookPass,
-) -> Option<BookPass>
-    requires keeps { Keeps (F.pre bounds.now.f) (F.post bounds.now.f) bounds.now.kind bounds.now.film.now }
-    requires worker { IsWorker bounds.now.kind bounds.now.film.now 2500 book.now pass }
+fn make_lines<B: Bounds>(bounds: &B, book: &Book, pass: BookPass) -> Option<BookPass>
+    requires worker { IsWorker B.kind B.film 2500 book.now pass }
     ensures { IfSome result (IsOne book.now) }
 {
     let mut pass = pass;
@@ -76,14 +66,13 @@ fn make_lines<F: Fn(u64, u64) -> u64>(
 }
 
 /// Each pass makes its lines in a thread of its own.
-fn make_beside<R: Threads + Sync, F: Fn(u64, u64) -> u64 + Sync>(
+fn make_beside<R: Threads + Sync, B: Bounds + Sync>(
     rt: &R,
-    bounds: &StoredBound<F>,
+    bounds: &B,
     book: &Book,
     passes: Vec<BookPass>,
 ) -> Result<Vec<Option<BookPass>>, AllocError>
-    requires keeps { Keeps (F.pre bounds.now.f) (F.post bounds.now.f) bounds.now.kind bounds.now.film.now }
-    requires workers { All (IsWorker bounds.now.kind bounds.now.film.now 2500 book.now) passes.items }
+    requires workers { All (IsWorker B.kind B.film 2500 book.now) passes.items }
     ensures count { IfOk result (λ all. vec_len all ≡ vec_len passes) }
     ensures each { IfOk result (λ all. All (λ one. IfSome one (IsOne book.now)) all.items) }
 {
@@ -91,23 +80,21 @@ fn make_beside<R: Threads + Sync, F: Fn(u64, u64) -> u64 + Sync>(
         rt,
         passes,
         &|pass: BookPass| -> Option<BookPass>
-            requires { Keeps (F.pre bounds.now.f) (F.post bounds.now.f) bounds.now.kind bounds.now.film.now
-                × IsWorker bounds.now.kind bounds.now.film.now 2500 book.now pass }
+            requires { IsWorker B.kind B.film 2500 book.now pass }
             ensures { IfSome result (IsOne book.entry.now) }
         { make_lines(bounds, book, pass) },
     )
 }
 
 /// Returns the passes of four workers after their work, each with a desk of its own.
-fn make_all<R: Threads + Sync, F: Fn(u64, u64) -> u64 + Sync>(
+fn make_all<R: Threads + Sync, B: Bounds + Sync>(
     rt: &R,
     alloc: Global,
-    bounds: &StoredBound<F>,
+    bounds: &B,
     book: &Book,
     pass: &mut BookPass,
 ) -> Result<Vec<Option<BookPass>>, AllocError>
-    requires keeps { Keeps (F.pre bounds.now.f) (F.post bounds.now.f) bounds.now.kind bounds.now.film.now }
-    requires pass { IsNew bounds.now.kind bounds.now.film.now 2500 book.now pass.old }
+    requires pass { IsNew B.kind B.film 2500 book.now pass.old }
     requires full { (known pass.old).weight ≡ full_weight }
     ensures pass { IfOk result (λ _. IsPassOf book.now pass.new) }
     ensures weight { IfOk result (λ all. (known pass.new).weight + vec_len all ≡ full_weight) }
@@ -136,13 +123,11 @@ fn gather(book: &Book, pass: BookPass, passes: Vec<Option<BookPass>>) -> Option<
     Some(pass)
 }
 
-fn lines_of_four<R: Threads + Sync, F: Fn(u64, u64) -> u64 + Sync>(
+fn lines_of_four<R: Threads + Sync, B: Bounds + Sync>(
     rt: &R,
     alloc: Global,
-    bounds: &StoredBound<F>,
-) -> Result<Vec<Line>, Fail>
-    requires { Keeps (F.pre bounds.now.f) (F.post bounds.now.f) bounds.now.kind bounds.now.film.now }
-{
+    bounds: &B,
+) -> Result<Vec<Line>, Fail> {
     let film = bounds.film();
     let tasks = vec![in alloc; Path::start(film); SHARE as usize]?;
     let (book, mut pass) = Book::new(alloc, film, bounds.kind(), 14, &tasks, WORKERS * SHARE)?;
@@ -150,6 +135,21 @@ fn lines_of_four<R: Threads + Sync, F: Fn(u64, u64) -> u64 + Sync>(
     let pass = gather(&book, pass, passes).ok_or("all lines")?;
     let lines = book.into_lines(alloc, pass)?;
     Ok(lines)
+}
+
+/// Returns these lines, with bounds of pairs. A type brand names their film and kind.
+fn lines_by<N: Bounded + Send + Sync, R: Threads + Sync>(
+    rt: &R,
+    alloc: Global,
+    film: &Film,
+    tables: &BoundTables,
+) -> Result<Vec<Line>, Fail>
+    requires film { film.now ≡ N.film }
+    requires kind { Pairs ≡ N.kind }
+    requires tables { AreTables film.now tables.now }
+{
+    let bounds: FilmBounds<N> = FilmBounds::new(film, tables, Kind::Pairs);
+    lines_of_four(rt, alloc, &bounds)
 }
 
 fn are_all_raised(lines: &[Line]) -> bool {
@@ -181,12 +181,7 @@ fn four_workers_make_ten_thousand_lines(rt: HostRuntime) -> Result<(), Fail> {
     let alloc = rt.alloc();
     let film = triangle(alloc)?;
     let tables = BoundTables::of(alloc, &film)?;
-    let bounds = StoredBound::new(
-        &film,
-        Kind::Pairs,
-        |q, need| static_reach(&film, &tables, Kind::Pairs, Mask(q), need),
-    );
-    let lines = lines_of_four(&rt, alloc, &bounds)?;
+    let lines = lines_by::<Brand, _>(&rt, alloc, &film, &tables)?;
     assert!(&rt; are_all_raised(lines.as_slice()));
     assert!(&rt; is_accepted(alloc, lines)?);
     Ok(())

@@ -26,7 +26,7 @@ pub new-requires-clause-tasks : goal.new-requires-clause-tasks
 new-requires-clause-tasks g c =
     let front : IsFrontOf (rules_of c.kind.result c.film-2.result.now) (front_data c.args.front.now)
     = subst (λ (k : Kind). IsFrontOf (rules_of k c.film-2.result.now) (front_data c.args.front.now)) (sym c.kind.ensures)
-    (subst (λ (f : FilmData). IsFrontOf (rules_of c.args.bounds.now.kind f) (front_data c.args.front.now)) (sym c.film-2.ensures) c.requires.front) in
+    (subst (λ (f : FilmData). IsFrontOf (rules_of g.B.Bounds.kind f) (front_data c.args.front.now)) (sym c.film-2.ensures) c.requires.front) in
     (c.tasks_are_starts.ensures
     (search_of c.film-2.result.now c.kind.result (path_data c.args.start.now) (map path_data c.tasks.result.now) c.args.limits.now)
     (front_data c.args.front.now).depth

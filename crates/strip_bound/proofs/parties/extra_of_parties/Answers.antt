@@ -13,36 +13,26 @@ pub located-located-requires-clause-lies : goal.located-located-requires-clause-
 located-located-requires-clause-lies c = rw c.on-on.ensures (location_lies c.args.film.now c.args.q.0 c.keeps_limits.ensures)
 
 pub returns-then-few-need-clause-most : goal.returns-then-few-need-clause-most
-returns-then-few-need-clause-most c = few_le c.args.film.now c.args.q.0 c.ask.new.self c.ask.ensures.parties (c.ask.ensures.many ∙ c.new-few.ensures.parties.many)
+returns-then-few-need-clause-most c = few_le c.args.film.now c.args.q.0 c.ask.new.self c.ask.ensures.parties (c.ask.ensures.same.0 ∙ c.new-few.ensures.parties.many)
 
 pub returns-then-few-need-2-clause-most : goal.returns-then-few-need-2-clause-most
-returns-then-few-need-2-clause-most c = few_le c.args.film.now c.args.q.0 c.ask_all.new.self c.ask_all.ensures.parties (c.ask_all.ensures.many ∙ c.ask.ensures.many ∙ c.new-few.ensures.parties.many)
+returns-then-few-need-2-clause-most c = few_le c.args.film.now c.args.q.0 c.ask_all.new.self c.ask_all.ensures.parties (c.ask_all.ensures.same.0 ∙ c.ask.ensures.same.0 ∙ c.new-few.ensures.parties.many)
 
 pub returns-then-few-need-2-clause-reaches : goal.returns-then-few-need-2-clause-reaches
 returns-then-few-need-2-clause-reaches c = elim c.then-few-need-2.branch [
   | then-few-need-2-via-then-few-need-2 w ↦ inl w.if-few-need-2.true
   | then-few-need-2-via-else-few-need-2+then-here-le-FEW w ↦ elim (reached_or_all c.args.film.now c.args.q.0 c.ask_all.new.self 7 c.args.need c.ask_all.ensures.parties
-      c.ask_all.ensures.asked c.ask_all.ensures.all (c.ask_all.ensures.many ∙ c.ask.ensures.many ∙ c.new-few.ensures.parties.many) (c.ask_all.ensures.need ∙ c.ask.ensures.need ∙ c.new-few.ensures.need)) [
+      c.ask_all.ensures.asked c.ask_all.ensures.all (c.ask_all.ensures.same.0 ∙ c.ask.ensures.same.0 ∙ c.new-few.ensures.parties.many) (c.ask_all.ensures.same.1 ∙ c.ask.ensures.same.1 ∙ c.new-few.ensures.need)) [
         | inl reached ↦ inl reached
         | inr all ↦ inr (all_of_few c.args.film.now c.args.q.0 c.ask_all.new.self.extra
             (omega (arith, ap length c.deref.ensures.0, ap length c.located-located.ensures, ap (λ (on : ℕ). length (by_falling (slice_index c.args.film.now.holds) (members on))) c.on-on.ensures, located_count c.args.film.now c.args.q.0, w.if-here-le-FEW.true)) all)
       ]
 ]
 
-pub ask-requires-clause-room : goal.ask-requires-clause-room
-ask-requires-clause-room c =
-    let few : 2 ^ (min c.new-few.result.many (length c.deref.result.now) - 6) ≤ 2 ^ 1 = pow_mono {j = 1} (omega (arith, c.new-few.ensures.parties.many)) in
-    omega (arith, few)
-
-pub ask_all-requires-clause-room : goal.ask_all-requires-clause-room
-ask_all-requires-clause-room c =
-    let few : 2 ^ (min c.ask.new.self.many (length c.deref.result.now) - 6) ≤ 2 ^ 1 = pow_mono {j = 1} (omega (arith, c.ask.ensures.many, c.new-few.ensures.parties.many)) in
-    omega (arith, few)
-
 pub returns-clause-most : goal.returns-clause-most
 returns-clause-most c =
     let few : c.ask_all.new.self.extra ≤ max (parties_extra c.args.film.now c.args.q.0 7) (parties_extra c.args.film.now c.args.q.0 10)
-    = few_le c.args.film.now c.args.q.0 c.ask_all.new.self c.ask_all.ensures.parties (c.ask_all.ensures.many ∙ c.ask.ensures.many ∙ c.new-few.ensures.parties.many) in
+    = few_le c.args.film.now c.args.q.0 c.ask_all.new.self c.ask_all.ensures.parties (c.ask_all.ensures.same.0 ∙ c.ask.ensures.same.0 ∙ c.new-few.ensures.parties.many) in
     omega (
       arith,
       c.max.ensures,
@@ -54,7 +44,7 @@ returns-clause-most c =
 
 pub returns-clause-reaches : goal.returns-clause-reaches
 returns-clause-reaches c = elim (reached_or_all c.args.film.now c.args.q.0 c.ask_all.new.self 7 c.args.need c.ask_all.ensures.parties c.ask_all.ensures.asked
-    c.ask_all.ensures.all (c.ask_all.ensures.many ∙ c.ask.ensures.many ∙ c.new-few.ensures.parties.many) (c.ask_all.ensures.need ∙ c.ask.ensures.need ∙ c.new-few.ensures.need)) [
+    c.ask_all.ensures.all (c.ask_all.ensures.same.0 ∙ c.ask.ensures.same.0 ∙ c.new-few.ensures.parties.many) (c.ask_all.ensures.same.1 ∙ c.ask.ensures.same.1 ∙ c.new-few.ensures.need)) [
       | inl reached ↦ absurd (omega (arith, reached, c.if-few-need-2.false))
       | inr few ↦ elim c.extra_of_many.ensures.reaches [
         | inl reached ↦ inl (omega (arith, reached, c.max.ensures, le-max_right c.ask_all.new.self.extra c.extra_of_many.result))

@@ -9,7 +9,7 @@ use Rattle.strip_check.proofs.justify.least_step.Given as goal
 -- the least of those so far; these and those to come are the firsts
 abbrev pub invariant-loop-scene : goal.invariant-loop-scene
 invariant-loop-scene g l = record {
-  least : IsLeastOf (λ scene. step_cost l.bounds.film.now l.q.0 scene + known (rules_of l.bounds.kind l.bounds.film.now) l.best.lines (without l.q.0 scene))
+  least : IsLeastOf (λ scene. step_cost g.B.Bounds.film l.q.0 scene + known (rules_of g.B.Bounds.kind g.B.Bounds.film) l.best.lines (without l.q.0 scene))
       340282366920938463463374607431768211455 l.least l.yielded;
   turns : l.yielded ++ rest_of l.scene-iterator ≡ members l.fn.firsts.0;
 }

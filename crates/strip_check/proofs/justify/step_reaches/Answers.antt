@@ -6,8 +6,9 @@ use Rattle.strip_check.proofs.justify.step_reaches.Goals as goal
 
 pub step_with-step-requires-clause-actors : goal.step_with-step-requires-clause-actors
 step_with-step-requires-clause-actors g c =
-    rw (c.film-film.ensures, c.requires.on) (location_lies c.args.bounds.now.film.now c.args.q.0 (subst IsFilm c.film-film.ensures c.keeps_limits.ensures))
+    rw (c.film-film.ensures, c.requires.on) (location_lies g.B.Bounds.film c.args.q.0 (subst IsFilm c.film-film.ensures c.keeps_limits.ensures))
 
-pub is_known-requires-clause-lies : goal.is_known-requires-clause-lies
-is_known-requires-clause-lies g c =
-    subst (LiesIn c.args.bounds.now.film.now) (sym c.without.ensures) (LiesBelow-without (length c.args.bounds.now.film.now.casts) c.args.q.0 c.args.s c.requires.lies)
+pub is_known-requires : goal.is_known-requires
+is_known-requires g c = record {
+  lies = subst (LiesIn g.B.Bounds.film) (sym c.without.ensures) (LiesBelow-without (length g.B.Bounds.film.casts) c.args.q.0 c.args.s c.requires.lies);
+}

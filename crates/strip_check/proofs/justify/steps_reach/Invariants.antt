@@ -9,7 +9,6 @@ use Rattle.strip_check.proofs.justify.steps_reach.Given as goal
 -- the scenes so far reach the bound; these and those to come are the firsts
 abbrev pub invariant-loop-scene : goal.invariant-loop-scene
 invariant-loop-scene g l = record {
-  memo : IsMemo l.bounds.kind l.bounds.film.now l.memo;
-  reach : All (λ scene. l.bound ≤ step_cost l.bounds.film.now l.q.0 scene + known (rules_of l.bounds.kind l.bounds.film.now) l.best.lines (without l.q.0 scene)) l.yielded;
+  reach : All (λ scene. l.bound ≤ step_cost g.B.Bounds.film l.q.0 scene + known (rules_of g.B.Bounds.kind g.B.Bounds.film) l.best.lines (without l.q.0 scene)) l.yielded;
   turns : l.yielded ++ rest_of l.scene-iterator ≡ members l.fn.firsts.0;
 }

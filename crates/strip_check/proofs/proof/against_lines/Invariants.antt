@@ -8,6 +8,5 @@ use Rattle.strip_check.proofs.proof.against_lines.Given as goal
 -- the lines so far are justified
 abbrev pub invariant-loop-place : goal.invariant-loop-place
 invariant-loop-place g l = record {
-  memo : IsMemo l.bounds.kind l.bounds.film.now l.memo;
-  pass : first_fault (below l.place (line_check (rules_of l.bounds.kind l.bounds.film.now) l.lines)) ≡ None;
+  pass : first_fault (below l.place (line_check (rules_of g.B.Bounds.kind g.B.Bounds.film) l.lines)) ≡ None;
 }

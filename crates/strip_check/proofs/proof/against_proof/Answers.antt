@@ -22,8 +22,6 @@ returns c =
     let lines : List Line = c.args.plan.now.lines.items in
     let apart = c.args.reduced.now.apart in
     let plan = plan_data c.args.plan.now in
-    let same = ap (λ (kind : Kind). first_fault (bound_checks (rules_of kind c.new-bounds.result.film.now) apart plan)) c.new-bounds.ensures.kind
-    ∙ ap (λ (made : FilmData). first_fault (bound_checks (rules_of c.args.plan.now.kind made) apart plan)) c.new-bounds.ensures.film
-    ∙ past_before (below (length lines) (set_check film lines)) (bound_checks (rules_of c.args.plan.now.kind film) apart plan)
+    let same = past_before (below (length lines) (set_check film lines)) (bound_checks (rules_of c.args.plan.now.kind film) apart plan)
     (subst (λ (list : List Line). None ≡ first_fault (below (length list) (set_check film list))) c.deref.ensures.value c.in_default.ensures.first) in
     subst (λ found. IfOk c.against_bounds.result (λ reason. reason ≡ found)) same c.against_bounds.ensures

@@ -1,6 +1,7 @@
-use Rattle.std.proofs.Common.{length-set, ◌∙◌, arith}
+use Rattle.std.proofs.Common.{length-set, ◌∙◌, sym, subst, arith}
+use Rattle.strip_crew.specs.Spread.{IsValue}
 use Rattle.strip_crew.proofs.Taken.{answered_all, answered_more, answered_value}
-use Rattle.strip_crew.proofs.Spread.{value_at_place}
+use Rattle.strip_crew.proofs.Spread.{value_of_ask}
 use Rattle.strip_crew.proofs.answering.take_values.Goals as goal
 
 pub loop-number-preserved : goal.loop-number-preserved
@@ -10,7 +11,8 @@ loop-number-preserved c = record {
       (c.loop-number.invariant.answered kind film are) (omega arith)
       (λ d. answered_value kind film c.args.asks.now c.loop-number.asks c.loop-number.number _ c.take_value.new.ask d _
       (c.loop-number.invariant.answered kind film are) (omega arith)
-      (value_at_place kind film c.args.asks.now c.args.turns c.args.workers c.loop-number.number c.args.values.now are (omega arith) (omega arith))
+      (subst (IsValue kind film c.args.asks.now c.loop-number.number) (sym c.index.ensures)
+      (value_of_ask kind film c.args.asks.now c.args.workers c.loop-number.number c.args.shares.now c.index-shares-number.result c.index.result.now are (omega arith) (omega arith)))
       (c.take_value.ensures kind film));
 }
 

@@ -8,6 +8,6 @@ use Rattle.strip_crew.proofs.answering.take_values.Given as goal
 abbrev pub invariant-loop-number : goal.invariant-loop-number
 invariant-loop-number l = record {
   count : length l.asks ≡ length l.fn.asks;
-  answered : (kind : Kind) (film : FilmData) → AreValues kind film l.fn.asks l.fn.turns l.fn.workers l.fn.values
+  answered : (kind : Kind) (film : FilmData) → AreValues kind film l.fn.asks l.fn.workers l.fn.shares
       → AreAnsweredTo kind film l.fn.asks l.asks l.number;
 }

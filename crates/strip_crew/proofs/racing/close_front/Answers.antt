@@ -25,8 +25,8 @@ close-requires-clause-worked g c =
     let on = c.settle.ensures.settled.goes_on in
     let same : shown settled ≡ hand_of hub.source (known_least hub.told) (known hub.lines) hub.asked hub.noted
     = (λ i. hand_of (sym c.of-hub.ensures.passes.2 i) (known_least (sym c.of-hub.ensures.passes.0 i)) (known (sym c.of-hub.ensures.passes.1 i)) (sym c.of-hub.ensures.unasked.0 i) (sym c.of-hub.ensures.unasked.1 i)) in
-    subst (λ (h : HandData). HasWorkedOn c.args.bounds.now.kind c.args.bounds.now.film.now h (front_data c.args.front.now) c.args.walked.now.found.items c.args.walked.now.spent) same (record {
-      search = subst (GoesBy c.args.bounds.now.kind c.args.bounds.now.film.now) (sym on.search) c.requires.worked.search;
+    subst (λ (h : HandData). HasWorkedOn g.B.Bounds.kind g.B.Bounds.film h (front_data c.args.front.now) c.args.walked.now.found.items c.args.walked.now.spent) same (record {
+      search = subst (GoesBy g.B.Bounds.kind g.B.Bounds.film) (sym on.search) c.requires.worked.search;
       worked = moved_same (shown c.args.passes) (shown settled) on (front_data c.args.front.now) c.args.walked.now.found.items c.args.walked.now.spent
           c.requires.worked.worked (λ _. c.settle.ensures.passes.book_pass.few) c.settle.ensures.settled.records;
     })
@@ -55,7 +55,7 @@ returns g c =
       search = c.settle-2.ensures.settled.goes_on.search ∙ ap (λ (p : BookPass). (known p).search) c.parts-passes.ensures.1
           ∙ ap (λ (h : HandData). h.search) c.close.ensures.learns.only ∙ ap (λ (p : BookPass). (known p).search) c.of-hub.ensures.passes.1
           ∙ c.settle.ensures.settled.goes_on.search;
-      closed = closed_still c.args.bounds.now.kind c.args.bounds.now.film.now (hand_of hub.source (known_least hub.told) (known hub.lines) hub.asked hub.noted) (shown settled)
+      closed = closed_still g.B.Bounds.kind g.B.Bounds.film (hand_of hub.source (known_least hub.told) (known hub.lines) hub.asked hub.noted) (shown settled)
           c.args.walked.now.spent c.in_ok-number.number
           (goes_from_unasked hub.source (known_least hub.told) (known hub.lines) hub.asked hub.noted (shown settled) on) c.settle-2.ensures.limits c.in_ok-number.ensures.closed;
       best = c.settle-2.ensures.best full;

@@ -14,26 +14,26 @@ use Rattle.strip_crew.proofs.racing.open.Goals as goal
 
 pub overflow_cast-parts : goal.overflow_cast-parts
 overflow_cast-parts g c =
-    let starts : AreStarts (record { film = c.args.bounds.now.film.now; kind = c.args.bounds.now.kind; nodes = 0; start = 0; tasks = (front_data c.in_ok-front.front).tasks })
+    let starts : AreStarts (record { film = g.B.Bounds.film; kind = g.B.Bounds.kind; nodes = 0; start = 0; tasks = (front_data c.in_ok-front.front).tasks })
     = (c.tasks_are_starts.ensures
-    (record { film = c.args.bounds.now.film.now; kind = c.args.bounds.now.kind; nodes = 0; start = 0; tasks = (front_data c.in_ok-front.front).tasks })
+    (record { film = g.B.Bounds.film; kind = g.B.Bounds.kind; nodes = 0; start = 0; tasks = (front_data c.in_ok-front.front).tasks })
     (front_data c.in_ok-front.front).depth (subst IsFilm c.film-film.ensures c.keeps_limits.ensures)
     c.in_ok-front.ensures.empty.front_of.depth c.in_ok-front.ensures.empty.front_of.tasks).0 in
     omega (arith, starts.few, ap length c.tasks.ensures, length-map c.tasks.result.now path_data)
 
 pub overflow_add-parts : goal.overflow_add-parts
 overflow_add-parts g c =
-    let starts : AreStarts (record { film = c.args.bounds.now.film.now; kind = c.args.bounds.now.kind; nodes = 0; start = 0; tasks = (front_data c.in_ok-front.front).tasks })
+    let starts : AreStarts (record { film = g.B.Bounds.film; kind = g.B.Bounds.kind; nodes = 0; start = 0; tasks = (front_data c.in_ok-front.front).tasks })
     = (c.tasks_are_starts.ensures
-    (record { film = c.args.bounds.now.film.now; kind = c.args.bounds.now.kind; nodes = 0; start = 0; tasks = (front_data c.in_ok-front.front).tasks })
+    (record { film = g.B.Bounds.film; kind = g.B.Bounds.kind; nodes = 0; start = 0; tasks = (front_data c.in_ok-front.front).tasks })
     (front_data c.in_ok-front.front).depth (subst IsFilm c.film-film.ensures c.keeps_limits.ensures)
     c.in_ok-front.ensures.empty.front_of.depth c.in_ok-front.ensures.empty.front_of.tasks).0 in
     omega (arith, starts.few, ap length c.tasks.ensures, length-map c.tasks.result.now path_data)
 
 pub returns : goal.returns
 returns g c =
-    let kind : Kind = c.args.bounds.now.kind in
-    let film : FilmData = c.args.bounds.now.film.now in
+    let kind : Kind = g.B.Bounds.kind in
+    let film : FilmData = g.B.Bounds.film in
     let start : PathData = path_data c.args.start.now in
     let tasks : List PathData = (front_data c.in_ok-front.front).tasks in
     let search : SearchData = record { film = film; kind = kind; nodes = c.args.room; start = start.paid; tasks = tasks } in
@@ -49,7 +49,7 @@ returns g c =
     record {
       may = opened kind film start c.args.room tasks (front_data c.in_ok-front.front) c.in_ok-least.least c.in_ok-least.told c.in_ok-book.book c.in_ok-book.lines
           first_least first_book is_film (c.tasks_are_starts.ensures
-          (record { film = c.args.bounds.now.film.now; kind = c.args.bounds.now.kind; nodes = c.args.room; start = start.paid; tasks = (front_data c.in_ok-front.front).tasks })
+          (record { film = g.B.Bounds.film; kind = g.B.Bounds.kind; nodes = c.args.room; start = start.paid; tasks = (front_data c.in_ok-front.front).tasks })
           (front_data c.in_ok-front.front).depth (subst IsFilm c.film-film.ensures c.keeps_limits.ensures)
           c.in_ok-front.ensures.empty.front_of.depth c.in_ok-front.ensures.empty.front_of.tasks).0 refl c.requires.some c.in_ok-front.ensures.empty;
       start = ap (λ v. v.search.start) first_book.knows;

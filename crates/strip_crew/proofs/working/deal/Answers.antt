@@ -10,7 +10,7 @@ use Rattle.strip_crew.proofs.working.deal.Goals as goal
 
 pub split-requires-clause-weight : goal.split-requires-clause-weight
 split-requires-clause-weight g c =
-    let rest : ℕ = c.requires.weight.0 + (c.args.workers - c.loop-desk.desk - 1) in (
+    let rest : ℕ = c.requires.weight.0 + (c.args.race.now.limits.workers - c.loop-desk.desk - 1) in (
       rest,
       c.loop-desk.invariant.weight (suc (suc rest))
           (subst (λ (w : ℕ). Weigh w c.args.passes.now) (omega (arith, c.loop-desk-test.true)) c.requires.weight.1),
@@ -24,8 +24,8 @@ pub loop-desk-preserved : goal.loop-desk-preserved
 loop-desk-preserved g c =
     let was = c.loop-desk.invariant in
     let split = c.in_ok-split.ensures in
-    let kind = c.args.bounds.now.kind in
-    let film = c.args.bounds.now.film.now in
+    let kind = g.B.Bounds.kind in
+    let film = g.B.Bounds.film in
     let front = front_data c.args.front.now in
     let home = split_home c.args.passes.now.source in
     record {
@@ -44,11 +44,10 @@ loop-desk-preserved g c =
             search = subst (GoesBy kind film) (sym (split.fresh.search ∙ ap (λ (h : HandData). h.search) was.same)) c.requires.search;
             worked = c.in_ok-walked.ensures.worked (shown c.args.passes.now) (shown c.in_ok-split.field-0) c.requires.worked.0 c.requires.worked.1
                 (subst (λ (h : HandData). IsFresh h (shown c.in_ok-split.field-0)) was.same split.fresh);
-            memo = c.in_ok-memo.ensures.memo;
           }));
     }
 
 pub returns : goal.returns
 returns g c =
-    subst (λ (n : ℕ). AreDealt c.args.bounds.now.kind c.args.bounds.now.film.now (front_data c.args.front.now) c.args.tables.now.least c.args.tables.now.book c.args.passes.now c.loop-desk.passes
+    subst (λ (n : ℕ). AreDealt g.B.Bounds.kind g.B.Bounds.film (front_data c.args.front.now) c.args.tables.now.least c.args.tables.now.book c.args.passes.now c.loop-desk.passes
     c.loop-desk.jobs.items n) (omega (arith, c.loop-desk-test.false, c.loop-desk.auto.desk-end)) c.loop-desk.invariant

@@ -11,9 +11,8 @@ returns g c =
         light = done.weight c.requires.job.light;
         worker = c.in_ok-passes.ensures.worker;
         from = c.in_ok-passes.ensures.home ∙ c.requires.job.from;
-        search = subst (GoesBy c.args.bounds.now.kind c.args.bounds.now.film.now) (sym done.goes_on.search) c.requires.job.search;
+        search = subst (GoesBy g.B.Bounds.kind g.B.Bounds.film) (sym done.goes_on.search) c.requires.job.search;
         worked = done.worked;
-        memo = c.work_alone.ensures.memo;
       };
       left = done.left;
     }

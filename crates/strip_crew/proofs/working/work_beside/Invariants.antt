@@ -1,5 +1,4 @@
 use Rattle.std.proofs.Common.{◌≡◌, ◌+◌, ◌⊎◌, ℕ, All, IfOk, vec_len}
-use Rattle.strip_memo.specs.Memo.{IsMemo}
 use Rattle.strip_front.specs.Shown.{front_data}
 use Rattle.strip_worker.specs.Team.{GoesOn, HasWorked}
 use Rattle.strip_crew.specs.Crew.{ArePassesOf, IsDone, NoPartLeft, Weigh, shown}
@@ -8,14 +7,13 @@ use Rattle.strip_crew.proofs.working.work_beside.Given as goal
 
 abbrev pub invariant-loop-one : goal.invariant-loop-one
 invariant-loop-one g l = record {
-  memo : IsMemo l.fn.bounds.kind l.fn.bounds.film.now l.memo;
   passes : ArePassesOf l.fn.tables.least l.fn.tables.book l.passes;
   goes_on : GoesOn (shown l.fn.passes) (shown l.passes);
   weight : (total : ℕ) → Weigh total l.fn.passes → (rest : ℕ) × (rest + vec_len l.all ≡ total) × Weigh rest l.passes;
   worked : HasWorked (shown l.passes) (front_data l.fn.front) l.walked.found.items l.walked.spent;
-  all : All (λ one. IfOk one (IsDone l.fn.bounds.kind l.fn.bounds.film.now (front_data l.fn.front) l.fn.tables.least l.fn.tables.book g.S.Rooted.home)) l.all.items;
+  all : All (λ one. IfOk one (IsDone g.B.Bounds.kind g.B.Bounds.film (front_data l.fn.front) l.fn.tables.least l.fn.tables.book g.S.Rooted.home)) l.all.items;
   home : split_home l.passes.source ≡ g.S.Rooted.home;
-  left : (vec_len l.all ≡ l.fn.workers) ⊎ NoPartLeft l.passes;
+  left : (vec_len l.all ≡ l.fn.race.limits.workers) ⊎ NoPartLeft l.passes;
 }
 
 abbrev pub decreases-loop-one : goal.decreases-loop-one

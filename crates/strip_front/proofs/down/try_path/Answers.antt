@@ -9,18 +9,20 @@ use Rattle.strip_hand.specs.Hand.{HandData}
 use Rattle.strip_front.proofs.Reaches.{reach_fits}
 use Rattle.strip_front.proofs.down.try_path.Goals as goal
 
-pub at-bound-requires-clause-lies : goal.at-bound-requires-clause-lies
-at-bound-requires-clause-lies g c =
-    rw c.rest.ensures (rest_lies c.args.bounds.now.film.now (path_data c.args.path.now)
-    (subst (λ (f : FilmData). IsPath f (path_data c.args.path.now)) c.requires.search.0 c.requires.may.is_open.0))
+pub whole-bound-requires : goal.whole-bound-requires
+whole-bound-requires g c = record {
+  lies =
+      rw c.rest.ensures (rest_lies g.B.Bounds.film (path_data c.args.path.now)
+      (subst (λ (f : FilmData). IsPath f (path_data c.args.path.now)) c.requires.search.0 c.requires.may.is_open.0));
+}
 
 pub overflow_add-paid : goal.overflow_add-paid
 overflow_add-paid g c =
     omega (
       arith,
-      reach_fits c.args.bounds.now.kind c.args.bounds.now.film.now (path_data c.args.path.now) c.paid.result c.at-bound.result
+      reach_fits g.B.Bounds.kind g.B.Bounds.film (path_data c.args.path.now) c.paid.result c.whole-bound.result
           (subst IsFilm (ap (λ (h : HandData). h.search.film) c.look-least.ensures.told.only ∙ c.requires.search.0) c.keeps_limits.ensures.film)
           (subst (λ (f : FilmData). IsPath f (path_data c.args.path.now)) c.requires.search.0 c.requires.may.is_open.0)
           c.paid.ensures
-          (c.at-bound.ensures ∙ ap (bound c.args.bounds.now.kind c.args.bounds.now.film.now) c.rest.ensures),
+          (c.whole-bound.ensures ∙ ap (bound g.B.Bounds.kind g.B.Bounds.film) c.rest.ensures),
     )

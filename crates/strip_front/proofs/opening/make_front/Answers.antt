@@ -15,34 +15,36 @@ use Rattle.strip_front.proofs.opening.make_front.Given.{Over}
 use Rattle.strip_front.proofs.opening.make_front.Goals as goal
 use Rattle.strip_front.proofs.opening.make_front.Goals.{After-min-depth}
 
-own_film : (g : Over) (c : goal.After-min-depth g) → IsFilm c.args.bounds.now.film.now
+own_film : (g : Over) (c : goal.After-min-depth g) → IsFilm g.B.Bounds.film
 own_film g c = subst IsFilm c.film-film.ensures c.keeps_limits.ensures
 
-depth_is : (g : Over) (c : goal.After-min-depth g) → c.min-depth.result ≡ min c.args.most (length c.args.bounds.now.film.now.casts)
+depth_is : (g : Over) (c : goal.After-min-depth g) → c.min-depth.result ≡ min c.args.most (length g.B.Bounds.film.casts)
 depth_is g c = search rules
 
-fits : (g : Over) (c : goal.After-min-depth g) → IsDepth c.args.bounds.now.film.now c.min-depth.result
-fits g c = is_depth c.args.bounds.now.film.now c.args.most c.min-depth.result (own_film g c) c.requires.some c.requires.few (depth_is g c)
+fits : (g : Over) (c : goal.After-min-depth g) → IsDepth g.B.Bounds.film c.min-depth.result
+fits g c = is_depth g.B.Bounds.film c.args.most c.min-depth.result (own_film g c) c.requires.some c.requires.few (depth_is g c)
 
-pub tasks_behind-requires-clause-layer : goal.tasks_behind-requires-clause-layer
-tasks_behind-requires-clause-layer g c =
-    let before : ℕ = c.min-depth.result - 1 in
-    let own = fits g (goal.at.tasks_behind-requires-clause-layer g c).After-min-depth in
-    (before, c.in_ok-shorter.ensures.last before (omega (arith, own.some)))
+pub tasks_behind-requires : goal.tasks_behind-requires
+tasks_behind-requires g c = record {
+  layer =
+      let before : ℕ = c.min-depth.result - 1 in
+      let own = fits g (goal.at.tasks_behind-requires g c).After-min-depth in
+      (before, c.in_ok-shorter.ensures.last before (omega (arith, own.some)));
+}
 
 pub of-requires : goal.of-requires
 of-requires g c =
-    let film = c.args.bounds.now.film.now in
+    let film = g.B.Bounds.film in
     let is = own_film g (goal.at.of-requires g c).After-min-depth in
     record {
-      apart = shorter_apart c.args.bounds.now.kind film c.min-depth.result (layer_facts c.args.bounds.now.kind film is)
+      apart = shorter_apart g.B.Bounds.kind film c.min-depth.result (layer_facts g.B.Bounds.kind film is)
           (map path_data c.in_ok-shorter.shorter.items) c.in_ok-shorter.ensures.shorter is;
     }
 
 pub returns-clause-empty : goal.returns-clause-empty
 returns-clause-empty g c =
-    let film = c.args.bounds.now.film.now in
-    let kind = c.args.bounds.now.kind in
+    let film = g.B.Bounds.film in
+    let kind = g.B.Bounds.kind in
     let before : ℕ = c.min-depth.result - 1 in
     let own = fits g (goal.at.returns-clause-empty g c).After-min-depth in
     let tasks : List PathData = paths_of c.in_ok-tasks.tasks in
@@ -60,5 +62,5 @@ returns-clause-empty g c =
 
 pub returns-clause-depth : goal.returns-clause-depth
 returns-clause-depth g c =
-    IfOk-weaker c.unfilled.result _ (λ front. front.depth ≡ min c.args.most (length c.args.bounds.now.film.now.casts))
+    IfOk-weaker c.unfilled.result _ (λ front. front.depth ≡ min c.args.most (length g.B.Bounds.film.casts))
     (λ front same. ap (λ (f : FrontData). f.depth) same ∙ depth_is g (goal.at.returns-clause-depth g c).After-min-depth) c.unfilled.ensures

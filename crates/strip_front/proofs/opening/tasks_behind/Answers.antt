@@ -34,33 +34,35 @@ pub layer_after-requires : goal.layer_after-requires
 layer_after-requires g c =
     let before = c.requires.layer.0 in
     record {
-      paths = paths_there c.args.bounds.now.kind c.film-film.result.now before c.keeps_limits.ensures (paths_of c.args.last.now)
+      paths = paths_there g.B.Bounds.kind c.film-film.result.now before c.keeps_limits.ensures (paths_of c.args.last.now)
           (c.requires.layer.1 ∙ ap (λ (f : FilmData). layer f before) (sym c.film-film.ensures));
     }
 
-pub by_promise-requires-clause-paths : goal.by_promise-requires-clause-paths
-by_promise-requires-clause-paths g c =
-    let before = c.requires.layer.0 in
-    let film = c.args.bounds.now.film.now in
-    paths_there c.args.bounds.now.kind film (suc before) (subst IsFilm c.film-film.ensures c.keeps_limits.ensures) (map path_data c.paths.result.now)
-    (ap (λ (paths : List Path). map path_data paths) c.paths.ensures
-    ∙ next_layer film c.film-film.result.now before (paths_of c.args.last.now) (paths_of c.in_ok-longest.longest) c.film-film.ensures c.in_ok-longest.ensures c.requires.layer.1)
+pub by_promise-requires : goal.by_promise-requires
+by_promise-requires g c = record {
+  paths =
+      let before = c.requires.layer.0 in
+      let film = g.B.Bounds.film in
+      paths_there g.B.Bounds.kind film (suc before) (subst IsFilm c.film-film.ensures c.keeps_limits.ensures) (map path_data c.paths.result.now)
+      (ap (λ (paths : List Path). map path_data paths) c.paths.ensures
+      ∙ next_layer film c.film-film.result.now before (paths_of c.args.last.now) (paths_of c.in_ok-longest.longest) c.film-film.ensures c.in_ok-longest.ensures c.requires.layer.1);
+}
 
 pub of-requires : goal.of-requires
 of-requires g c =
     let before = c.requires.layer.0 in
-    let film = c.args.bounds.now.film.now in
+    let film = g.B.Bounds.film in
     let are = c.in_ok-tasks.ensures (suc before) (ap (λ (paths : List Path). map path_data paths) c.paths.ensures
     ∙ next_layer film c.film-film.result.now before (paths_of c.args.last.now) (paths_of c.in_ok-longest.longest) c.film-film.ensures c.in_ok-longest.ensures c.requires.layer.1) in
     record {
       apart = others_permuted (layer film (suc before)) (map path_data c.in_ok-tasks.tasks.items) are.same
-          (layer_facts c.args.bounds.now.kind film (subst IsFilm c.film-film.ensures c.keeps_limits.ensures) (suc before)).apart;
+          (layer_facts g.B.Bounds.kind film (subst IsFilm c.film-film.ensures c.keeps_limits.ensures) (suc before)).apart;
     }
 
 pub returns : goal.returns
 returns g c = λ before from.
-    let film = c.args.bounds.now.film.now in
-    let kind = c.args.bounds.now.kind in
+    let film = g.B.Bounds.film in
+    let kind = g.B.Bounds.kind in
     let are = c.in_ok-tasks.ensures (suc before) (ap (λ (paths : List Path). map path_data paths) c.paths.ensures
     ∙ next_layer film c.film-film.result.now before (paths_of c.args.last.now) (paths_of c.in_ok-longest.longest) c.film-film.ensures c.in_ok-longest.ensures from) in
     IfOk-weaker c.of.result (λ by_set. by_set.paths ≡ c.in_ok-tasks.tasks) (λ tasks. AreTasksOf (rules_of kind film) (suc before) (paths_of tasks))

@@ -17,12 +17,14 @@ use Rattle.strip_front.proofs.shorter.push_kept.Given.{Over}
 use Rattle.strip_front.proofs.shorter.push_kept.Goals as goal
 use Rattle.strip_front.proofs.shorter.push_kept.Goals.{After-has, In-Some}
 
-pub turns_of-turns-requires-clause-lies : goal.turns_of-turns-requires-clause-lies
-turns_of-turns-requires-clause-lies g c = rw c.rest.ensures (rest_lies c.args.bounds.now.film.now (path_data c.args.path.now) c.requires.path)
+pub turns_of-turns-requires : goal.turns_of-turns-requires
+turns_of-turns-requires g c = record {
+  lies = rw c.rest.ensures (rest_lies g.B.Bounds.film (path_data c.args.path.now) c.requires.path);
+}
 
 pub loop-scene-init : goal.loop-scene-init
 loop-scene-init g c =
-    let rules = rules_of c.args.bounds.now.kind c.args.bounds.now.film.now in
+    let rules = rules_of g.B.Bounds.kind g.B.Bounds.film in
     let layer : List PathData = paths_of c.args.layer.now in
     record {
       wait = wait_first rules layer (path_data c.args.path.now) (turns_data c.turns_of-turns.result) c.rest.result.0 c.rest.ensures
@@ -43,7 +45,7 @@ extend-longer-requires-clause-ready g c =
 -- one fewer waits
 fewer : (g : Over) (c : goal.In-Some g) → size (turns_data c.take_next.new.self).left < size (turns_data c.loop-scene.turns).left
 fewer g c =
-    let film = c.args.bounds.now.film.now in
+    let film = g.B.Bounds.film in
     let path : PathData = path_data c.args.path.now in
     omega (
       arith,
@@ -61,24 +63,24 @@ pub loop-scene-smaller : goal.loop-scene-smaller
 loop-scene-smaller g c = fewer g (goal.at.loop-scene-smaller g c).In-Some
 
 still : (g : Over) (c : goal.In-Some g)
-    → AreWaiting (rules_of c.args.bounds.now.kind c.args.bounds.now.film.now) (paths_of c.args.layer.now) (path_data c.args.path.now) (turns_data c.take_next.new.self)
+    → AreWaiting (rules_of g.B.Bounds.kind g.B.Bounds.film) (paths_of c.args.layer.now) (path_data c.args.path.now) (turns_data c.take_next.new.self)
 still g c =
-    wait_still (rules_of c.args.bounds.now.kind c.args.bounds.now.film.now) (paths_of c.args.layer.now) (path_data c.args.path.now) (turns_data c.loop-scene.turns)
+    wait_still (rules_of g.B.Bounds.kind g.B.Bounds.film) (paths_of c.args.layer.now) (path_data c.args.path.now) (turns_data c.loop-scene.turns)
     (turns_data c.take_next.new.self) c.in-Some.scene c.loop-scene.invariant.found.0 c.loop-scene.invariant.wait c.in-Some.ensures c.loop-scene.invariant.found.2
 
 -- the path with this scene more
-of_film : (g : Over) (c : goal.After-has g) → IsPath c.args.bounds.now.film.now (path_data c.extend-longer.result)
+of_film : (g : Over) (c : goal.After-has g) → IsPath g.B.Bounds.film (path_data c.extend-longer.result)
 of_film g c = subst (λ (f : FilmData). IsPath f (path_data c.extend-longer.result)) c.film-film.ensures c.extend-longer.ensures.path
 
 along : (g : Over) (c : goal.After-has g)
-    → path_data c.extend-longer.result ≡ extended c.args.bounds.now.film.now (path_data c.args.path.now) c.in-Some.scene
+    → path_data c.extend-longer.result ≡ extended g.B.Bounds.film (path_data c.args.path.now) c.in-Some.scene
 along g c =
     c.extend-longer.ensures.extended
     ∙ ap (λ (f : FilmData). extended f (path_data c.args.path.now) c.in-Some.scene) c.film-film.ensures
 
 pub loop-scene-preserved-in-Continue-1 : goal.loop-scene-preserved-in-Continue-1
 loop-scene-preserved-in-Continue-1 g c =
-    let rules = rules_of c.args.bounds.now.kind c.args.bounds.now.film.now in
+    let rules = rules_of g.B.Bounds.kind g.B.Bounds.film in
     let layer : List PathData = paths_of c.args.layer.now in
     let path : PathData = path_data c.args.path.now in
     let found : List PathData = c.loop-scene.invariant.found.0 in
@@ -92,13 +94,13 @@ loop-scene-preserved-in-Continue-1 g c =
             (extended rules.film path c.in-Some.scene) c.in_ok-push.ensures.items c.loop-scene.invariant.found.1 is,
         found_one rules layer path (turns_data c.loop-scene.turns) (turns_data c.take_next.new.self) c.in-Some.scene found c.loop-scene.invariant.wait
             c.in-Some.ensures c.loop-scene.invariant.found.2 c.requires.path.left
-            (subst (Contains layer) is ((c.has.ensures c.args.bounds.now.film.now c.requires.layer c.requires.apart (of_film g at)).0 c.if-has.true)),
+            (subst (Contains layer) is ((c.has.ensures g.B.Bounds.film c.requires.layer c.requires.apart (of_film g at)).0 c.if-has.true)),
       );
     }
 
 pub loop-scene-preserved : goal.loop-scene-preserved
 loop-scene-preserved g c =
-    let rules = rules_of c.args.bounds.now.kind c.args.bounds.now.film.now in
+    let rules = rules_of g.B.Bounds.kind g.B.Bounds.film in
     let layer : List PathData = paths_of c.args.layer.now in
     let at = (goal.at.loop-scene-preserved g c).After-has in
     record {
@@ -108,7 +110,7 @@ loop-scene-preserved g c =
         c.loop-scene.invariant.found.1,
         found_past rules layer (path_data c.args.path.now) (turns_data c.loop-scene.turns) (turns_data c.take_next.new.self) c.in-Some.scene
             c.loop-scene.invariant.found.0 c.loop-scene.invariant.wait c.in-Some.ensures c.loop-scene.invariant.found.2
-            (λ there. true≢false (sym ((c.has.ensures c.args.bounds.now.film.now c.requires.layer c.requires.apart (of_film g at)).1
+            (λ there. true≢false (sym ((c.has.ensures g.B.Bounds.film c.requires.layer c.requires.apart (of_film g at)).1
             (subst (Contains layer) (sym (along g at)) there)) ∙ c.if-has.false)),
       );
     }
@@ -117,6 +119,6 @@ pub returns : goal.returns
 returns g c = (
   c.loop-scene.invariant.found.0,
   c.loop-scene.invariant.found.1,
-  found_all (rules_of c.args.bounds.now.kind c.args.bounds.now.film.now) (paths_of c.args.layer.now) (path_data c.args.path.now) c.loop-scene.invariant.found.0
+  found_all (rules_of g.B.Bounds.kind g.B.Bounds.film) (paths_of c.args.layer.now) (path_data c.args.path.now) c.loop-scene.invariant.found.0
       (turns_data c.loop-scene.turns).left c.in_default.ensures c.loop-scene.invariant.found.2,
 )

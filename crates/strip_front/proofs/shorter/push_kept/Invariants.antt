@@ -10,9 +10,9 @@ use Rattle.strip_front.proofs.shorter.push_kept.Given as goal
 -- what was pushed goes on with the scenes that have had their turn; the others wait by their ranks
 abbrev pub invariant-loop-scene : goal.invariant-loop-scene
 invariant-loop-scene g l = record {
-  wait : AreWaiting (rules_of l.bounds.kind l.bounds.film.now) (paths_of l.layer) (path_data l.path) (turns_data l.turns);
+  wait : AreWaiting (rules_of g.B.Bounds.kind g.B.Bounds.film) (paths_of l.layer) (path_data l.path) (turns_data l.turns);
   found : (found : List PathData) × (map path_data l.paths.items ≡ map path_data l.fn.paths.items ++ found)
-      × AreFound (rules_of l.bounds.kind l.bounds.film.now) (paths_of l.layer) (path_data l.path) (turns_data l.turns).left found;
+      × AreFound (rules_of g.B.Bounds.kind g.B.Bounds.film) (paths_of l.layer) (path_data l.path) (turns_data l.turns).left found;
 }
 
 abbrev pub decreases-loop-scene : goal.decreases-loop-scene

@@ -18,13 +18,13 @@ use Rattle.strip_front.proofs.shorter.shorter_paths.Goals.{In_ok-last-2}
 
 pub loop-count-init : goal.loop-count-init
 loop-count-init g c =
-    let film = c.args.bounds.now.film.now in
+    let film = g.B.Bounds.film in
     let empty : paths_of c.in_ok-last.last ≡ layer film 0 = c.in_ok-last.ensures ∙ ap (λ (f : FilmData). layer f 0) c.film-film.ensures in
     record {
       some = omega arith;
-      shorter = subst (AreShorter (rules_of c.args.bounds.now.kind film) 1)
+      shorter = subst (AreShorter (rules_of g.B.Bounds.kind film) 1)
           (sym (ap (map path_data) (c.in_ok-shorter.ensures.items_if_clones_equal (search rules) ∙ c.paths.ensures) ∙ empty))
-          (only_empty (rules_of c.args.bounds.now.kind film));
+          (only_empty (rules_of g.B.Bounds.kind film));
       last = λ before one. (let none : 0 ≡ before = omega (arith, one) in empty ∙ ap (layer film) none);
     }
 
@@ -36,19 +36,19 @@ last_is film count paths some last = last (count - 1) (omega (arith, some))
 pub layer_after-requires : goal.layer_after-requires
 layer_after-requires g c =
     let film = c.film-film.result.now in
-    let kind = c.args.bounds.now.kind in
+    let kind = g.B.Bounds.kind in
     let before : ℕ = c.loop-count.count - 1 in
     let same : paths_of c.loop-count.last ≡ layer film before
-    = last_is c.args.bounds.now.film.now c.loop-count.count (paths_of c.loop-count.last) c.loop-count.invariant.some c.loop-count.invariant.last ∙ ap (λ (f : FilmData). layer f before) (sym c.film-film.ensures) in
+    = last_is g.B.Bounds.film c.loop-count.count (paths_of c.loop-count.last) c.loop-count.invariant.some c.loop-count.invariant.last ∙ ap (λ (f : FilmData). layer f before) (sym c.film-film.ensures) in
     record {
       paths = subst (λ (paths : List PathData). All (IsPath film) paths) (sym same)
           (All-weaker (IsOpen (rules_of kind film)) (IsPath film) (λ path open_path. open_path.0) (layer film before) (layer_facts kind film c.keeps_limits.ensures before).is_open);
     }
 
 -- and the next one
-next_is : (g : Over) (c : goal.In_ok-last-2 g) → paths_of c.in_ok-last-2.last ≡ layer c.args.bounds.now.film.now c.loop-count.count
+next_is : (g : Over) (c : goal.In_ok-last-2 g) → paths_of c.in_ok-last-2.last ≡ layer g.B.Bounds.film c.loop-count.count
 next_is g c =
-    let film = c.args.bounds.now.film.now in
+    let film = g.B.Bounds.film in
     let count : suc (c.loop-count.count - 1) ≡ c.loop-count.count = omega (arith, c.loop-count.invariant.some) in
     c.in_ok-last-2.ensures
     ∙ ap (λ (f : FilmData). fold with_path [] (flat_map (paths_after f) (paths_of c.loop-count.last))) c.film-film.ensures
@@ -63,10 +63,10 @@ loop-count-preserved g c = record {
   some = omega arith;
   shorter = c.in_ok-shorter-2.ensures;
   last = λ before one. (let same : c.loop-count.count ≡ before = omega (arith, one) in
-      next_is g (goal.at.loop-count-preserved g c).In_ok-last-2 ∙ ap (layer c.args.bounds.now.film.now) same);
+      next_is g (goal.at.loop-count-preserved g c).In_ok-last-2 ∙ ap (layer g.B.Bounds.film) same);
 }
 
 pub returns-clause-shorter : goal.returns-clause-shorter
 returns-clause-shorter g c =
     let all : c.loop-count.count ≡ c.args.depth = omega (arith, c.loop-count-test.false, c.loop-count.auto.count-end, c.loop-count.invariant.some, c.requires.depth.some) in
-    subst (λ (n : ℕ). AreShorter (rules_of c.args.bounds.now.kind c.args.bounds.now.film.now) n (map path_data c.loop-count.shorter.items)) all c.loop-count.invariant.shorter
+    subst (λ (n : ℕ). AreShorter (rules_of g.B.Bounds.kind g.B.Bounds.film) n (map path_data c.loop-count.shorter.items)) all c.loop-count.invariant.shorter

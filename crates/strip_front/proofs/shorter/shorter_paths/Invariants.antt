@@ -10,6 +10,6 @@ use Rattle.strip_front.proofs.shorter.shorter_paths.Given as goal
 abbrev pub invariant-loop-count : goal.invariant-loop-count
 invariant-loop-count g l = record {
   some : 1 ≤ l.count;
-  shorter : AreShorter (rules_of l.bounds.kind l.bounds.film.now) l.count (map path_data l.shorter.items);
-  last : (before : ℕ) → l.count ≡ before + 1 → paths_of l.last ≡ layer l.bounds.film.now before;
+  shorter : AreShorter (rules_of g.B.Bounds.kind g.B.Bounds.film) l.count (map path_data l.shorter.items);
+  last : (before : ℕ) → l.count ≡ before + 1 → paths_of l.last ≡ layer g.B.Bounds.film before;
 }

@@ -9,7 +9,7 @@ use Rattle.strip_front.proofs.shorter.turns_of.Given as goal
 -- the scenes so far have their ranks; these and those to come are the open firsts
 abbrev pub invariant-loop-first : goal.invariant-loop-first
 invariant-loop-first g l = record {
-  ranked : (scene : ℕ) → Contains l.yielded scene → slice_index l.ranks scene ≡ rank (rules_of l.bounds.kind l.bounds.film.now) l.rest.0 scene;
+  ranked : (scene : ℕ) → Contains l.yielded scene → slice_index l.ranks scene ≡ rank (rules_of g.B.Bounds.kind g.B.Bounds.film) l.rest.0 scene;
   long : length l.ranks ≡ 64;
-  turns : l.yielded ++ rest_of l.first-iterator ≡ members (open_firsts l.bounds.film.now l.rest.0);
+  turns : l.yielded ++ rest_of l.first-iterator ≡ members (open_firsts g.B.Bounds.film l.rest.0);
 }

@@ -19,8 +19,8 @@ use Rattle.strip_front.proofs.shorter.with_layer.Given.{Over}
 use Rattle.strip_front.proofs.shorter.with_layer.Goals as goal
 use Rattle.strip_front.proofs.shorter.with_layer.Goals.{After-keeps_limits, After-path-item, then-scenes-count+in_ok-push_kept, else-scenes-count}
 
-facts : (g : Over) (c : goal.After-keeps_limits g) (count : ℕ) → LayerFacts c.args.bounds.now.kind c.args.bounds.now.film.now count
-facts g c = layer_facts c.args.bounds.now.kind c.args.bounds.now.film.now (subst IsFilm c.film.ensures c.keeps_limits.ensures)
+facts : (g : Over) (c : goal.After-keeps_limits g) (count : ℕ) → LayerFacts g.B.Bounds.kind g.B.Bounds.film count
+facts g c = layer_facts g.B.Bounds.kind g.B.Bounds.film (subst IsFilm c.film.ensures c.keeps_limits.ensures)
 
 -- the path of this turn
 shown : (g : Over) (c : goal.After-path-item g) (d : PathData) → get_or (map path_data c.args.shorter.now) c.loop-path.path-index d ≡ path_data c.path-item.result
@@ -33,14 +33,14 @@ there g c =
 
 pub push_kept-requires-clause-path : goal.push_kept-requires-clause-path
 push_kept-requires-clause-path g c =
-    (shorter_open c.args.bounds.now.kind c.args.bounds.now.film.now c.args.count (facts g (goal.at.push_kept-requires-clause-path g c).After-keeps_limits)
+    (shorter_open g.B.Bounds.kind g.B.Bounds.film c.args.count (facts g (goal.at.push_kept-requires-clause-path g c).After-keeps_limits)
     (map path_data c.args.shorter.now) c.requires.shorter (path_data c.path-item.result) (there g (goal.at.push_kept-requires-clause-path g c).After-path-item)).0
 
 pub push_kept-requires-clause-layer : goal.push_kept-requires-clause-layer
 push_kept-requires-clause-layer g c =
-    let film = c.args.bounds.now.film.now in
+    let film = g.B.Bounds.film in
     subst (λ (paths : List PathData). All (IsPath film) paths) (sym c.requires.layer)
-    (All-weaker (IsOpen (rules_of c.args.bounds.now.kind film)) (IsPath film) (λ path open_path. open_path.0) (layer film c.args.count)
+    (All-weaker (IsOpen (rules_of g.B.Bounds.kind film)) (IsPath film) (λ path open_path. open_path.0) (layer film c.args.count)
     (facts g (goal.at.push_kept-requires-clause-layer g c).After-keeps_limits c.args.count).is_open)
 
 pub push_kept-requires-clause-apart : goal.push_kept-requires-clause-apart
@@ -50,8 +50,8 @@ push_kept-requires-clause-apart g c =
 
 pub loop-path-preserved : goal.loop-path-preserved
 loop-path-preserved g c =
-    let film = c.args.bounds.now.film.now in
-    let rules = rules_of c.args.bounds.now.kind film in
+    let film = g.B.Bounds.film in
+    let rules = rules_of g.B.Bounds.kind film in
     let all : List PathData = map path_data c.args.shorter.now in
     let path : PathData = path_data c.path-item.result in
     let now : List PathData = map path_data c.loop-path.paths.items in
@@ -60,7 +60,7 @@ loop-path-preserved g c =
     = pushed_one path_data c.loop-path.paths.items c.push.new.self.items c.path-item.result c.in_ok-push.ensures.items in
     let turn = followed_turn rules (paths_of c.args.next.now) c.args.count all c.loop-path.path-index path now in
     let within : c.loop-path.path-index < length all = omega (arith, c.loop-path-test.true, length-map c.args.shorter.now path_data) in
-    let short = shorter_short c.args.bounds.now.kind film c.args.count (facts g (goal.at.loop-path-preserved g c).After-keeps_limits) all c.requires.shorter path (there g at) in
+    let short = shorter_short g.B.Bounds.kind film c.args.count (facts g (goal.at.loop-path-preserved g c).After-keeps_limits) all c.requires.shorter path (there g at) in
     record {
       followed = elim c.if-scenes-count.branch [
         | then-scenes-count+in_ok-push_kept w ↦ (let long : length path.scenes + 1 ≡ c.args.count = omega (arith, w.if-scenes-count.true, ap length c.scenes.ensures) in
@@ -80,10 +80,10 @@ loop-path-preserved g c =
 
 pub returns : goal.returns
 returns g c =
-    let film = c.args.bounds.now.film.now in
+    let film = g.B.Bounds.film in
     let all : List PathData = map path_data c.args.shorter.now in
-    shorter_next c.args.bounds.now.kind film c.args.count (facts g (goal.at.returns g c).After-keeps_limits) all c.requires.shorter
+    shorter_next g.B.Bounds.kind film c.args.count (facts g (goal.at.returns g c).After-keeps_limits) all c.requires.shorter
     (c.args.count - 1) (omega (arith, c.requires.some)) (paths_of c.args.next.now) (map path_data c.loop-path.paths.items) c.requires.layer
-    (subst (λ (seen : List PathData). AreFollowed (rules_of c.args.bounds.now.kind film) (paths_of c.args.next.now) c.args.count seen (map path_data c.loop-path.paths.items))
+    (subst (λ (seen : List PathData). AreFollowed (rules_of g.B.Bounds.kind film) (paths_of c.args.next.now) c.args.count seen (map path_data c.loop-path.paths.items))
     (take_all c.loop-path.path-index all (omega (arith, length-map c.args.shorter.now path_data, c.loop-path-test.false, c.loop-path.auto.path-index-end)))
     c.loop-path.invariant.followed)

@@ -8,5 +8,5 @@ use Rattle.strip_front.proofs.shorter.with_layer.Given as goal
 -- the paths so far, each with those of the next layer behind it
 abbrev pub invariant-loop-path : goal.invariant-loop-path
 invariant-loop-path g l = record {
-  followed : AreFollowed (rules_of l.bounds.kind l.bounds.film.now) (paths_of l.next) l.count (take l.path-index (map path_data l.shorter)) (map path_data l.paths.items);
+  followed : AreFollowed (rules_of g.B.Bounds.kind g.B.Bounds.film) (paths_of l.next) l.count (take l.path-index (map path_data l.shorter)) (map path_data l.paths.items);
 }

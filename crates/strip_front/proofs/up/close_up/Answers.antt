@@ -28,8 +28,10 @@ facts g c =
 pub index-requires : goal.index-requires
 index-requires g c = omega (arith, (facts g (goal.at.index-requires g c).After-keeps_limits).some, c.requires.walked.front_of.lines)
 
-pub at-requires-clause-lies : goal.at-requires-clause-lies
-at-requires-clause-lies g c = rw (c.all.ensures, c.film.ensures) (LiesBelow-full (length c.args.bounds.now.film.now.casts))
+pub whole-requires : goal.whole-requires
+whole-requires g c = record {
+  lies = rw (c.all.ensures, c.film.ensures) (LiesBelow-full (length g.B.Bounds.film.casts));
+}
 
 -- where the empty path has no line, the number is the static bound
 pub returns-then-is_none-clause-closed : goal.returns-then-is_none-clause-closed
@@ -41,9 +43,9 @@ returns-then-is_none-clause-closed g c =
     let none : root_of front ≡ None
     = get_or_default c.args.front.now.lines.items 0 None c.index.result.now (omega (arith, (facts g start).some, c.requires.walked.front_of.lines))
     ∙ sym c.index.ensures ∙ none_is c.index.result.now c.if-is_none.ensures in
-    let static : c.at.result ≡ bound hand.search.kind hand.search.film all
-    = c.at.ensures ∙ ap (bound c.args.bounds.now.kind c.args.bounds.now.film.now) (c.all.ensures ∙ ap all_scenes c.film.ensures)
-    ∙ ap (λ (k : Kind). bound k c.args.bounds.now.film.now (all_scenes c.args.bounds.now.film.now)) (sym c.requires.search.1)
+    let static : c.whole.result ≡ bound hand.search.kind hand.search.film all
+    = c.whole.ensures ∙ ap (bound g.B.Bounds.kind g.B.Bounds.film) (c.all.ensures ∙ ap all_scenes c.film.ensures)
+    ∙ ap (λ (k : Kind). bound k g.B.Bounds.film (all_scenes g.B.Bounds.film)) (sym c.requires.search.1)
     ∙ ap (λ (f : FilmData). bound hand.search.kind f (all_scenes f)) (sym c.requires.search.0) in
     record {
       known_of = omega (arith, static, known-static (search_rules hand.search) hand.lines all);

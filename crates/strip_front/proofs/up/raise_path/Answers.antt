@@ -38,19 +38,23 @@ own_lies g c =
     (rest_in (g.H.Hand.shows c.args.hand.now) c.keeps_limits-2.ensures (front_data c.args.front.now) c.requires.raised.walked.front_of (facts g c) c.requires.raised.walked.filled c.args.found.now
     c.requires.raised.walked.known_of c.args.front.now.numbers.items c.args.place c.requires.place (deeper g c))
 
-static_is : (g : Over) (c : goal.After-index g) (x : ℕ) → x ≡ bound c.args.bounds.now.kind c.args.bounds.now.film.now c.rest-rest.result.0
+static_is : (g : Over) (c : goal.After-index g) (x : ℕ) → x ≡ bound g.B.Bounds.kind g.B.Bounds.film c.rest-rest.result.0
     → x ≡ bound (g.H.Hand.shows c.args.hand.now).search.kind (g.H.Hand.shows c.args.hand.now).search.film (path_at (front_data c.args.front.now) c.args.place).rest
 static_is g c x is =
-    is ∙ ap (λ (k : Kind). bound k c.args.bounds.now.film.now c.rest-rest.result.0) (sym c.requires.search.1)
+    is ∙ ap (λ (k : Kind). bound k g.B.Bounds.film c.rest-rest.result.0) (sym c.requires.search.1)
     ∙ ap (λ (f : FilmData). bound (g.H.Hand.shows c.args.hand.now).search.kind f c.rest-rest.result.0) (sym c.requires.search.0)
     ∙ ap (bound (g.H.Hand.shows c.args.hand.now).search.kind (g.H.Hand.shows c.args.hand.now).search.film) (rest_is g c)
 
-pub at-requires-clause-lies : goal.at-requires-clause-lies
-at-requires-clause-lies g c = subst (λ (f : FilmData). LiesIn f c.rest-rest.result.0) c.requires.search.0 (own_lies g (goal.at.at-requires-clause-lies g c).After-index)
+pub whole-requires : goal.whole-requires
+whole-requires g c = record {
+  lies = subst (λ (f : FilmData). LiesIn f c.rest-rest.result.0) c.requires.search.0 (own_lies g (goal.at.whole-requires g c).After-index);
+}
 
-pub at-requires-in-Some-clause-lies : goal.at-requires-in-Some-clause-lies
-at-requires-in-Some-clause-lies g c =
-    subst (λ (f : FilmData). LiesIn f c.rest-rest.result.0) c.requires.search.0 (own_lies g (goal.at.at-requires-in-Some-clause-lies g c).After-index)
+pub whole-requires-in-Some : goal.whole-requires-in-Some
+whole-requires-in-Some g c = record {
+  lies =
+      subst (λ (f : FilmData). LiesIn f c.rest-rest.result.0) c.requires.search.0 (own_lies g (goal.at.whole-requires-in-Some g c).After-index);
+}
 
 line_is : (g : Over) (c : goal.After-index g) → line_of (front_data c.args.front.now) c.args.place ≡ c.index.result.now
 line_is g c = get_or_default c.args.front.now.lines.items c.args.place None c.index.result.now (omega (arith, c.requires.place, c.requires.raised.walked.front_of.lines)) ∙ sym c.index.ensures
@@ -59,8 +63,8 @@ pub returns-in-None-clause-reached : goal.returns-in-None-clause-reached
 returns-in-None-clause-reached g c =
     let at = (goal.at.returns-in-None-clause-reached g c).After-index in
     reached_static (g.H.Hand.shows c.args.hand.now) c.keeps_limits-2.ensures (front_data c.args.front.now) c.requires.raised.walked.front_of (facts g at) c.requires.raised.walked.filled c.args.found.now
-    c.requires.raised.walked.known_of c.args.front.now.numbers.items c.args.place c.requires.place (deeper g at) c.requires.raised.root (line_is g at ∙ c.in-None.is) c.at.result
-    (static_is g at c.at.result c.at.ensures)
+    c.requires.raised.walked.known_of c.args.front.now.numbers.items c.args.place c.requires.place (deeper g at) c.requires.raised.root (line_is g at ∙ c.in-None.is) c.whole.result
+    (static_is g at c.whole.result c.whole.ensures)
 
 film_is : (g : Over) (c : goal.After-index g) → (g.H.Hand.shows c.args.hand.now).search.film ≡ c.film-film.result.now
 film_is g c = c.requires.search.0 ∙ sym c.film-film.ensures
@@ -100,7 +104,7 @@ raise-requires-clause-may g c =
     let at = (goal.at.After-least_over g whole).After-index in
     may_raise (g.H.Hand.shows c.args.hand.now) c.keeps_limits-2.ensures (front_data c.args.front.now) c.requires.raised.walked.front_of (facts g at) c.requires.raised.walked.filled c.args.found.now
     c.requires.raised.walked.known_of c.args.front.now.numbers.items c.args.place c.requires.place (deeper g at) c.in-Some.line (line_is g at ∙ c.in-Some.is)
-    c.at-in-Some.result c.least_over.result (static_is g at c.at-in-Some.result c.at-in-Some.ensures) (most g whole) c.max-number.result c.max-number.ensures
+    c.whole-in-Some.result c.least_over.result (static_is g at c.whole-in-Some.result c.whole-in-Some.ensures) (most g whole) c.max-number.result c.max-number.ensures
 
 pub returns-in_ok-raise-in-Some-clause-reached : goal.returns-in_ok-raise-in-Some-clause-reached
 returns-in_ok-raise-in-Some-clause-reached g c =
@@ -108,6 +112,6 @@ returns-in_ok-raise-in-Some-clause-reached g c =
     let at = (goal.at.After-least_over g whole).After-index in
     reached_raised (g.H.Hand.shows c.args.hand.now) c.keeps_limits-2.ensures (front_data c.args.front.now) c.requires.raised.walked.front_of (facts g at) c.requires.raised.walked.filled c.args.found.now
     c.requires.raised.walked.known_of c.args.front.now.numbers.items c.args.place c.requires.place (deeper g at) c.in-Some.line (line_is g at ∙ c.in-Some.is)
-    c.at-in-Some.result c.least_over.result (static_is g at c.at-in-Some.result c.at-in-Some.ensures) (most g whole) (least g whole) c.max-number.result c.max-number.ensures
+    c.whole-in-Some.result c.least_over.result (static_is g at c.whole-in-Some.result c.whole-in-Some.ensures) (most g whole) (least g whole) c.max-number.result c.max-number.ensures
     (g.H.Hand.shows c.raise.new.self)
     c.in_ok-raise-in-Some.ensures.raised.0 c.in_ok-raise-in-Some.ensures.raised.1 c.in_ok-raise-in-Some.ensures.raised.2

@@ -7,6 +7,6 @@ abbrev pub invariant-loop-ask : goal.invariant-loop-ask
 invariant-loop-ask g l = record {
   count : length l.asks ≡ length l.fn.asks;
   done : (place : ℕ) (d : Ask) → place < l.ask-index
-      → IsAnswer l.fn.bounds.kind l.fn.bounds.film.now (slice_index_or l.fn.asks place d) (slice_index_or l.asks place d);
+      → IsAnswer g.B.Bounds.kind g.B.Bounds.film (slice_index_or l.fn.asks place d) (slice_index_or l.asks place d);
   rest : (place : ℕ) (d : Ask) → l.ask-index ≤ place → slice_index_or l.asks place d ≡ slice_index_or l.fn.asks place d;
 }

@@ -13,8 +13,8 @@ use Rattle.strip_layers.proofs.beginning.begin.Goals as goal
 
 pub returns-clause-begun : goal.returns-clause-begun
 returns-clause-begun g c =
-    let kind : Kind = g.A.Answers.kind c.args.answers.now in
-    let film : FilmData = g.A.Answers.film c.args.answers.now in
+    let kind : Kind = g.A.Answers.kind in
+    let film : FilmData = g.A.Answers.film in
     let start : PathData = path_data c.args.start.now in
     let all_is : c.all.result.0 ≡ all_scenes film = c.all.ensures ∙ ap all_scenes c.film-film.ensures in
     let first : SearchData = record { lines = []; best = start; goal = start.paid; nodes = c.args.nodes; spent = false } in

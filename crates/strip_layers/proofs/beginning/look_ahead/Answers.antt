@@ -28,7 +28,7 @@ open_firsts_with-requires-clause-lies g c = all_in c.film-film.result.now c.all-
 pub loop-s-init : goal.loop-s-init
 loop-s-init g c = record {
   least = least_none (reach_of c.film-film.result.now (all_scenes c.film-film.result.now)
-      (bound (g.A.Answers.kind c.args.answers.now) (g.A.Answers.film c.args.answers.now))) (2 ^ 64 - 1) refl;
+      (bound g.A.Answers.kind g.A.Answers.film)) (2 ^ 64 - 1) refl;
   turns = ap rest_of c.into_iter-s-iterator.ensures.into_iter_gives ∙ c.iter-s-items.ensures.left ∙ ap members c.open_firsts_with.ensures
       ∙ ap (λ (q : ℕ). members (open_firsts c.film-film.result.now q)) c.all-all.ensures;
 }
@@ -38,8 +38,8 @@ without-requires g c =
     turn_below (open_firsts c.film-film.result.now (all_scenes c.film-film.result.now)) c.in-Some.s c.loop-s.yielded (rest_of c.loop-s.s-iterator)
     (rest_of c.next.new.self) c.loop-s.invariant.turns c.in-Some.ensures.steps
 
-pub bound-behind-requires-clause-lies : goal.bound-behind-requires-clause-lies
-bound-behind-requires-clause-lies g c =
+pub bound-behind-requires : goal.bound-behind-requires
+bound-behind-requires g c =
     subst (λ (film : FilmData). LiesIn film c.without.result.0) c.film-film.ensures
     (subst (LiesIn c.film-film.result.now) (sym c.without.ensures)
     (LiesBelow-without (length c.film-film.result.now.casts) c.all-all.result.0 c.in-Some.s (all_in c.film-film.result.now c.all-all.result.0 c.all-all.ensures)))
@@ -57,7 +57,7 @@ step_with-requires-clause-actors g c = rw c.on-on.ensures (location_lies c.film-
 pub loop-s-preserved : goal.loop-s-preserved
 loop-s-preserved g c =
     let film : FilmData = c.film-film.result.now in
-    let value : ℕ → ℕ = bound (g.A.Answers.kind c.args.answers.now) (g.A.Answers.film c.args.answers.now) in
+    let value : ℕ → ℕ = bound g.A.Answers.kind g.A.Answers.film in
     let step : c.step_with.result ≡ step_cost film (all_scenes film) c.in-Some.s
     = c.step_with.ensures ∙ ap (step_by film c.in-Some.s) (c.on-on.ensures ∙ ap (on_location film) c.all-all.ensures) in
     let behind : c.bound-behind.result ≡ value (without (all_scenes film) c.in-Some.s)
@@ -72,9 +72,9 @@ loop-s-preserved g c =
 
 pub returns : goal.returns
 returns g c =
-    let kind : Kind = g.A.Answers.kind c.args.answers.now in
+    let kind : Kind = g.A.Answers.kind in
     let film : FilmData = c.film-film.result.now in
-    let value : ℕ → ℕ = bound kind (g.A.Answers.film c.args.answers.now) in
+    let value : ℕ → ℕ = bound kind g.A.Answers.film in
     let all : IsLeastSo (reach_of film (all_scenes film) value) (members (open_firsts film (all_scenes film))) c.loop-s.least
     = subst (λ scenes. IsLeastSo (reach_of film (all_scenes film) value) scenes c.loop-s.least)
     (turns_all (open_firsts film (all_scenes film)) c.loop-s.yielded (rest_of c.loop-s.s-iterator) c.loop-s.invariant.turns c.in-None.ensures.steps.0)

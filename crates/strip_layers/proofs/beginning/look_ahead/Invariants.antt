@@ -10,6 +10,6 @@ use Rattle.strip_layers.proofs.beginning.look_ahead.Given as goal
 -- the least of the firsts so far; these and those to come are the open firsts
 abbrev pub invariant-loop-s : goal.invariant-loop-s
 invariant-loop-s g l = record {
-  least : IsLeastSo (reach_of l.film (all_scenes l.film) (bound (g.A.Answers.kind l.answers) (g.A.Answers.film l.answers))) l.yielded l.least;
+  least : IsLeastSo (reach_of l.film (all_scenes l.film) (bound g.A.Answers.kind g.A.Answers.film)) l.yielded l.least;
   turns : l.yielded ++ rest_of l.s-iterator ≡ members (open_firsts l.film (all_scenes l.film));
 }

@@ -16,18 +16,18 @@ use Rattle.strip_layers.proofs.looking.ask_all.Goals.{After-answer, After-deref_
 use Rattle.strip_layers.proofs.looking.ask_all.Given.{Over}
 
 asked : (g : Over) (c : goal.After-deref_mut g)
-    → AreAsksFor (g.A.Answers.kind c.args.answers.now) (g.A.Answers.film c.args.answers.now) c.args.search.now.sheet.lines.items c.args.limit
+    → AreAsksFor g.A.Answers.kind g.A.Answers.film c.args.search.now.sheet.lines.items c.args.limit
     (paths_of c.args.paths.now) c.in_ok-asks.asks.items
-asked g c = subst (λ (items : List Path). AreAsksFor (g.A.Answers.kind c.args.answers.now) (g.A.Answers.film c.args.answers.now)
+asked g c = subst (λ (items : List Path). AreAsksFor g.A.Answers.kind g.A.Answers.film
     c.args.search.now.sheet.lines.items c.args.limit (map path_data items) c.in_ok-asks.asks.items) c.paths.ensures
-    (c.in_ok-asks.ensures (g.A.Answers.kind c.args.answers.now) (g.A.Answers.film c.args.answers.now) c.requires.found)
+    (c.in_ok-asks.ensures g.A.Answers.kind g.A.Answers.film c.requires.found)
 
 pub answer-requires-clause-lies : goal.answer-requires-clause-lies
 answer-requires-clause-lies g c =
-    let film : FilmData = g.A.Answers.film c.args.answers.now in
+    let film : FilmData = g.A.Answers.film in
     let at = (goal.at.answer-requires-clause-lies g c).After-deref_mut in
     subst (All (λ (ask : Ask). LiesIn film ask.set)) (sym c.deref_mut.ensures.value)
-    (asks_lie (g.A.Answers.kind c.args.answers.now) film c.args.search.now.sheet.lines.items c.args.limit (paths_of c.args.paths.now) c.in_ok-asks.asks.items
+    (asks_lie g.A.Answers.kind film c.args.search.now.sheet.lines.items c.args.limit (paths_of c.args.paths.now) c.in_ok-asks.asks.items
     c.in_ok-asks.asks.items (asked g at) c.requires.lie)
 
 -- what the list has once it is answered
@@ -37,8 +37,8 @@ items_are g c count = written c.in_ok-asks.asks.len c.in_ok-asks.asks.items c.an
 
 pub returns-clause-found : goal.returns-clause-found
 returns-clause-found g c =
-    let kind : Kind = g.A.Answers.kind c.args.answers.now in
-    let film : FilmData = g.A.Answers.film c.args.answers.now in
+    let kind : Kind = g.A.Answers.kind in
+    let film : FilmData = g.A.Answers.film in
     let are : AreAnswered kind film c.in_ok-asks.asks.items c.answer.new.asks
     = subst (λ (xs : List Ask). AreAnswered kind film xs c.answer.new.asks) c.deref_mut.ensures.value c.in_ok-answer.ensures in
     let at = (goal.at.returns-clause-found g c).After-answer in
@@ -49,8 +49,8 @@ returns-clause-found g c =
 
 pub returns-clause-looked : goal.returns-clause-looked
 returns-clause-looked g c =
-    let kind : Kind = g.A.Answers.kind c.args.answers.now in
-    let film : FilmData = g.A.Answers.film c.args.answers.now in
+    let kind : Kind = g.A.Answers.kind in
+    let film : FilmData = g.A.Answers.film in
     let lines = c.args.search.now.sheet.lines.items in
     let paths : List PathData = paths_of c.args.paths.now in
     let are : AreAnswered kind film c.in_ok-asks.asks.items c.answer.new.asks

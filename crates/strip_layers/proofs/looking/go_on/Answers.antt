@@ -19,7 +19,7 @@ use Rattle.strip_layers.proofs.looking.go_on.Goals as goal
 pub loop-number-init : goal.loop-number-init
 loop-number-init g c = record {
   found = refl;
-  gone = λ left limit most level looked. gone_none (rules_of (g.A.Answers.kind c.args.answers.now) (g.A.Answers.film c.args.answers.now))
+  gone = λ left limit most level looked. gone_none (rules_of g.A.Answers.kind g.A.Answers.film)
       (search_data c.args.search.now) left limit (paths_of c.args.paths) c.in_ok-standings.standings.items (paths_of c.new-next.result) c.requires.search
       c.in_ok-standings.ensures.items c.new-next.ensures;
 }
@@ -29,9 +29,9 @@ shown : (items : List Path) (number : ℕ) (path : Path) → number < length ite
     → path_at (map path_data items) number ≡ path_data path
 shown items number path within is = get_or-map path_data items number path no_task within ∙ ap path_data (sym is)
 
-pub look_at-requires-clause-path : goal.look_at-requires-clause-path
-look_at-requires-clause-path g c =
-    let film : FilmData = g.A.Answers.film c.args.answers.now in
+pub look_at-requires : goal.look_at-requires
+look_at-requires g c =
+    let film : FilmData = g.A.Answers.film in
     let items : List Path = c.args.paths.paths.items in
     let path : Path = c.index-paths-number.result in
     let within : c.loop-number.number < length items = omega (arith, c.loop-number-test.true, c.requires.looked.2.0, length-map items path_data) in
@@ -40,8 +40,8 @@ look_at-requires-clause-path g c =
 
 pub loop-number-preserved : goal.loop-number-preserved
 loop-number-preserved g c =
-    let kind : Kind = g.A.Answers.kind c.args.answers.now in
-    let film : FilmData = g.A.Answers.film c.args.answers.now in
+    let kind : Kind = g.A.Answers.kind in
+    let film : FilmData = g.A.Answers.film in
     let items : List Path = c.args.paths.paths.items in
     let path : Path = c.index-paths-number.result in
     let number : ℕ = c.loop-number.number in
@@ -83,7 +83,7 @@ invariant_of-layer g c =
 
 pub returns-clause-goes_on : goal.returns-clause-goes_on
 returns-clause-goes_on g c = λ left limit most level looked.
-    gone_all (rules_of (g.A.Answers.kind c.args.answers.now) (g.A.Answers.film c.args.answers.now)) (search_data c.args.search.now)
+    gone_all (rules_of g.A.Answers.kind g.A.Answers.film) (search_data c.args.search.now)
     (search_data c.loop-number.search) left limit c.loop-number.number (paths_of c.args.paths) c.into_sets.result.keys c.loop-number.standings.items
     (paths_of c.loop-number.next) (c.loop-number.invariant.gone left limit most level looked)
     (omega (arith, c.loop-number-test.false, c.loop-number.auto.number-end, looked.0)) c.into_sets.ensures

@@ -11,8 +11,8 @@ abbrev pub invariant-loop-number : goal.invariant-loop-number
 invariant-loop-number g l = record {
   found : l.search.found.entries ≡ l.fn.search.found.entries;
   gone : (left limit : ℕ) → limit ≤ (search_data l.fn.search).goal
-      → IsLevel (rules_of (g.A.Answers.kind l.answers) (g.A.Answers.film l.answers)) (suc left) (paths_of l.paths)
-      → AreLooked (g.A.Answers.kind l.answers) (g.A.Answers.film l.answers) (search_data l.fn.search).lines limit (paths_of l.paths) l.asks
-      → AreGone (rules_of (g.A.Answers.kind l.answers) (g.A.Answers.film l.answers)) (search_data l.fn.search) (search_data l.search) left limit l.number
+      → IsLevel (rules_of g.A.Answers.kind g.A.Answers.film) (suc left) (paths_of l.paths)
+      → AreLooked g.A.Answers.kind g.A.Answers.film (search_data l.fn.search).lines limit (paths_of l.paths) l.asks
+      → AreGone (rules_of g.A.Answers.kind g.A.Answers.film) (search_data l.fn.search) (search_data l.search) left limit l.number
       (paths_of l.paths) l.standings.items (paths_of l.next);
 }

@@ -16,7 +16,7 @@ pub loop-number-init : goal.loop-number-init
 loop-number-init g c = record {
   found = refl;
   count = refl;
-  raised = λ limit paths may. raised_none (g.A.Answers.kind c.args.answers.now) (g.A.Answers.film c.args.answers.now) (search_data c.args.search.now) limit paths
+  raised = λ limit paths may. raised_none g.A.Answers.kind g.A.Answers.film (search_data c.args.search.now) limit paths
       c.args.layer.sets.keys c.args.layer.standings.items c.args.below.now.sets.keys c.args.below.now.standings.items may;
 }
 
@@ -33,37 +33,37 @@ unplaced standings number standing within is at =
 
 pub raise_line-value-requires-clause-place : goal.raise_line-value-requires-clause-place
 raise_line-value-requires-clause-place g c =
-    let may = c.requires.may.2 in
-    let so = c.loop-number.invariant.raised c.requires.may.0 c.requires.may.1 may in
+    let may = c.requires.2 in
+    let so = c.loop-number.invariant.raised c.requires.0 c.requires.1 may in
     let here : c.loop-number.number < length c.loop-number.standings.items
     = omega (arith, c.loop-number-test.true, c.len-number-end.ensures, c.loop-number.invariant.count) in
-    (line_here (g.A.Answers.kind c.args.answers.now) (g.A.Answers.film c.args.answers.now) (search_data c.args.search.now) c.requires.may.0 c.requires.may.1
+    (line_here g.A.Answers.kind g.A.Answers.film (search_data c.args.search.now) c.requires.0 c.requires.1
     c.args.layer.sets.keys c.args.layer.standings.items c.args.below.now.sets.keys c.args.below.now.standings.items may (search_data c.loop-number.search)
     c.loop-number.number c.loop-number.standings.items so (omega (arith, here, so.count)) c.in-Some.place
     (placed c.loop-number.standings.items c.loop-number.number c.in-Some.place c.index.result.now here c.index.ensures c.in-Some.is)).there
 
 pub raise_line-value-requires-clause-lies : goal.raise_line-value-requires-clause-lies
 raise_line-value-requires-clause-lies g c =
-    let kind : Kind = g.A.Answers.kind c.args.answers.now in
-    let film : FilmData = g.A.Answers.film c.args.answers.now in
-    let may = c.requires.may.2 in
-    let so = c.loop-number.invariant.raised c.requires.may.0 c.requires.may.1 may in
+    let kind : Kind = g.A.Answers.kind in
+    let film : FilmData = g.A.Answers.film in
+    let may = c.requires.2 in
+    let so = c.loop-number.invariant.raised c.requires.0 c.requires.1 may in
     let here : c.loop-number.number < length c.loop-number.standings.items
     = omega (arith, c.loop-number-test.true, c.len-number-end.ensures, c.loop-number.invariant.count) in
-    let within : c.loop-number.number < length c.requires.may.1 = omega (arith, here, so.count) in
+    let within : c.loop-number.number < length c.requires.1 = omega (arith, here, so.count) in
     subst (LiesIn film)
-    (sym (line_here kind film (search_data c.args.search.now) c.requires.may.0 c.requires.may.1
+    (sym (line_here kind film (search_data c.args.search.now) c.requires.0 c.requires.1
     c.args.layer.sets.keys c.args.layer.standings.items c.args.below.now.sets.keys c.args.below.now.standings.items may (search_data c.loop-number.search)
     c.loop-number.number c.loop-number.standings.items so within c.in-Some.place
     (placed c.loop-number.standings.items c.loop-number.number c.in-Some.place c.index.result.now here c.index.ensures c.in-Some.is)).set)
-    (path_lies kind film (search_data c.args.search.now) c.requires.may.0 c.requires.may.1
+    (path_lies kind film (search_data c.args.search.now) c.requires.0 c.requires.1
     c.args.layer.sets.keys c.args.layer.standings.items c.args.below.now.sets.keys c.args.below.now.standings.items may (search_data c.loop-number.search)
     c.loop-number.number c.loop-number.standings.items so within)
 
 pub loop-number-preserved : goal.loop-number-preserved
 loop-number-preserved g c =
-    let kind : Kind = g.A.Answers.kind c.args.answers.now in
-    let film : FilmData = g.A.Answers.film c.args.answers.now in
+    let kind : Kind = g.A.Answers.kind in
+    let film : FilmData = g.A.Answers.film in
     let before : SearchData = search_data c.args.search.now in
     let number : ℕ = c.loop-number.number in
     let standings : List Standing = c.loop-number.standings.items in
@@ -101,7 +101,7 @@ loop-number-preserved g c =
 
 pub returns-clause-raised : goal.returns-clause-raised
 returns-clause-raised g c = λ limit paths may.
-    raised_all (g.A.Answers.kind c.args.answers.now) (g.A.Answers.film c.args.answers.now) (search_data c.args.search.now) limit paths
+    raised_all g.A.Answers.kind g.A.Answers.film (search_data c.args.search.now) limit paths
     c.args.layer.sets.keys c.args.layer.standings.items c.args.below.now.sets.keys c.args.below.now.standings.items may
     (search_data c.loop-number.search) c.loop-number.number c.loop-number.standings.items (c.loop-number.invariant.raised limit paths may)
     (omega (arith, c.loop-number-test.false, c.loop-number.auto.number-end, c.len-number-end.ensures, may.count))

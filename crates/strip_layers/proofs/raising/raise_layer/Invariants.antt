@@ -12,8 +12,8 @@ invariant-loop-number g l = record {
   found : l.search.found.entries ≡ l.fn.search.found.entries;
   count : length l.standings.items ≡ length l.fn.layer.standings.items;
   raised : (limit : ℕ) (paths : List PathData)
-      → MayRaiseLayer (rules_of (g.A.Answers.kind l.answers) (g.A.Answers.film l.answers)) (search_data l.fn.search) limit paths l.fn.layer.sets.keys
+      → MayRaiseLayer (rules_of g.A.Answers.kind g.A.Answers.film) (search_data l.fn.search) limit paths l.fn.layer.sets.keys
       l.fn.layer.standings.items l.below.sets.keys l.below.standings.items
-      → AreRaised (rules_of (g.A.Answers.kind l.answers) (g.A.Answers.film l.answers)) (search_data l.fn.search) (search_data l.search) limit l.number paths
+      → AreRaised (rules_of g.A.Answers.kind g.A.Answers.film) (search_data l.fn.search) (search_data l.search) limit l.number paths
       l.fn.layer.standings.items l.standings.items;
 }

@@ -9,7 +9,7 @@ use Rattle.strip_layers.proofs.searching.rise.Goals as goal
 
 pub loop-alloc-smaller-else-search : goal.loop-alloc-smaller-else-search
 loop-alloc-smaller-else-search g c =
-    let rules : Rules = rules_of (g.A.Answers.kind c.args.answers.now) (g.A.Answers.film c.args.answers.now) in
+    let rules : Rules = rules_of g.A.Answers.kind g.A.Answers.film in
     let before : SearchData = search_data c.loop-alloc.search in
     let after : SearchData = search_data c.walk_whole.new.search in
     nearer rules before after c.next-walk.result.may_spend c.next-walk.result.limit (2 - c.loop-alloc.limits.halvings)

@@ -6,8 +6,8 @@ use Rattle.strip_layers.proofs.searching.rise.Given as goal
 
 abbrev pub invariant-loop-alloc : goal.invariant-loop-alloc
 invariant-loop-alloc g l = record {
-  found : AreTrue (g.A.Answers.kind l.answers) (g.A.Answers.film l.answers) l.search.found.entries;
-  search : IsSearch (rules_of (g.A.Answers.kind l.answers) (g.A.Answers.film l.answers)) (search_data l.search);
+  found : AreTrue g.A.Answers.kind g.A.Answers.film l.search.found.entries;
+  search : IsSearch (rules_of g.A.Answers.kind g.A.Answers.film) (search_data l.search);
   rises : Rises (search_data l.fn.search) (search_data l.search);
   unspent : (search_data l.search).spent ≡ false;
 }

@@ -13,15 +13,15 @@ use Rattle.strip_layers.specs.Shown.{layered_data, search_data}
 use Rattle.strip_layers.proofs.Ended.{layered_is, nothing_is}
 use Rattle.strip_layers.proofs.searching.search_by_layers.Goals as goal
 
-pub bound-bound-requires-clause-lies : goal.bound-bound-requires-clause-lies
-bound-bound-requires-clause-lies g c =
-    let film : FilmData = g.A.Answers.film c.args.answers.now in
+pub bound-bound-requires : goal.bound-bound-requires
+bound-bound-requires g c =
+    let film : FilmData = g.A.Answers.film in
     subst (LiesIn film) (sym (c.all.ensures ∙ ap all_scenes c.film-film.ensures)) (LiesBelow-full (length film.casts))
 
 pub returns-then-bound-paid-clause-layered : goal.returns-then-bound-paid-clause-layered
 returns-then-bound-paid-clause-layered g c =
-    let kind : Kind = g.A.Answers.kind c.args.answers.now in
-    let film : FilmData = g.A.Answers.film c.args.answers.now in
+    let kind : Kind = g.A.Answers.kind in
+    let film : FilmData = g.A.Answers.film in
     let start : PathData = path_data c.args.start.now in
     let is : IsFilm film = subst IsFilm c.film-film.ensures c.keeps_limits.ensures in
     let static : bound kind film (all_scenes film) ≡ c.bound-bound.result
@@ -35,8 +35,8 @@ returns-then-bound-paid-clause-layered g c =
 
 pub returns-clause-layered : goal.returns-clause-layered
 returns-clause-layered g c =
-    let kind : Kind = g.A.Answers.kind c.args.answers.now in
-    let film : FilmData = g.A.Answers.film c.args.answers.now in
+    let kind : Kind = g.A.Answers.kind in
+    let film : FilmData = g.A.Answers.film in
     let start : PathData = path_data c.args.start.now in
     let is : IsFilm film = subst IsFilm c.film-film.ensures c.keeps_limits.ensures in
     layered_is kind film start c.args.nodes (search_data c.rise.new.search) (layered_data c.end.result) is c.in_ok-rise.ensures.search
@@ -47,4 +47,4 @@ returns-clause-layered g c =
 
 pub returns-clause-found : goal.returns-clause-found
 returns-clause-found g c =
-    subst (AreTrue (g.A.Answers.kind c.args.answers.now) (g.A.Answers.film c.args.answers.now)) (sym c.end.ensures.found) c.in_ok-rise.ensures.found
+    subst (AreTrue g.A.Answers.kind g.A.Answers.film) (sym c.end.ensures.found) c.in_ok-rise.ensures.found

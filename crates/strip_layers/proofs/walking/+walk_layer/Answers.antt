@@ -21,27 +21,27 @@ use Rattle.strip_layers.proofs.walking.+walk_layer.Given.{Over}
 
 pub returns-then-left-eq0-clause-walked : goal.returns-then-left-eq0-clause-walked
 returns-then-left-eq0-clause-walked g t c =
-    let kind : Kind = g.A.Answers.kind c.args.answers.now in
-    let film : FilmData = g.A.Answers.film c.args.answers.now in
+    let kind : Kind = g.A.Answers.kind in
+    let film : FilmData = g.A.Answers.film in
     c.meet_all.ensures.met (rules_of kind film) c.args.walk.limit c.requires.search
     (all_complete kind film c.args.left (paths_of c.args.paths) (subst IsFilm c.film.ensures c.keeps_limits.ensures) c.if-left-eq0.true c.requires.level)
 
 pub ask_all-requires-clause-lie : goal.ask_all-requires-clause-lie
 ask_all-requires-clause-lie g t c = λ place d within.
-    rest_lies (g.A.Answers.film c.args.answers.now) (get_or (paths_of c.args.paths) place d) (c.requires.level.is_open place d within).0
+    rest_lies g.A.Answers.film (get_or (paths_of c.args.paths) place d) (c.requires.level.is_open place d within).0
 
 -- the layer leaves some scenes
 level_of : (g : Over) (t : ℕ) (c : goal.After-deref g t)
-    → IsLevel (rules_of (g.A.Answers.kind c.args.answers.now) (g.A.Answers.film c.args.answers.now)) (suc (c.args.left - 1)) (paths_of c.args.paths)
-level_of g t c = subst (λ (n : ℕ). IsLevel (rules_of (g.A.Answers.kind c.args.answers.now) (g.A.Answers.film c.args.answers.now)) n (paths_of c.args.paths))
+    → IsLevel (rules_of g.A.Answers.kind g.A.Answers.film) (suc (c.args.left - 1)) (paths_of c.args.paths)
+level_of g t c = subst (λ (n : ℕ). IsLevel (rules_of g.A.Answers.kind g.A.Answers.film) n (paths_of c.args.paths))
     (omega (arith, c.if-left-eq0.false)) c.requires.level
 
 looked_of : (g : Over) (t : ℕ) (c : goal.After-deref g t)
-    → AreLooked (g.A.Answers.kind c.args.answers.now) (g.A.Answers.film c.args.answers.now) (search_data c.ask_all.new.search).lines c.args.walk.limit
+    → AreLooked g.A.Answers.kind g.A.Answers.film (search_data c.ask_all.new.search).lines c.args.walk.limit
     (paths_of c.args.paths) c.deref.result.now
 looked_of g t c =
-    let kind : Kind = g.A.Answers.kind c.args.answers.now in
-    let film : FilmData = g.A.Answers.film c.args.answers.now in
+    let kind : Kind = g.A.Answers.kind in
+    let film : FilmData = g.A.Answers.film in
     subst (λ (asks : List Ask). AreLooked kind film (search_data c.ask_all.new.search).lines c.args.walk.limit (paths_of c.args.paths) asks) (sym c.deref.ensures.value)
     (subst (λ (s : SearchData). AreLooked kind film s.lines c.args.walk.limit (paths_of c.args.paths) c.in_ok-asks.asks.items) (sym c.in_ok-asks.ensures.search)
     c.in_ok-asks.ensures.looked)
@@ -59,12 +59,12 @@ go_on-requires-clause-looked g t c =
 
 -- how the layer goes on
 gone_of : (g : Over) (t : ℕ) (c : goal.In_ok-layer g t)
-    → GoesOn (rules_of (g.A.Answers.kind c.args.answers.now) (g.A.Answers.film c.args.answers.now)) (search_data c.args.search.now) (c.args.left - 1)
+    → GoesOn (rules_of g.A.Answers.kind g.A.Answers.film) (search_data c.args.search.now) (c.args.left - 1)
     c.args.walk.limit (paths_of c.args.paths) c.in_ok-layer.layer.sets.keys c.in_ok-layer.layer.standings.items (paths_of c.in_ok-layer.next)
     (search_data c.go_on.new.search)
 gone_of g t c =
     let at = (goal.at.In_ok-layer g t c).After-deref in
-    subst (λ (s : SearchData). GoesOn (rules_of (g.A.Answers.kind c.args.answers.now) (g.A.Answers.film c.args.answers.now)) s (c.args.left - 1)
+    subst (λ (s : SearchData). GoesOn (rules_of g.A.Answers.kind g.A.Answers.film) s (c.args.left - 1)
     c.args.walk.limit (paths_of c.args.paths) c.in_ok-layer.layer.sets.keys c.in_ok-layer.layer.standings.items (paths_of c.in_ok-layer.next)
     (search_data c.go_on.new.search)) c.in_ok-asks.ensures.search
     (c.in_ok-layer.ensures.goes_on (c.args.left - 1) c.args.walk.limit (limit_of g t at) (level_of g t at) (looked_of g t at))
@@ -74,12 +74,12 @@ returns-then-not-walk-clause-walked g t c = (not-true c.args.walk.may_spend c.if
 
 pub returns-then-not-walk-clause-found : goal.returns-then-not-walk-clause-found
 returns-then-not-walk-clause-found g t c =
-    subst (AreTrue (g.A.Answers.kind c.args.answers.now) (g.A.Answers.film c.args.answers.now)) (sym c.in_ok-layer.ensures.found) c.in_ok-asks.ensures.found
+    subst (AreTrue g.A.Answers.kind g.A.Answers.film) (sym c.in_ok-layer.ensures.found) c.in_ok-asks.ensures.found
 
 pub walk_layer-requires : goal.walk_layer-requires
 walk_layer-requires g t c κs within =
-    let kind : Kind = g.A.Answers.kind c.args.answers.now in
-    let film : FilmData = g.A.Answers.film c.args.answers.now in
+    let kind : Kind = g.A.Answers.kind in
+    let film : FilmData = g.A.Answers.film in
     let gone = gone_of g t (goal.at.walk_layer-requires g t c).In_ok-layer in (
       omega (arith, c.if-left-eq0.false, c.decreases),
       (
@@ -97,10 +97,10 @@ walk_layer-requires g t c κs within =
 -- what the walk of the layers below leaves, where it isn't given up
 module _ (g : Over) (t : ℕ) (c : goal.In-Some g t) where
   abbrev kind : Kind
-  kind = g.A.Answers.kind c.args.answers.now
+  kind = g.A.Answers.kind
 
   abbrev film : FilmData
-  film = g.A.Answers.film c.args.answers.now
+  film = g.A.Answers.film
 
   walked : WalksLayer (rules_of kind film) (search_data c.go_on.new.search) c.args.walk.may_spend c.args.walk.limit (paths_of c.in_ok-layer.next) (Some c.in-Some.below)
       (search_data c.walk_layer.new.search)
@@ -121,18 +121,18 @@ module _ (g : Over) (t : ℕ) (c : goal.In-Some g t) where
 
 pub returns-in-None-clause-walked : goal.returns-in-None-clause-walked
 returns-in-None-clause-walked g t c =
-    let rules : Rules = rules_of (g.A.Answers.kind c.args.answers.now) (g.A.Answers.film c.args.answers.now) in
+    let rules : Rules = rules_of g.A.Answers.kind g.A.Answers.film in
     given_up rules (search_data c.args.search.now) (search_data c.go_on.new.search) (search_data c.walk_layer.new.search) c.args.walk.may_spend c.args.walk.limit
     (paths_of c.args.paths) (paths_of c.in_ok-layer.next) (gone_of g t (goal.at.returns-in-None-clause-walked g t c).In_ok-layer).extends
     (subst (λ (layer : Option Layer). WalksLayer rules (search_data c.go_on.new.search) c.args.walk.may_spend c.args.walk.limit (paths_of c.in_ok-layer.next) layer
     (search_data c.walk_layer.new.search)) c.in-None.is c.in_ok-walk_layer.ensures.walked)
 
-pub raise_layer-requires-clause-may : goal.raise_layer-requires-clause-may
-raise_layer-requires-clause-may g t c = (c.args.walk.limit, paths_of c.args.paths, may g t (goal.at.raise_layer-requires-clause-may g t c).In-Some)
+pub raise_layer-requires : goal.raise_layer-requires
+raise_layer-requires g t c = (c.args.walk.limit, paths_of c.args.paths, may g t (goal.at.raise_layer-requires g t c).In-Some)
 
 pub returns-clause-found : goal.returns-clause-found
 returns-clause-found g t c =
-    subst (AreTrue (g.A.Answers.kind c.args.answers.now) (g.A.Answers.film c.args.answers.now)) (sym c.raise_layer.ensures.found)
+    subst (AreTrue g.A.Answers.kind g.A.Answers.film) (sym c.raise_layer.ensures.found)
     c.in_ok-walk_layer.ensures.found
 
 pub returns-clause-walked : goal.returns-clause-walked

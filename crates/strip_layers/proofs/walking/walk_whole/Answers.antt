@@ -19,26 +19,26 @@ paths_are film other none paths start is_none same start_is is =
 
 pub walk_layer-requires-clause-level : goal.walk_layer-requires-clause-level
 walk_layer-requires-clause-level g c =
-    let film : FilmData = g.A.Answers.film c.args.answers.now in
-    whole_level (g.A.Answers.kind c.args.answers.now) film c.scenes.result (paths_of c.put.new.self) (subst IsFilm c.film-film.ensures c.keeps_limits.ensures)
+    let film : FilmData = g.A.Answers.film in
+    whole_level g.A.Answers.kind film c.scenes.result (paths_of c.put.new.self) (subst IsFilm c.film-film.ensures c.keeps_limits.ensures)
     (c.scenes.ensures ∙ ap (λ (f : FilmData). length f.casts) c.film-film.ensures)
     (paths_are film c.film-film.result.now (paths_of c.new-whole.result) (paths_of c.put.new.self) (path_data c.start.result) c.new-whole.ensures c.film-film.ensures
     c.start.ensures.start c.in_ok-put.ensures)
 
 pub returns-then-is_none-clause-found : goal.returns-then-is_none-clause-found
 returns-then-is_none-clause-found g c =
-    subst (AreTrue (g.A.Answers.kind c.args.answers.now) (g.A.Answers.film c.args.answers.now)) (sym c.take_back.ensures.found) c.in_ok-layer.ensures.found
+    subst (AreTrue g.A.Answers.kind g.A.Answers.film) (sym c.take_back.ensures.found) c.in_ok-layer.ensures.found
 
 pub returns-then-is_none-clause-walked : goal.returns-then-is_none-clause-walked
 returns-then-is_none-clause-walked g c =
-    undone_whole (rules_of (g.A.Answers.kind c.args.answers.now) (g.A.Answers.film c.args.answers.now)) (search_data c.args.search.now)
+    undone_whole (rules_of g.A.Answers.kind g.A.Answers.film) (search_data c.args.search.now)
     (search_data c.walk_layer.new.search) (search_data c.take_back.new.self) c.args.walk.may_spend c.args.walk.limit c.len-count.result (paths_of c.put.new.self)
     c.in_ok-layer.layer c.if-is_none.ensures c.requires.unspent (omega (arith, c.len-count.ensures, c.args.search.now.sheet.lines.ok)) c.take_back.ensures.search c.in_ok-layer.ensures.walked
 
 pub returns-clause-walked : goal.returns-clause-walked
 returns-clause-walked g c =
-    let film : FilmData = g.A.Answers.film c.args.answers.now in
-    walked_whole (g.A.Answers.kind c.args.answers.now) film (search_data c.args.search.now) (search_data c.walk_layer.new.search) c.args.walk.may_spend
+    let film : FilmData = g.A.Answers.film in
+    walked_whole g.A.Answers.kind film (search_data c.args.search.now) (search_data c.walk_layer.new.search) c.args.walk.may_spend
     c.args.walk.limit (paths_of c.put.new.self) c.in_ok-layer.layer
     (paths_are film c.film-film.result.now (paths_of c.new-whole.result) (paths_of c.put.new.self) (path_data c.start.result) c.new-whole.ensures c.film-film.ensures
     c.start.ensures.start c.in_ok-put.ensures) c.if-is_none.ensures c.in_ok-layer.ensures.walked

@@ -11,7 +11,6 @@ use Rattle.strip_trim.proofs.marks.mark_followers.Given as goal
 -- what follows by the scenes so far is marked; these and those to come are the open firsts
 abbrev pub invariant-loop-s : goal.invariant-loop-s
 invariant-loop-s g l = record {
-  memo : IsMemo l.bounds.kind l.bounds.film.now l.memo;
-  turns : l.yielded ++ rest_of l.s-iterator ≡ members (open_firsts l.bounds.film.now l.entry.set);
-  marked : MarksMore l.fn.marks l.marks (FollowsBy (rules_of l.bounds.kind l.bounds.film.now) l.best.lines l.entry.set l.yielded);
+  turns : l.yielded ++ rest_of l.s-iterator ≡ members (open_firsts g.B.Bounds.film l.entry.set);
+  marked : MarksMore l.fn.marks l.marks (FollowsBy (rules_of g.B.Bounds.kind g.B.Bounds.film) l.best.lines l.entry.set l.yielded);
 }

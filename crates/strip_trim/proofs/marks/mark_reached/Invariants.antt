@@ -5,6 +5,5 @@ use Rattle.strip_trim.proofs.marks.mark_reached.Given as goal
 
 abbrev pub invariant-loop-entry : goal.invariant-loop-entry
 invariant-loop-entry g l = record {
-  memo : IsMemo l.bounds.kind l.bounds.film.now l.memo;
-  way : IsUnderWay (rules_of l.bounds.kind l.bounds.film.now) l.best.lines l.best.entries l.entry-iterator.iter.rest.now l.marks;
+  way : IsUnderWay (rules_of g.B.Bounds.kind g.B.Bounds.film) l.best.lines l.best.entries l.entry-iterator.iter.rest.now l.marks;
 }

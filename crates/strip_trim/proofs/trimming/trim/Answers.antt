@@ -7,9 +7,8 @@ use Rattle.strip_trim.proofs.trimming.trim.Goals as goal
 
 pub returns : goal.returns
 returns g c = record {
-  memo = c.marks_of.ensures.memo;
-  trimmed = trimmed_if (rules_of c.args.bounds.now.kind c.args.bounds.now.film.now) c.args.lines.now c.in_ok-marks.marks.items
-      (subst (λ (lines : List Line). AreMarked (rules_of c.args.bounds.now.kind c.args.bounds.now.film.now) lines c.in_ok-marks.marks.items) c.in_ok-best.ensures c.in_ok-marks.ensures.marked)
+  trimmed = trimmed_if (rules_of g.B.Bounds.kind g.B.Bounds.film) c.args.lines.now c.in_ok-marks.marks.items
+      (subst (λ (lines : List Line). AreMarked (rules_of g.B.Bounds.kind g.B.Bounds.film) lines c.in_ok-marks.marks.items) c.in_ok-best.ensures c.in_ok-marks.ensures.marked)
       c.marked.result
       (subst (λ marks. IfOk c.marked.result (λ kept. kept.items ≡ marked_lines c.args.lines.now marks)) c.deref.ensures.value c.marked.ensures);
 }

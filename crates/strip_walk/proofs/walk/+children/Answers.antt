@@ -39,16 +39,15 @@ walk_on-loop-s-init g t c =
       sound = c.in_ok-found.ensures.sound;
       home = c.in_ok-found.ensures.home;
       limits = c.keeps_limits-2.ensures;
-      memo = c.sift-sifted.ensures.memo;
       running = c.requires.running;
       path = refl;
       walks = opened.0;
       line = record { there = opened.1.there; set = opened.1.set };
-      ranks = (sifted_by c.args.bounds.now.kind c.args.bounds.now.film.now (g.H.Hand.shows c.args.hand.now).search path c.in-Enlisted.opened.told c.sift-sifted.result
+      ranks = (sifted_by g.B.Bounds.kind g.B.Bounds.film (g.H.Hand.shows c.args.hand.now).search path c.in-Enlisted.opened.told c.sift-sifted.result
           c.requires.search c.sift-sifted.ensures.sifted).ranks;
       settled = settled_none (g.H.Hand.shows c.args.hand.now).search (g.H.Hand.shows c.list.new.hand) (cursor_data c.list.new.cursor) path c.in-Enlisted.opened
           c.sift-sifted.result opened.1
-          (sifted_by c.args.bounds.now.kind c.args.bounds.now.film.now (g.H.Hand.shows c.args.hand.now).search path c.in-Enlisted.opened.told c.sift-sifted.result
+          (sifted_by g.B.Bounds.kind g.B.Bounds.film (g.H.Hand.shows c.args.hand.now).search path c.in-Enlisted.opened.told c.sift-sifted.result
           c.requires.search c.sift-sifted.ensures.sifted);
     }
 
@@ -85,24 +84,18 @@ walk_on-walk_child-requires g t c κs within =
           (
             c.loop-s.invariant.sound,
             (
-              c.requires.keeps,
+              subst (λ (of : SearchData). (of.film ≡ g.B.Bounds.film) × (of.kind ≡ g.B.Bounds.kind)) (sym c.loop-s.invariant.walks.search) c.requires.search,
               (
-                subst (λ (of : SearchData). (of.film ≡ c.args.bounds.now.film.now) × (of.kind ≡ c.args.bounds.now.kind)) (sym c.loop-s.invariant.walks.search) c.requires.search,
+                c.loop-s.invariant.running,
                 (
-                  c.loop-s.invariant.memo,
+                  subst (λ (p : PathData). IsFirst here p c.in-Some.s) (sym c.loop-s.invariant.path)
+                      (subst (λ (of : SearchData). IsFirst of path c.in-Some.s) (sym c.loop-s.invariant.walks.search) first),
                   (
-                    c.loop-s.invariant.running,
-                    (
-                      subst (λ (p : PathData). IsFirst here p c.in-Some.s) (sym c.loop-s.invariant.path)
-                          (subst (λ (of : SearchData). IsFirst of path c.in-Some.s) (sym c.loop-s.invariant.walks.search) first),
-                      (
-                        c.step-step.ensures ∙ ap (λ (film : FilmData). step_cost film now.rest c.in-Some.s) c.film-film.ensures,
-                        subst (MayExplore (g.H.Hand.shows c.loop-s.hand) (cursor_data c.loop-s.cursor)) (sym child_is)
-                            (may_child (g.H.Hand.shows c.args.hand.now) (g.H.Hand.shows c.loop-s.hand) (cursor_data c.args.cursor.now) (cursor_data c.loop-s.cursor) path
-                            (to_walk c.loop-s.sifted) c.loop-s.sifted.least c.loop-s.spent c.in-Some.s c.requires.may c.loop-s.invariant.walks c.loop-s.invariant.settled
-                            c.in-Some.ensures.0.waits),
-                      ),
-                    ),
+                    c.step-step.ensures ∙ ap (λ (film : FilmData). step_cost film now.rest c.in-Some.s) c.film-film.ensures,
+                    subst (MayExplore (g.H.Hand.shows c.loop-s.hand) (cursor_data c.loop-s.cursor)) (sym child_is)
+                        (may_child (g.H.Hand.shows c.args.hand.now) (g.H.Hand.shows c.loop-s.hand) (cursor_data c.args.cursor.now) (cursor_data c.loop-s.cursor) path
+                        (to_walk c.loop-s.sifted) c.loop-s.sifted.least c.loop-s.spent c.in-Some.s c.requires.may c.loop-s.invariant.walks c.loop-s.invariant.settled
+                        c.in-Some.ensures.0.waits),
                   ),
                 ),
               ),
@@ -171,7 +164,6 @@ walk_on-loop-s-preserved g t c =
       sound = c.in_ok-found-2.ensures.sound;
       home = c.in_ok-found-2.ensures.home ∙ c.loop-s.invariant.home;
       limits = c.keeps_limits-in-Some.ensures;
-      memo = c.in_ok-found-2.ensures.memo;
       running = c.in_ok-found-2.ensures.running.0;
       path = c.in_ok-found-2.ensures.running.1 ∙ c.loop-s.invariant.path;
       walks = turn_walks (g.H.Hand.shows c.args.hand.now) (g.H.Hand.shows c.loop-s.hand) (g.H.Hand.shows c.walk_child.new.hand) (cursor_data c.args.cursor.now) (cursor_data c.loop-s.cursor)
@@ -221,9 +213,6 @@ walk_on-close-requires-clause-set g t c = c.loop-s.invariant.line.set ∙ ap (λ
 pub walk_on-returns-clause-home : goal.walk_on-returns-clause-home
 walk_on-returns-clause-home g t c = c.close.ensures.home ∙ c.loop-s.invariant.home
 
-pub walk_on-returns-clause-memo : goal.walk_on-returns-clause-memo
-walk_on-returns-clause-memo g t c = c.loop-s.invariant.memo
-
 pub walk_on-returns-clause-running : goal.walk_on-returns-clause-running
 walk_on-returns-clause-running g t c = if_ok_holds _ c.close.result (c.loop-s.invariant.running, c.loop-s.invariant.path)
 
@@ -251,9 +240,9 @@ pub walk_child-without-rest-requires : goal.walk_child-without-rest-requires
 walk_child-without-rest-requires g t c =
     let search : SearchData = (g.H.Hand.shows c.args.hand.now).search in
     let path : PathData = path_data c.args.running.now.path in
-    let is : IsFilm c.args.bounds.now.film.now = subst IsFilm c.film-film.ensures c.keeps_limits.ensures in
+    let is : IsFilm g.B.Bounds.film = subst IsFilm c.film-film.ensures c.keeps_limits.ensures in
     below_64 path.rest c.args.s
-    (rest_set c.args.bounds.now.film.now path c.requires.running.path is)
+    (rest_set g.B.Bounds.film path c.requires.running.path is)
     (first_there search.film path.rest c.args.s c.requires.first)
 
 pub walk_child-take_with-requires-clause-ready : goal.walk_child-take_with-requires-clause-ready
@@ -281,7 +270,7 @@ walk_child-meet-met-requires-clause-lies g t c =
     let search : SearchData = (g.H.Hand.shows c.args.hand.now).search in
     let path : PathData = path_data c.args.running.now.path in
     let rest_is : without path.rest c.args.s ≡ c.without-rest.result.0 = sym (c.without-rest.ensures ∙ ap (λ (q : ℕ). without q c.args.s) c.rest.ensures) in
-    subst (LiesIn c.args.bounds.now.film.now) rest_is
+    subst (LiesIn g.B.Bounds.film) rest_is
     (subst (λ (film : FilmData). LiesIn film (without path.rest c.args.s)) c.requires.search.0
     (rest_lies search.film (extended search.film path c.args.s) c.requires.may.is_open.0))
 
@@ -324,21 +313,15 @@ walk_child-walk_on-requires g t c κs within =
           (
             c.in-Through.ensures.sound,
             (
-              c.requires.keeps,
+              subst (λ (of : SearchData). (of.film ≡ g.B.Bounds.film) × (of.kind ≡ g.B.Bounds.kind)) (sym met.0.search) c.requires.search,
               (
-                subst (λ (of : SearchData). (of.film ≡ c.args.bounds.now.film.now) × (of.kind ≡ c.args.bounds.now.kind)) (sym met.0.search) c.requires.search,
+                subst (λ (film : FilmData). IsRunning film (running_data c.take_with-in-Through.new.self)) c.film-film.ensures c.take_with-in-Through.ensures.running,
                 (
-                  c.in-Through.ensures.memo,
+                  subst (MayExplore (g.H.Hand.shows c.meet-met.new.hand) (cursor_data c.args.cursor.now)) (sym longer_is)
+                      (may_still (g.H.Hand.shows c.args.hand.now) (g.H.Hand.shows c.meet-met.new.hand) (cursor_data c.args.cursor.now) (extended search.film path c.args.s) met.0 c.requires.may),
                   (
-                    subst (λ (film : FilmData). IsRunning film (running_data c.take_with-in-Through.new.self)) c.film-film.ensures c.take_with-in-Through.ensures.running,
-                    (
-                      subst (MayExplore (g.H.Hand.shows c.meet-met.new.hand) (cursor_data c.args.cursor.now)) (sym longer_is)
-                          (may_still (g.H.Hand.shows c.args.hand.now) (g.H.Hand.shows c.meet-met.new.hand) (cursor_data c.args.cursor.now) (extended search.film path c.args.s) met.0 c.requires.may),
-                      (
-                        (λ none. absurd (let e : false ≡ true = sym c.if-is_empty.false ∙ c.is_empty.ensures.1 (sym rest_is ∙ ap (λ (p : PathData). p.rest) (sym longer_is) ∙ none) in cc)),
-                        subst (λ (p : PathData). IsThrough (g.H.Hand.shows c.meet-met.new.hand) p c.in-Through.passed) (sym longer_is) met.1,
-                      ),
-                    ),
+                    (λ none. absurd (let e : false ≡ true = sym c.if-is_empty.false ∙ c.is_empty.ensures.1 (sym rest_is ∙ ap (λ (p : PathData). p.rest) (sym longer_is) ∙ none) in cc)),
+                    subst (λ (p : PathData). IsThrough (g.H.Hand.shows c.meet-met.new.hand) p c.in-Through.passed) (sym longer_is) met.1,
                   ),
                 ),
               ),

@@ -25,8 +25,7 @@ invariant-walk_on-loop-s g l = record {
   sound : g.H.Hand.is_sound l.hand;
   home : g.H.Hand.home l.hand ≡ g.H.Hand.home l.fn.hand;
   limits : IsHand (g.H.Hand.shows l.hand);
-  memo : IsMemo l.bounds.kind l.bounds.film.now l.memo;
-  running : IsRunning l.bounds.film.now (running_data l.running);
+  running : IsRunning g.B.Bounds.film (running_data l.running);
   path : (running_data l.running).path ≡ (running_data l.fn.running).path;
   walks : Walks (g.H.Hand.shows l.fn.hand) (cursor_data l.fn.cursor) (running_data l.fn.running).path (g.H.Hand.shows l.hand) (cursor_data l.cursor);
   line : HasLine (g.H.Hand.shows l.hand) (running_data l.fn.running).path l.opened.line;

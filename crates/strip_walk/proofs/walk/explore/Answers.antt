@@ -20,7 +20,7 @@ returns-then-is_empty-clause-explored g c =
 pub meet-met-requires-clause-lies : goal.meet-met-requires-clause-lies
 meet-met-requires-clause-lies g c =
     let path : PathData = path_data c.args.running.now.path in
-    subst (LiesIn c.args.bounds.now.film.now) (sym c.rest-2.ensures)
+    subst (LiesIn g.B.Bounds.film) (sym c.rest-2.ensures)
     (subst (λ (film : FilmData). LiesIn film path.rest) c.requires.search.0 (rest_lies (g.H.Hand.shows c.args.hand.now).search.film path c.requires.may.is_open.0))
 
 pub returns-in-Cut-clause-explored : goal.returns-in-Cut-clause-explored
@@ -32,7 +32,7 @@ returns-in-Cut-clause-explored g c =
 pub walk_on-requires-clause-search : goal.walk_on-requires-clause-search
 walk_on-requires-clause-search g c =
     let met = c.in-Through.ensures.met (path_data c.args.running.now.path) (sym c.rest-2.ensures) (sym c.paid.ensures) in
-    subst (λ (of : SearchData). (of.film ≡ c.args.bounds.now.film.now) × (of.kind ≡ c.args.bounds.now.kind)) (sym met.0.search) c.requires.search
+    subst (λ (of : SearchData). (of.film ≡ g.B.Bounds.film) × (of.kind ≡ g.B.Bounds.kind)) (sym met.0.search) c.requires.search
 
 pub walk_on-requires-clause-may : goal.walk_on-requires-clause-may
 walk_on-requires-clause-may g c =

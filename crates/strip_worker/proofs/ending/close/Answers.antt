@@ -8,7 +8,7 @@ pub returns-clause-closed : goal.returns-clause-closed
 returns-clause-closed g c =
     let front = front_data c.args.front.now in
     let before = g.H.Hand.shows c.args.hand.now in
-    closed c.args.bounds.now.kind c.args.bounds.now.film.now before (g.H.Hand.shows c.close_up.new.hand) front c.deref.result.now c.args.walked.now.spent
+    closed g.B.Bounds.kind g.B.Bounds.film before (g.H.Hand.shows c.close_up.new.hand) front c.deref.result.now c.args.walked.now.spent
     c.in_ok-number.number c.requires.worked.search
     (subst (λ (found : List ℕ). HasWorked before front found c.args.walked.now.spent) (sym c.deref.ensures.value) c.requires.worked.worked)
     c.requires.all c.close_up.ensures.stays c.keeps_limits.ensures

@@ -6,13 +6,14 @@ use Rattle.strip_lines.proofs.Reached.{known-with, known-without}
 use Rattle.strip_worker.proofs.ending.known_of_all.Goals as goal
 use Rattle.strip_worker.proofs.ending.known_of_all.Goals.{then-line-all, else-line-all}
 
-pub at-greatest-requires-clause-lies : goal.at-greatest-requires-clause-lies
-at-greatest-requires-clause-lies g c =
-    subst (LiesIn c.args.bounds.now.film.now) (sym (c.all-all.ensures ∙ ap all_scenes c.film-film.ensures)) (LiesBelow-full (length c.args.bounds.now.film.now.casts))
+pub whole-greatest-requires : goal.whole-greatest-requires
+whole-greatest-requires g c = record {
+  lies = subst (LiesIn g.B.Bounds.film) (sym (c.all-all.ensures ∙ ap all_scenes c.film-film.ensures)) (LiesBelow-full (length g.B.Bounds.film.casts));
+}
 
 pub loop-line-preserved : goal.loop-line-preserved
 loop-line-preserved g c =
-    let rules = rules_of c.args.bounds.now.kind c.args.bounds.now.film.now in
+    let rules = rules_of g.B.Bounds.kind g.B.Bounds.film in
     let i = c.loop-line.line-index in
     elim c.if-line-all.branch [
       | then-line-all w ↦ known-with rules c.args.lines.now i c.all-all.result.0 c.loop-line.greatest c.if-line-all.greatest c.loop-line-test.true

@@ -6,8 +6,8 @@ use Rattle.strip_worker.proofs.ending.tell.Goals as goal
 
 pub returns-clause-ended : goal.returns-clause-ended
 returns-clause-ended g c = λ hand shut left.
-    let kind = c.args.bounds.now.kind in
-    let film = c.args.bounds.now.film.now in
+    let kind = g.B.Bounds.kind in
+    let film = g.B.Bounds.film in
     let lines = c.args.lines.items in
     let order = sym (c.in_ok-order.ensures.items_if_clones_equal (search rules) ∙ c.scenes.ensures) in
     let held = sym (c.len.ensures ∙ c.args.lines.ok.0) in

@@ -12,7 +12,7 @@ returns-then-part-eq0-clause-walks g c = stands_still (g.H.Hand.shows c.args.han
 
 pub returns-then-part-eq0-clause-worked : goal.returns-then-part-eq0-clause-worked
 returns-then-part-eq0-clause-worked g c =
-    passed_part c.args.bounds.now.kind c.args.bounds.now.film.now (g.H.Hand.shows c.args.hand.now) (front_data c.args.front.now) c.args.walked.now.found.items c.args.walked.now.spent c.args.part
+    passed_part g.B.Bounds.kind g.B.Bounds.film (g.H.Hand.shows c.args.hand.now) (front_data c.args.front.now) c.args.walked.now.found.items c.args.walked.now.spent c.args.part
     c.keeps_limits.ensures c.requires.claimed (λ task is. absurd (omega (arith, is, c.if-part-eq0.true)))
 
 pub index-requires : goal.index-requires
@@ -21,7 +21,7 @@ index-requires g c =
     let part : c.args.part ≡ suc task = omega (arith, c.if-part-eq0.false) in
     let front = front_data c.args.front.now in
     let hand = g.H.Hand.shows c.args.hand.now in
-    let below = within c.args.bounds.now.kind c.args.bounds.now.film.now hand front c.args.walked.now.found.items c.args.walked.now.spent c.args.part task part
+    let below = within g.B.Bounds.kind g.B.Bounds.film hand front c.args.walked.now.found.items c.args.walked.now.spent c.args.part task part
     c.keeps_limits.ensures c.requires.claimed in
     omega (arith, below, c.requires.claimed.1.worked.front_of.wanted, c.args.front.now.wanted.ok.0)
 
@@ -29,7 +29,7 @@ pub walk-requires-clause-search : goal.walk-requires-clause-search
 walk-requires-clause-search g c =
     let task : ℕ = c.args.part - 1 in
     let part : c.args.part ≡ suc task = omega (arith, c.if-part-eq0.false) in
-    by c.args.bounds.now.kind c.args.bounds.now.film.now (g.H.Hand.shows c.args.hand.now) (front_data c.args.front.now) c.args.walked.now.found.items
+    by g.B.Bounds.kind g.B.Bounds.film (g.H.Hand.shows c.args.hand.now) (front_data c.args.front.now) c.args.walked.now.found.items
     c.args.walked.now.spent c.args.part task part c.keeps_limits.ensures c.requires.claimed
 
 pub walk-requires-clause-may : goal.walk-requires-clause-may
@@ -38,11 +38,11 @@ walk-requires-clause-may g c =
     let part : c.args.part ≡ suc task = omega (arith, c.if-part-eq0.false) in
     let front = front_data c.args.front.now in
     let hand = g.H.Hand.shows c.args.hand.now in
-    let below = within c.args.bounds.now.kind c.args.bounds.now.film.now hand front c.args.walked.now.found.items c.args.walked.now.spent c.args.part task part
+    let below = within g.B.Bounds.kind g.B.Bounds.film hand front c.args.walked.now.found.items c.args.walked.now.spent c.args.part task part
     c.keeps_limits.ensures c.requires.claimed in
     subst (λ (path : PathData). MayExplore hand (beginning c.args.part) path)
     (sym (task_read front c.tasks.result.now task c.index-tasks-task.result c.tasks.ensures below c.index-tasks-task.is))
-    (may_walk c.args.bounds.now.kind c.args.bounds.now.film.now hand front c.args.walked.now.found.items c.args.walked.now.spent c.args.part task part
+    (may_walk g.B.Bounds.kind g.B.Bounds.film hand front c.args.walked.now.found.items c.args.walked.now.spent c.args.part task part
     c.keeps_limits.ensures c.requires.claimed)
 
 pub index_mut-requires : goal.index_mut-requires
@@ -51,7 +51,7 @@ index_mut-requires g c =
     let part : c.args.part ≡ suc task = omega (arith, c.if-part-eq0.false) in
     let front = front_data c.args.front.now in
     let hand = g.H.Hand.shows c.args.hand.now in
-    let below = within c.args.bounds.now.kind c.args.bounds.now.film.now hand front c.args.walked.now.found.items c.args.walked.now.spent c.args.part task part
+    let below = within g.B.Bounds.kind g.B.Bounds.film hand front c.args.walked.now.found.items c.args.walked.now.spent c.args.part task part
     c.keeps_limits.ensures c.requires.claimed in
     omega (arith, below, c.requires.claimed.1.worked.long, c.args.walked.now.found.ok.0)
 
@@ -61,13 +61,13 @@ returns-in_ok-found-clause-worked g c =
     let part : c.args.part ≡ suc task = omega (arith, c.if-part-eq0.false) in
     let front = front_data c.args.front.now in
     let hand = g.H.Hand.shows c.args.hand.now in
-    let below = within c.args.bounds.now.kind c.args.bounds.now.film.now hand front c.args.walked.now.found.items c.args.walked.now.spent c.args.part task part
+    let below = within g.B.Bounds.kind g.B.Bounds.film hand front c.args.walked.now.found.items c.args.walked.now.spent c.args.part task part
     c.keeps_limits.ensures c.requires.claimed in
     let asked : task < length c.args.front.now.wanted.items = omega (arith, below, c.requires.claimed.1.worked.front_of.wanted) in
     let walks = subst (λ (path : PathData). WalksTask hand c.args.part path (Ok c.in_ok-found.found) (g.H.Hand.shows c.walk.new.hand))
     (task_read front c.tasks.result.now task c.index-tasks-task.result c.tasks.ensures below c.index-tasks-task.is)
     c.in_ok-found.ensures.walked in
-    walked_task c.args.bounds.now.kind c.args.bounds.now.film.now hand front c.args.walked.now.found.items c.args.walked.now.spent c.args.part task part
+    walked_task g.B.Bounds.kind g.B.Bounds.film hand front c.args.walked.now.found.items c.args.walked.now.spent c.args.part task part
     c.keeps_limits.ensures c.requires.claimed c.in_ok-found.found (g.H.Hand.shows c.walk.new.hand)
     (c.args.walked.now.spent || c.in_ok-found.found.spent)
     (wanted_read c.args.front.now task c.index.result.now asked c.index.ensures ∙ c.if-index.true) c.keeps_limits-then-index.ensures walks refl
@@ -81,8 +81,8 @@ returns-else-index-clause-worked g c =
     let part : c.args.part ≡ suc task = omega (arith, c.if-part-eq0.false) in
     let front = front_data c.args.front.now in
     let hand = g.H.Hand.shows c.args.hand.now in
-    let below = within c.args.bounds.now.kind c.args.bounds.now.film.now hand front c.args.walked.now.found.items c.args.walked.now.spent c.args.part task part
+    let below = within g.B.Bounds.kind g.B.Bounds.film hand front c.args.walked.now.found.items c.args.walked.now.spent c.args.part task part
     c.keeps_limits.ensures c.requires.claimed in
     let asked : task < length c.args.front.now.wanted.items = omega (arith, below, c.requires.claimed.1.worked.front_of.wanted) in
-    passed_part c.args.bounds.now.kind c.args.bounds.now.film.now hand front c.args.walked.now.found.items c.args.walked.now.spent c.args.part c.keeps_limits.ensures c.requires.claimed
+    passed_part g.B.Bounds.kind g.B.Bounds.film hand front c.args.walked.now.found.items c.args.walked.now.spent c.args.part c.keeps_limits.ensures c.requires.claimed
     (λ other is. ap (is_wanted front) (omega (arith, is, part)) ∙ wanted_read c.args.front.now task c.index.result.now asked c.index.ensures ∙ c.if-index.false)

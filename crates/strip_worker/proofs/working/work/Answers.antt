@@ -15,13 +15,12 @@ pub loop-part-preserved : goal.loop-part-preserved
 loop-part-preserved g c = record {
   sound = c.walk_part.ensures.sound;
   home = c.walk_part.ensures.home ∙ c.claim.ensures.home ∙ c.loop-part.invariant.home;
-  memo = c.walk_part.ensures.memo;
   on = goes_then (g.H.Hand.shows c.args.hand.now) (g.H.Hand.shows c.loop-part.hand) (g.H.Hand.shows c.walk_part.new.hand) c.loop-part.invariant.on
       (goes_walked (g.H.Hand.shows c.loop-part.hand) (g.H.Hand.shows c.claim.new.self) (g.H.Hand.shows c.walk_part.new.hand) c.in-Some.part
       c.in-Some.ensures.claimed c.walk_part.ensures.walks);
   refusals = omega (arith, c.loop-part.invariant.refusals, ap (λ (h : HandData). h.refusals) c.in-Some.ensures.claimed.0, c.walk_part.ensures.walks.2.refusals);
   worked = record {
-    search = subst (GoesBy c.args.bounds.now.kind c.args.bounds.now.film.now)
+    search = subst (GoesBy g.B.Bounds.kind g.B.Bounds.film)
         (sym (c.walk_part.ensures.walks.2.search ∙ ap (λ (h : HandData). h.search) c.in-Some.ensures.claimed.0)) c.loop-part.invariant.worked.search;
     worked = c.in_ok-walk_part.ensures.worked;
   };

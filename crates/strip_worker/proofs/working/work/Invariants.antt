@@ -10,10 +10,9 @@ abbrev pub invariant-loop-part : goal.invariant-loop-part
 invariant-loop-part g l = record {
   sound : g.H.Hand.is_sound l.hand;
   home : g.H.Hand.home l.hand ≡ g.H.Hand.home l.fn.hand;
-  memo : IsMemo l.bounds.kind l.bounds.film.now l.memo;
   on : GoesOn (g.H.Hand.shows l.fn.hand) (g.H.Hand.shows l.hand);
   refusals : (g.H.Hand.shows l.fn.hand).refusals ≤ (g.H.Hand.shows l.hand).refusals;
-  worked : HasWorkedOn l.bounds.kind l.bounds.film.now (g.H.Hand.shows l.hand) (front_data l.front) l.walked.found.items l.walked.spent;
+  worked : HasWorkedOn g.B.Bounds.kind g.B.Bounds.film (g.H.Hand.shows l.hand) (front_data l.front) l.walked.found.items l.walked.spent;
 }
 
 abbrev pub decreases-loop-part : goal.decreases-loop-part

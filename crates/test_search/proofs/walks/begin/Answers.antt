@@ -23,7 +23,7 @@ go_down-requires-clause-may g c =
         tasks = ap (λ (s : SearchData). s.tasks) same ∙ c.requires.tasks;
         empty = subst (λ (s : SearchData). IsEmptyFront (search_rules s) front) (sym same)
             (subst (λ (k : Kind). IsEmptyFront (rules_of k before.search.film) front) (sym c.requires.search.1)
-            (subst (λ (f : FilmData). IsEmptyFront (rules_of c.args.bounds.now.kind f) front) (sym c.requires.search.0) c.requires.front));
+            (subst (λ (f : FilmData). IsEmptyFront (rules_of g.B.Bounds.kind f) front) (sym c.requires.search.0) c.requires.front));
       };
       stands = (
         0,

@@ -14,7 +14,7 @@ close_up-requires-clause-walked g c =
     let way = c.in_ok-take_tasks.ensures.way in
     subst (λ (found : List ℕ). IsWalked hand front found) (sym c.deref.ensures.value) (record {
       front_of = subst (λ (k : Kind). IsFrontOf (rules_of k hand.search.film) front) (sym way.search.1)
-          (subst (λ (f : FilmData). IsFrontOf (rules_of c.args.bounds.now.kind f) front) (sym way.search.0) way.front_of);
+          (subst (λ (f : FilmData). IsFrontOf (rules_of g.B.Bounds.kind f) front) (sym way.search.0) way.front_of);
       filled = way.filled;
       count = way.long;
       known_of = way.known;

@@ -1,7 +1,6 @@
 use Rattle.std.proofs.Common.{◌≡◌}
 use Rattle.strip_front.specs.Shown.{front_data}
 use Rattle.test_search.specs.Way.{IsOnItsWay}
-use Rattle.strip_memo.specs.Memo.{IsMemo}
 use Rattle.test_search.proofs.walks.take_tasks.Given as goal
 
 -- the search is on its way over the hand
@@ -9,6 +8,5 @@ abbrev pub invariant-loop : goal.invariant-loop
 invariant-loop g l = record {
   sound : g.H.Hand.is_sound l.hand;
   home : g.H.Hand.home l.hand ≡ g.H.Hand.home l.fn.hand;
-  way : IsOnItsWay l.bounds.kind l.bounds.film.now (g.H.Hand.shows l.hand) (front_data l.front) l.found.items;
-  memo : IsMemo l.bounds.kind l.bounds.film.now l.memo;
+  way : IsOnItsWay g.B.Bounds.kind g.B.Bounds.film (g.H.Hand.shows l.hand) (front_data l.front) l.found.items;
 }

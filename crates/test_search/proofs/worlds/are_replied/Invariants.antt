@@ -6,5 +6,5 @@ use Rattle.test_search.proofs.worlds.are_replied.Given as goal
 abbrev pub invariant-loop-event : goal.invariant-loop-event
 invariant-loop-event g l = record {
   sound : IsSound l.world;
-  search : GoesBy l.bounds.kind l.bounds.film.now l.world.search;
+  search : GoesBy g.B.Bounds.kind g.B.Bounds.film l.world.search;
 }

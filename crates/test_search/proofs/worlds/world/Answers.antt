@@ -13,7 +13,7 @@ pub new-requires-clause-tasks : goal.new-requires-clause-tasks
 new-requires-clause-tasks g c =
     let front : IsFrontOf (rules_of c.kind.result c.film-film.result.now) (front_data c.in_ok-front.front)
     = subst (λ (k : Kind). IsFrontOf (rules_of k c.film-film.result.now) (front_data c.in_ok-front.front)) (sym c.kind.ensures)
-    (subst (λ (f : FilmData). IsFrontOf (rules_of c.args.bounds.now.kind f) (front_data c.in_ok-front.front)) (sym c.film-film.ensures)
+    (subst (λ (f : FilmData). IsFrontOf (rules_of g.B.Bounds.kind f) (front_data c.in_ok-front.front)) (sym c.film-film.ensures)
     c.in_ok-front.ensures.empty.front_of) in
     (c.tasks_are_starts.ensures
     (record {

@@ -10,7 +10,7 @@ use Rattle.test_workers.proofs.book.each_first_reaches.Given as goal
 -- each first so far reaches the number; these and those to come are the open firsts
 abbrev pub invariant-loop-scene : goal.invariant-loop-scene
 invariant-loop-scene g l = record {
-  reach : (scene : ℕ) → Contains l.yielded scene → l.fn.number ≤ step_cost l.fn.bounds.film.now (all_scenes l.fn.bounds.film.now) scene
-      + bound l.fn.bounds.kind l.fn.bounds.film.now (without (all_scenes l.fn.bounds.film.now) scene);
-  turns : l.yielded ++ rest_of l.scene-iterator ≡ members (open_firsts l.fn.bounds.film.now (all_scenes l.fn.bounds.film.now));
+  reach : (scene : ℕ) → Contains l.yielded scene → l.fn.number ≤ step_cost g.B.Bounds.film (all_scenes g.B.Bounds.film) scene
+      + bound g.B.Bounds.kind g.B.Bounds.film (without (all_scenes g.B.Bounds.film) scene);
+  turns : l.yielded ++ rest_of l.scene-iterator ≡ members (open_firsts g.B.Bounds.film (all_scenes g.B.Bounds.film));
 }

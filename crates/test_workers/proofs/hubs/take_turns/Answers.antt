@@ -7,6 +7,6 @@ use Rattle.test_workers.proofs.hubs.take_turns.Goals as goal
 
 pub probe-requires-clause-lies : goal.probe-requires-clause-lies
 probe-requires-clause-lies g c =
-    let film : FilmData = c.args.bounds.now.film.now in
+    let film : FilmData = g.B.Bounds.film in
     subst (λ (f : FilmData). LiesIn f c.all.result.0) (sym (ap (λ (s : SearchData). s.film) c.requires.same ∙ c.requires.goes_by.0))
     (subst (LiesIn film) (sym (c.all.ensures ∙ ap all_scenes c.film.ensures)) (LiesBelow-full (length film.casts)))

@@ -7,8 +7,8 @@ use Rattle.test_workers.proofs.team.make_all.Goals as goal
 pub loop-desk-preserved : goal.loop-desk-preserved
 loop-desk-preserved g c =
     let was = c.loop-desk.invariant in
-    let kind = c.args.bounds.now.kind in
-    let film = c.args.bounds.now.film.now in
+    let kind = g.B.Bounds.kind in
+    let film = g.B.Bounds.film in
     record {
       pass = record {
         pass_of = c.split.ensures.pass;

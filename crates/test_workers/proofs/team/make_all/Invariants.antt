@@ -6,8 +6,8 @@ use Rattle.test_workers.proofs.team.make_all.Given as goal
 
 abbrev pub invariant-loop-desk : goal.invariant-loop-desk
 invariant-loop-desk g l = record {
-  pass : IsNew l.fn.bounds.kind l.fn.bounds.film.now 2500 l.fn.book l.pass;
+  pass : IsNew g.B.Bounds.kind g.B.Bounds.film 2500 l.fn.book l.pass;
   weight : (known l.pass).weight + l.desk ≡ full_weight;
   count : vec_len l.passes ≡ l.desk;
-  workers : All (IsWorker l.fn.bounds.kind l.fn.bounds.film.now 2500 l.fn.book) l.passes.items;
+  workers : All (IsWorker g.B.Bounds.kind g.B.Bounds.film 2500 l.fn.book) l.passes.items;
 }

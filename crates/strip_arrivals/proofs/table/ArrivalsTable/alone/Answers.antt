@@ -10,7 +10,7 @@ use Rattle.strip_arrivals.proofs.Begun.{begun_alone}
 use Rattle.strip_arrivals.proofs.Chosen.{sum_one}
 use Rattle.strip_arrivals.proofs.Classes.{alone_goes, kinds_one}
 use Rattle.strip_arrivals.proofs.Prices.{price_with}
-use Rattle.strip_arrivals.proofs.Room.{paid_low}
+use Rattle.strip_arrivals.proofs.Fits.{paid_low}
 use Rattle.strip_arrivals.proofs.Saved.{lowered, within}
 use Rattle.strip_arrivals.proofs.Staged.{all_few, all_rise, extra_low, free_days_few, free_rise, free_row, hold_all_low, one_costs, one_days, one_days_of, one_prices, one_weights, for_one, rates_all_low, same_of}
 use Rattle.strip_arrivals.proofs.table.ArrivalsTable.alone.Goals as goal

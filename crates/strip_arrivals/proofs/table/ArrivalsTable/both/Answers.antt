@@ -7,7 +7,7 @@ use Rattle.strip_sets.specs.Numbers.{number}
 use Rattle.strip_arrivals.specs.Company.{AreCounted, just}
 use Rattle.strip_arrivals.proofs.Masks.{both_is, counted_alike, two, with_either_is, in_set}
 use Rattle.strip_arrivals.proofs.Tables.{known_set, small_set}
-use Rattle.strip_arrivals.proofs.Room.{days_fit, days_low}
+use Rattle.strip_arrivals.proofs.Fits.{days_fit, days_low}
 use Rattle.strip_arrivals.proofs.table.ArrivalsTable.both.Goals as goal
 
 pub plays-with_one-requires : goal.plays-with_one-requires

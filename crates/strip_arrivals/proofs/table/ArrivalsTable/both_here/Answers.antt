@@ -10,7 +10,7 @@ use Rattle.strip_arrivals.proofs.Begun.{begun_both_here}
 use Rattle.strip_arrivals.proofs.Chosen.{sum_two}
 use Rattle.strip_arrivals.proofs.Classes.{either_goes, kinds_two}
 use Rattle.strip_arrivals.proofs.Masks.{has_one}
-use Rattle.strip_arrivals.proofs.Room.{both_paid_low, paid_low}
+use Rattle.strip_arrivals.proofs.Fits.{both_paid_low, paid_low}
 use Rattle.strip_arrivals.proofs.Saved.{lowered, within}
 use Rattle.strip_arrivals.proofs.Staged.{all_open_few, all_days_rise, all_few, extra_low, free_rise, free_row, hold_all_low, neither_low, own_few, own_rise, rates_all_low, two_costs, two_days, two_days_of, two_kinds, two_of, two_prices, two_weights}
 use Rattle.strip_arrivals.proofs.Stages.{stage_both}

@@ -6,7 +6,7 @@ use Rattle.strip_sets.specs.Numbers.{number}
 use Rattle.strip_arrivals.specs.Arrivals.{at_first}
 use Rattle.strip_arrivals.specs.Gross.{IsGross}
 use Rattle.strip_arrivals.proofs.AtOnce.{none_comes}
-use Rattle.strip_arrivals.proofs.Room.{paid_low}
+use Rattle.strip_arrivals.proofs.Fits.{paid_low}
 use Rattle.strip_arrivals.proofs.Staged.{free_days_few, rates_all_low}
 use Rattle.strip_arrivals.proofs.Tables.{known_set}
 use Rattle.strip_arrivals.proofs.table.ArrivalsTable.gross_alone.Goals as goal

@@ -5,7 +5,7 @@ use Rattle.strip_sets.proofs.Sets.{full_small}
 use Rattle.strip_sets.specs.Numbers.{number}
 use Rattle.strip_arrivals.specs.Company.{staying}
 use Rattle.strip_arrivals.specs.Gross.{IsGross}
-use Rattle.strip_arrivals.proofs.Room.{paid_low}
+use Rattle.strip_arrivals.proofs.Fits.{paid_low}
 use Rattle.strip_arrivals.proofs.Staged.{all_open_few, hold_all_low, own_few, rates_all_low}
 use Rattle.strip_arrivals.proofs.Tables.{known_set}
 use Rattle.strip_arrivals.proofs.table.ArrivalsTable.gross_of_both.Goals as goal

@@ -7,7 +7,7 @@ use Rattle.strip_arrivals.specs.Arrivals.{at_first}
 use Rattle.strip_arrivals.specs.Gross.{IsGross}
 use Rattle.strip_mask.proofs.ByMembers.{has-with_same}
 use Rattle.strip_arrivals.proofs.AtOnce.{one_comes}
-use Rattle.strip_arrivals.proofs.Room.{paid_low}
+use Rattle.strip_arrivals.proofs.Fits.{paid_low}
 use Rattle.strip_arrivals.proofs.Staged.{all_few, rates_all_low}
 use Rattle.strip_arrivals.proofs.Stages.{stage_alone_one}
 use Rattle.strip_arrivals.proofs.Tables.{known_set}

@@ -9,7 +9,7 @@ use Rattle.strip_arrivals.specs.Arrivals.{is_without}
 use Rattle.strip_arrivals.specs.Company.{AreCounted, just}
 use Rattle.strip_arrivals.proofs.Masks.{alone_is, counted_alike, with_one_is, in_set}
 use Rattle.strip_arrivals.proofs.Tables.{known_set, small_set}
-use Rattle.strip_arrivals.proofs.Room.{days_fit, days_low, hold_low}
+use Rattle.strip_arrivals.proofs.Fits.{days_fit, days_low, hold_low}
 use Rattle.strip_arrivals.proofs.table.ArrivalsTable.newcomer.Goals as goal
 
 pub scenes_with-requires : goal.scenes_with-requires

@@ -10,7 +10,7 @@ use Rattle.strip_sets.specs.Saving.{Saves, owes}
 use Rattle.strip_arrivals.proofs.Chosen.{sum_none}
 use Rattle.strip_arrivals.proofs.Begun.{begun_over}
 use Rattle.strip_arrivals.proofs.Classes.{kinds_none}
-use Rattle.strip_arrivals.proofs.Room.{paid_low}
+use Rattle.strip_arrivals.proofs.Fits.{paid_low}
 use Rattle.strip_arrivals.proofs.Saved.{all_save, lowered, within}
 use Rattle.strip_arrivals.proofs.Staged.{alone_costs, alone_days, alone_days_of, alone_prices, alone_weights, free_days_few, free_rise, free_row, rates_all_low}
 use Rattle.strip_arrivals.proofs.Stages.{stage_over}

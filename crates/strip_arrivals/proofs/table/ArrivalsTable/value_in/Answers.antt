@@ -27,14 +27,14 @@ pub overflow_sub-result : goal.overflow_sub-result
 overflow_sub-result g c =
     let crew = c.args.crew.now in
     let is : c.gross.result ≡ arrivals_value c.args.self.now crew.set.0 crew.group.0 c.args.newcomers.0 + c.own_pay.result
-    = paid c.party-party.ensures.crew c.party-party.ensures.newcomers c.requires.company c.gross.ensures (c.own_pay.ensures c.args.newcomers.0) in
+    = paid c.party-party.ensures.same.0 c.party-party.ensures.same.1 c.requires.company c.gross.ensures (c.own_pay.ensures c.args.newcomers.0) in
     omega (arith, is)
 
 pub returns-clause-same : goal.returns-clause-same
 returns-clause-same g c =
     let crew = c.args.crew.now in
     let is : c.gross.result ≡ arrivals_value c.args.self.now crew.set.0 crew.group.0 c.args.newcomers.0 + c.own_pay.result
-    = paid c.party-party.ensures.crew c.party-party.ensures.newcomers c.requires.company c.gross.ensures (c.own_pay.ensures c.args.newcomers.0) in
+    = paid c.party-party.ensures.same.0 c.party-party.ensures.same.1 c.requires.company c.gross.ensures (c.own_pay.ensures c.args.newcomers.0) in
     omega (arith, is)
 
 pub returns-clause-small : goal.returns-clause-small
@@ -44,7 +44,7 @@ returns-clause-small g c =
     let set : ℕ = crew.set.0 in
     let known = c.requires.company in
     let is : c.gross.result ≡ arrivals_value film set crew.group.0 c.args.newcomers.0 + c.own_pay.result
-    = paid c.party-party.ensures.crew c.party-party.ensures.newcomers known c.gross.ensures (c.own_pay.ensures c.args.newcomers.0) in
+    = paid c.party-party.ensures.same.0 c.party-party.ensures.same.1 known c.gross.ensures (c.own_pay.ensures c.args.newcomers.0) in
     let short : length film.days ≤ 64 = omega (arith, known.limits.day_count, known.limits.scene_count) in
     let low = value_low film crew.group.0 c.args.newcomers.0 (sum film.holds) (λ actors. sum_over_le_sum film.holds actors known.limits.actor_count)
     set known.small_set known.small known.small_newcomers known.apart in

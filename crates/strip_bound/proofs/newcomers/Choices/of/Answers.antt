@@ -8,51 +8,51 @@ use Rattle.strip_bound.proofs.Party.{chosen_small, group_known, left_known, loca
 use Rattle.strip_bound.proofs.newcomers.Choices.of.Goals as goal
 
 pub set_from-group-requires-clause-listed : goal.set_from-group-requires-clause-listed
-set_from-group-requires-clause-listed c = subst (All (λ actor. actor < 64)) (sym c.requires.located)
-    (located_small c.args.film.now c.args.q.0 c.keeps_limits.ensures c.requires.lies)
+set_from-group-requires-clause-listed c = subst (All (λ actor. actor < 64)) (sym c.args.here.now.located)
+    (located_small c.args.here.now.film.now c.args.here.now.q.0 c.keeps_limits.ensures c.args.here.now.lies)
 
 pub chosen-chosen-requires-clause-group : goal.chosen-chosen-requires-clause-group
 chosen-chosen-requires-clause-group c i there =
     let many : ℕ = c.args.parties.now.many in
     let place : ℕ = c.loop-place.place in
-    let group_is : c.set_from-group.result.0 ≡ group_at c.args.film.now c.args.q.0 many place
-    = c.set_from-group.ensures ∙ ap (λ (xs : List ℕ). set_of (take many (drop (place * many) xs))) c.requires.located in
-    group_known c.args.film.now c.args.q.0 c.keeps_limits.ensures c.requires.lies many place i (subst (λ (set : ℕ). has set i ≡ true) group_is there)
+    let group_is : c.set_from-group.result.0 ≡ group_at c.args.here.now.film.now c.args.here.now.q.0 many place
+    = c.set_from-group.ensures ∙ ap (λ (xs : List ℕ). set_of (take many (drop (place * many) xs))) c.args.here.now.located in
+    group_known c.args.here.now.film.now c.args.here.now.q.0 c.keeps_limits.ensures c.args.here.now.lies many place i (subst (λ (set : ℕ). has set i ≡ true) group_is there)
 
 pub chosen-chosen-requires-clause-newcomers : goal.chosen-chosen-requires-clause-newcomers
-chosen-chosen-requires-clause-newcomers c i there = left_known c.args.film.now c.args.q.0 c.keeps_limits.ensures c.requires.lies c.args.parties.now.many c.loop-place.place i
+chosen-chosen-requires-clause-newcomers c i there = left_known c.args.here.now.film.now c.args.here.now.q.0 c.keeps_limits.ensures c.args.here.now.lies c.args.parties.now.many c.loop-place.place i
     (subst (λ (set : ℕ). has set i ≡ true) c.loop-place.invariant.left there)
 
 pub set_from-both-requires-clause-listed : goal.set_from-both-requires-clause-listed
 set_from-both-requires-clause-listed c =
     let many : ℕ = c.args.parties.now.many in
     let place : ℕ = c.loop-place.place in
-    let group_is : c.set_from-group.result.0 ≡ group_at c.args.film.now c.args.q.0 many place
-    = c.set_from-group.ensures ∙ ap (λ (xs : List ℕ). set_of (take many (drop (place * many) xs))) c.requires.located in
-    let those : c.chosen-chosen.result.items ≡ chosen c.args.film.now c.args.q.0 (group_at c.args.film.now c.args.q.0 many place) (left_at c.args.film.now c.args.q.0 many place)
-    = c.chosen-chosen.ensures ∙ (λ i. chosen c.args.film.now c.args.q.0 (group_is i) (c.loop-place.invariant.left i)) in
-    subst (All (λ actor. actor < 64)) (sym (c.deref.ensures.0 ∙ those)) (chosen_small c.args.film.now c.args.q.0 c.keeps_limits.ensures c.requires.lies many place)
+    let group_is : c.set_from-group.result.0 ≡ group_at c.args.here.now.film.now c.args.here.now.q.0 many place
+    = c.set_from-group.ensures ∙ ap (λ (xs : List ℕ). set_of (take many (drop (place * many) xs))) c.args.here.now.located in
+    let those : c.chosen-chosen.result.items ≡ chosen c.args.here.now.film.now c.args.here.now.q.0 (group_at c.args.here.now.film.now c.args.here.now.q.0 many place) (left_at c.args.here.now.film.now c.args.here.now.q.0 many place)
+    = c.chosen-chosen.ensures ∙ (λ i. chosen c.args.here.now.film.now c.args.here.now.q.0 (group_is i) (c.loop-place.invariant.left i)) in
+    subst (All (λ actor. actor < 64)) (sym (c.deref.ensures.0 ∙ those)) (chosen_small c.args.here.now.film.now c.args.here.now.q.0 c.keeps_limits.ensures c.args.here.now.lies many place)
 
 pub set_from-requires-clause-listed : goal.set_from-requires-clause-listed
 set_from-requires-clause-listed c =
     let many : ℕ = c.args.parties.now.many in
     let place : ℕ = c.loop-place.place in
-    let group_is : c.set_from-group.result.0 ≡ group_at c.args.film.now c.args.q.0 many place
-    = c.set_from-group.ensures ∙ ap (λ (xs : List ℕ). set_of (take many (drop (place * many) xs))) c.requires.located in
-    let those : c.chosen-chosen.result.items ≡ chosen c.args.film.now c.args.q.0 (group_at c.args.film.now c.args.q.0 many place) (left_at c.args.film.now c.args.q.0 many place)
-    = c.chosen-chosen.ensures ∙ (λ i. chosen c.args.film.now c.args.q.0 (group_is i) (c.loop-place.invariant.left i)) in
-    subst (All (λ actor. actor < 64)) (sym (c.deref-in-loop-place.ensures.0 ∙ those)) (chosen_small c.args.film.now c.args.q.0 c.keeps_limits.ensures c.requires.lies many place)
+    let group_is : c.set_from-group.result.0 ≡ group_at c.args.here.now.film.now c.args.here.now.q.0 many place
+    = c.set_from-group.ensures ∙ ap (λ (xs : List ℕ). set_of (take many (drop (place * many) xs))) c.args.here.now.located in
+    let those : c.chosen-chosen.result.items ≡ chosen c.args.here.now.film.now c.args.here.now.q.0 (group_at c.args.here.now.film.now c.args.here.now.q.0 many place) (left_at c.args.here.now.film.now c.args.here.now.q.0 many place)
+    = c.chosen-chosen.ensures ∙ (λ i. chosen c.args.here.now.film.now c.args.here.now.q.0 (group_is i) (c.loop-place.invariant.left i)) in
+    subst (All (λ actor. actor < 64)) (sym (c.deref-in-loop-place.ensures.0 ∙ those)) (chosen_small c.args.here.now.film.now c.args.here.now.q.0 c.keeps_limits.ensures c.args.here.now.lies many place)
 
 pub loop-place-preserved : goal.loop-place-preserved
 loop-place-preserved c =
-    let film = c.args.film.now in
-    let q : ℕ = c.args.q.0 in
+    let film = c.args.here.now.film.now in
+    let q : ℕ = c.args.here.now.q.0 in
     let many : ℕ = c.args.parties.now.many in
     let place : ℕ = c.loop-place.place in
-    let group_is : c.set_from-group.result.0 ≡ group_at c.args.film.now c.args.q.0 many place
-    = c.set_from-group.ensures ∙ ap (λ (xs : List ℕ). set_of (take many (drop (place * many) xs))) c.requires.located in
-    let those : c.chosen-chosen.result.items ≡ chosen c.args.film.now c.args.q.0 (group_at c.args.film.now c.args.q.0 many place) (left_at c.args.film.now c.args.q.0 many place)
-    = c.chosen-chosen.ensures ∙ (λ i. chosen c.args.film.now c.args.q.0 (group_is i) (c.loop-place.invariant.left i)) in
+    let group_is : c.set_from-group.result.0 ≡ group_at c.args.here.now.film.now c.args.here.now.q.0 many place
+    = c.set_from-group.ensures ∙ ap (λ (xs : List ℕ). set_of (take many (drop (place * many) xs))) c.args.here.now.located in
+    let those : c.chosen-chosen.result.items ≡ chosen c.args.here.now.film.now c.args.here.now.q.0 (group_at c.args.here.now.film.now c.args.here.now.q.0 many place) (left_at c.args.here.now.film.now c.args.here.now.q.0 many place)
+    = c.chosen-chosen.ensures ∙ (λ i. chosen c.args.here.now.film.now c.args.here.now.q.0 (group_is i) (c.loop-place.invariant.left i)) in
     let firsts : List ℕ = c.loop-place.choices.first in
     let boths : List ℕ = c.loop-place.choices.both in
     let within : place < 10 = omega (arith, c.loop-place-test.true, c.requires.parties.few) in

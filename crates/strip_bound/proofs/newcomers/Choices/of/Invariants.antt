@@ -5,9 +5,9 @@ use Rattle.strip_bound.proofs.newcomers.Choices.of.Given as goal
 -- the choices of the parties so far, and who is left
 abbrev pub invariant-loop-place : goal.invariant-loop-place
 invariant-loop-place l = record {
-  left : l.left.0 ≡ left_at l.film l.q.0 l.many l.place;
+  left : l.left.0 ≡ left_at l.here.film.now l.here.q.0 l.many l.place;
   firsts : length l.choices.first ≡ 10;
   boths : length l.choices.both ≡ 10;
-  first : (place : ℕ) → place < l.place → slice_index l.choices.first place ≡ newcomers_at l.film l.q.0 l.many 1 place;
-  both : (place : ℕ) → place < l.place → slice_index l.choices.both place ≡ newcomers_at l.film l.q.0 l.many 2 place;
+  first : (place : ℕ) → place < l.place → slice_index l.choices.first place ≡ newcomers_at l.here.film.now l.here.q.0 l.many 1 place;
+  both : (place : ℕ) → place < l.place → slice_index l.choices.both place ≡ newcomers_at l.here.film.now l.here.q.0 l.many 2 place;
 }

@@ -21,7 +21,6 @@ loop-place-init c = record {
       record { many = are.many; number = are.number; few = are.few; long = are.long; most = are.most; extra = are.extra };
   need = refl;
   more = refl;
-  room = refl;
   asked = elim c.requires.asked [
     | inl reached ↦ inl reached
     | inr known ↦ inr ((λ place none. absurd (omega (arith, none))), (λ place _ there. known place there))
@@ -30,17 +29,17 @@ loop-place-init c = record {
 
 pub set_from-group-requires-clause-listed : goal.set_from-group-requires-clause-listed
 set_from-group-requires-clause-listed c =
-    subst (All (λ actor. actor < 64)) (sym c.requires.located) (located_small c.args.film.now c.args.here.now.q.0 c.keeps_limits.ensures c.requires.lies)
+    subst (All (λ actor. actor < 64)) (sym c.args.here.now.located) (located_small c.args.here.now.film.now c.args.here.now.q.0 c.keeps_limits.ensures c.args.here.now.lies)
 
 pub value-value-requires-clause-few : goal.value-value-requires-clause-few
 value-value-requires-clause-few c =
-    let film = c.args.film.now in
+    let film = c.args.here.now.film.now in
     let q : ℕ = c.args.here.now.q.0 in
     let many : ℕ = c.args.self.now.many in
     let place : ℕ = c.loop-place.place in
     let group_is : c.set_from-group.result.0 ≡ group_at film q many place
-    = c.set_from-group.ensures ∙ (λ i. set_of (take (c.loop-place.invariant.parties.many i) (drop (place * c.loop-place.invariant.parties.many i) (c.requires.located i)))) in
-    let few : size (group_at film q many place) ≤ many = group_few film q c.keeps_limits.ensures c.requires.lies many place in
+    = c.set_from-group.ensures ∙ (λ i. set_of (take (c.loop-place.invariant.parties.many i) (drop (place * c.loop-place.invariant.parties.many i) (c.args.here.now.located i)))) in
+    let few : size (group_at film q many place) ≤ many = group_few film q c.keeps_limits.ensures c.args.here.now.lies many place in
     let same : size c.set_from-group.result.0 ≡ size (group_at film q many place) = ap size group_is in
     elim c.requires.many [
       | inl seven ↦ omega (arith, few, same, seven)
@@ -49,7 +48,7 @@ value-value-requires-clause-few c =
 
 pub value-value-requires-clause-few_newcomers : goal.value-value-requires-clause-few_newcomers
 value-value-requires-clause-few_newcomers c =
-    let film = c.args.film.now in
+    let film = c.args.here.now.film.now in
     let q : ℕ = c.args.here.now.q.0 in
     let many : ℕ = c.args.self.now.many in
     let place : ℕ = c.loop-place.place in
@@ -58,24 +57,24 @@ value-value-requires-clause-few_newcomers c =
     let coming : c.at-newcomers.result.0 ≡ newcomers_at film q many c.args.count place
     = coming_is film q many c.args.count place c.at-newcomers.result.0 c.args.choices.now c.requires.choices there
     c.at-newcomers.ensures.none c.at-newcomers.ensures.first c.at-newcomers.ensures.both c.requires.count in
-    omega (arith, ap size coming, newcomers_few film q c.keeps_limits.ensures c.requires.lies many c.args.count place, c.requires.count)
+    omega (arith, ap size coming, newcomers_few film q c.keeps_limits.ensures c.args.here.now.lies many c.args.count place, c.requires.count)
 
 pub value-value-requires-clause-known : goal.value-value-requires-clause-known
 value-value-requires-clause-known c i member =
-    let film = c.args.film.now in
+    let film = c.args.here.now.film.now in
     let q : ℕ = c.args.here.now.q.0 in
     let many : ℕ = c.args.self.now.many in
     let place : ℕ = c.loop-place.place in
     let group_is : c.set_from-group.result.0 ≡ group_at film q many place
-    = c.set_from-group.ensures ∙ (λ i. set_of (take (c.loop-place.invariant.parties.many i) (drop (place * c.loop-place.invariant.parties.many i) (c.requires.located i)))) in
-    let holds : length c.args.tables.now.arrivals.holds ≡ length film.rates
-    = ap (λ (film : GroupData). length film.holds) c.requires.tables.arrivals ∙ c.keeps_limits.ensures.hold_count in
-    let known : i < length film.rates = group_known film q c.keeps_limits.ensures c.requires.lies many place i (subst (λ (set : ℕ). has set i ≡ true) group_is member) in
+    = c.set_from-group.ensures ∙ (λ i. set_of (take (c.loop-place.invariant.parties.many i) (drop (place * c.loop-place.invariant.parties.many i) (c.args.here.now.located i)))) in
+    let holds : length c.args.here.now.tables.now.arrivals.holds ≡ length film.rates
+    = ap (λ (film : GroupData). length film.holds) c.args.here.now.are_tables.arrivals ∙ c.keeps_limits.ensures.hold_count in
+    let known : i < length film.rates = group_known film q c.keeps_limits.ensures c.args.here.now.lies many place i (subst (λ (set : ℕ). has set i ≡ true) group_is member) in
     omega (arith, known, holds)
 
 pub value-value-requires-clause-known_newcomers : goal.value-value-requires-clause-known_newcomers
 value-value-requires-clause-known_newcomers c i member =
-    let film = c.args.film.now in
+    let film = c.args.here.now.film.now in
     let q : ℕ = c.args.here.now.q.0 in
     let many : ℕ = c.args.self.now.many in
     let place : ℕ = c.loop-place.place in
@@ -84,19 +83,19 @@ value-value-requires-clause-known_newcomers c i member =
     let coming : c.at-newcomers.result.0 ≡ newcomers_at film q many c.args.count place
     = coming_is film q many c.args.count place c.at-newcomers.result.0 c.args.choices.now c.requires.choices there
     c.at-newcomers.ensures.none c.at-newcomers.ensures.first c.at-newcomers.ensures.both c.requires.count in
-    let holds : length c.args.tables.now.arrivals.holds ≡ length film.rates
-    = ap (λ (film : GroupData). length film.holds) c.requires.tables.arrivals ∙ c.keeps_limits.ensures.hold_count in
-    let known : i < length film.rates = newcomers_known film q c.keeps_limits.ensures c.requires.lies many c.args.count place i (subst (λ (set : ℕ). has set i ≡ true) coming member) in
+    let holds : length c.args.here.now.tables.now.arrivals.holds ≡ length film.rates
+    = ap (λ (film : GroupData). length film.holds) c.args.here.now.are_tables.arrivals ∙ c.keeps_limits.ensures.hold_count in
+    let known : i < length film.rates = newcomers_known film q c.keeps_limits.ensures c.args.here.now.lies many c.args.count place i (subst (λ (set : ℕ). has set i ≡ true) coming member) in
     omega (arith, known, holds)
 
 pub value-value-requires-clause-apart : goal.value-value-requires-clause-apart
 value-value-requires-clause-apart c i member =
-    let film = c.args.film.now in
+    let film = c.args.here.now.film.now in
     let q : ℕ = c.args.here.now.q.0 in
     let many : ℕ = c.args.self.now.many in
     let place : ℕ = c.loop-place.place in
     let group_is : c.set_from-group.result.0 ≡ group_at film q many place
-    = c.set_from-group.ensures ∙ (λ i. set_of (take (c.loop-place.invariant.parties.many i) (drop (place * c.loop-place.invariant.parties.many i) (c.requires.located i)))) in
+    = c.set_from-group.ensures ∙ (λ i. set_of (take (c.loop-place.invariant.parties.many i) (drop (place * c.loop-place.invariant.parties.many i) (c.args.here.now.located i)))) in
     let there : place < number_of_parties film q many
     = omega (arith, c.loop-place-test.true, c.requires.parties.number) in
     let coming : c.at-newcomers.result.0 ≡ newcomers_at film q many c.args.count place
@@ -106,28 +105,28 @@ value-value-requires-clause-apart c i member =
 
 pub raise-requires-clause-fits : goal.raise-requires-clause-fits
 raise-requires-clause-fits c =
-    let film = c.args.film.now in
+    let film = c.args.here.now.film.now in
     let q : ℕ = c.args.here.now.q.0 in
     let many : ℕ = c.args.self.now.many in
     let place : ℕ = c.loop-place.place in
     let group_is : c.set_from-group.result.0 ≡ group_at film q many place
-    = c.set_from-group.ensures ∙ (λ i. set_of (take (c.loop-place.invariant.parties.many i) (drop (place * c.loop-place.invariant.parties.many i) (c.requires.located i)))) in
+    = c.set_from-group.ensures ∙ (λ i. set_of (take (c.loop-place.invariant.parties.many i) (drop (place * c.loop-place.invariant.parties.many i) (c.args.here.now.located i)))) in
     let there : place < number_of_parties film q many
     = omega (arith, c.loop-place-test.true, c.requires.parties.number) in
     let coming : c.at-newcomers.result.0 ≡ newcomers_at film q many c.args.count place
     = coming_is film q many c.args.count place c.at-newcomers.result.0 c.args.choices.now c.requires.choices there
     c.at-newcomers.ensures.none c.at-newcomers.ensures.first c.at-newcomers.ensures.both c.requires.count in
     let value_is : c.value-value.result ≡ party_value film q many c.args.count place
-    = c.value-value.ensures.same ∙ (λ i. arrivals_value (c.requires.tables.arrivals i) q (group_is i) (coming i)) in
+    = c.value-value.ensures.same ∙ (λ i. arrivals_value (c.args.here.now.are_tables.arrivals i) q (group_is i) (coming i)) in
     let inside : place < c.loop-place.self.number
     = omega (arith, c.loop-place-test.true, c.loop-place.invariant.parties.number, c.requires.parties.number) in
     raised_fits film q many c.args.count place c.value-value.result c.loop-place.self c.loop-place.invariant.parties inside c.requires.count value_is
-    c.keeps_limits.ensures c.requires.lies c.requires.many
+    c.keeps_limits.ensures c.args.here.now.lies c.requires.many
 
 -- a party that was asked with the same newcomers
 pub loop-place-preserved-then-at-newcomers : goal.loop-place-preserved-then-at-newcomers
 loop-place-preserved-then-at-newcomers c =
-    let film = c.args.film.now in
+    let film = c.args.here.now.film.now in
     let q : ℕ = c.args.here.now.q.0 in
     let many : ℕ = c.args.self.now.many in
     let place : ℕ = c.loop-place.place in
@@ -149,7 +148,6 @@ loop-place-preserved-then-at-newcomers c =
       parties = c.loop-place.invariant.parties;
       need = c.loop-place.invariant.need;
       more = c.loop-place.invariant.more;
-      room = c.loop-place.invariant.room;
       asked = elim c.loop-place.invariant.asked [
         | inl reached ↦ inl reached
         | inr known ↦ inr (
@@ -159,7 +157,7 @@ loop-place-preserved-then-at-newcomers c =
                 let here : other ≡ place = omega (arith, from, less) in
                 known.1 other from (omega (arith, here, c.loop-place-test.true, c.loop-place.invariant.parties.number, c.requires.parties.number))
                 ∙ ap (λ (n : ℕ). greatest_below film q many n other) asked ∙ ap (greatest_below film q many (suc before)) here
-                ∙ sym (no_more film q many place (value_rises film q c.keeps_limits.ensures c.requires.lies c.fewer_newcomers_wait_no_more.ensures many place) before c.args.count same)
+                ∙ sym (no_more film q many place (value_rises film q c.keeps_limits.ensures c.args.here.now.lies c.fewer_newcomers_wait_no_more.ensures many place) before c.args.count same)
                 ∙ ap (greatest_below film q many (suc c.args.count)) (sym here))
           ]),
           (λ other past within. known.1 other (omega (arith, past)) within),
@@ -169,19 +167,19 @@ loop-place-preserved-then-at-newcomers c =
 
 pub loop-place-preserved : goal.loop-place-preserved
 loop-place-preserved c =
-    let film = c.args.film.now in
+    let film = c.args.here.now.film.now in
     let q : ℕ = c.args.here.now.q.0 in
     let many : ℕ = c.args.self.now.many in
     let place : ℕ = c.loop-place.place in
     let group_is : c.set_from-group.result.0 ≡ group_at film q many place
-    = c.set_from-group.ensures ∙ (λ i. set_of (take (c.loop-place.invariant.parties.many i) (drop (place * c.loop-place.invariant.parties.many i) (c.requires.located i)))) in
+    = c.set_from-group.ensures ∙ (λ i. set_of (take (c.loop-place.invariant.parties.many i) (drop (place * c.loop-place.invariant.parties.many i) (c.args.here.now.located i)))) in
     let there : place < number_of_parties film q many
     = omega (arith, c.loop-place-test.true, c.requires.parties.number) in
     let coming : c.at-newcomers.result.0 ≡ newcomers_at film q many c.args.count place
     = coming_is film q many c.args.count place c.at-newcomers.result.0 c.args.choices.now c.requires.choices there
     c.at-newcomers.ensures.none c.at-newcomers.ensures.first c.at-newcomers.ensures.both c.requires.count in
     let value_is : c.value-value.result ≡ party_value film q many c.args.count place
-    = c.value-value.ensures.same ∙ (λ i. arrivals_value (c.requires.tables.arrivals i) q (group_is i) (coming i)) in
+    = c.value-value.ensures.same ∙ (λ i. arrivals_value (c.args.here.now.are_tables.arrivals i) q (group_is i) (coming i)) in
     let inside : place < c.loop-place.self.number
     = omega (arith, c.loop-place-test.true, c.loop-place.invariant.parties.number, c.requires.parties.number) in
     let count : ℕ = c.args.count in
@@ -192,7 +190,6 @@ loop-place-preserved c =
           (raised_are film q many count place c.value-value.result before c.loop-place.invariant.parties inside c.requires.count value_is);
       need = ap (λ (parties : Parties). parties.need) c.raise.ensures ∙ c.loop-place.invariant.need;
       more = ap (λ (parties : Parties). parties.asked) c.raise.ensures ∙ c.loop-place.invariant.more;
-      room = c.value-value.ensures.room ∙ c.loop-place.invariant.room;
       asked = elim c.loop-place.invariant.asked [
         | inl reached ↦ absurd (omega (arith, reached, c.if-self.false))
         | inr known ↦ inr (
@@ -204,7 +201,7 @@ loop-place-preserved c =
                 ap (slice_index values) same
                 ∙ raised_here film q many count place c.value-value.result before c.loop-place.invariant.parties inside c.requires.count value_is
                 c.args.self.now.asked c.requires.fewer
-                (value_rises film q c.keeps_limits.ensures c.requires.lies c.fewer_newcomers_wait_no_more.ensures many place)
+                (value_rises film q c.keeps_limits.ensures c.args.here.now.lies c.fewer_newcomers_wait_no_more.ensures many place)
                 (known.1 place (omega arith) inside)
                 ∙ ap (greatest_below film q many (suc count)) (sym same))
           ]),
@@ -217,7 +214,7 @@ loop-place-preserved c =
 
 pub returns-clause-asked : goal.returns-clause-asked
 returns-clause-asked c =
-    let film = c.args.film.now in
+    let film = c.args.here.now.film.now in
     let q : ℕ = c.args.here.now.q.0 in
     let parties : Parties = c.loop-place.self in
     let many : c.args.self.now.many ≡ parties.many = sym c.loop-place.invariant.parties.many in
@@ -228,34 +225,3 @@ returns-clause-asked c =
           known.0 place (omega (arith, within, c.loop-place-test.false, c.loop-place.invariant.parties.number, c.requires.parties.number))
           ∙ (λ i. greatest_below film q (many i) (next i) place))
     ]
-
--- room for more newcomers and a greater group is room for fewer
-room_for : (number few size many room : ℕ) → number ≤ few → size ≤ many → (2 + 6 * few) * 2 ^ (many - 6) ≤ room → (2 + 6 * number) * 2 ^ (size - 6) ≤ room
-room_for number few size many room no_more no_larger fits =
-    let tables : 2 + 6 * number ≤ 2 + 6 * few = omega (arith, no_more) in
-    let blocks : 2 ^ (size - 6) ≤ 2 ^ (many - 6) = pow_mono (omega (arith, no_larger)) in
-    let all : (2 + 6 * number) * 2 ^ (size - 6) ≤ (2 + 6 * few) * 2 ^ (many - 6) = mul-le-mul tables blocks in
-    omega (arith, all, fits)
-
-pub value-value-requires-clause-room : goal.value-value-requires-clause-room
-value-value-requires-clause-room c =
-    let film = c.args.film.now in
-    let q : ℕ = c.args.here.now.q.0 in
-    let many : ℕ = c.args.self.now.many in
-    let place : ℕ = c.loop-place.place in
-    let located : ℕ = length c.args.here.now.actors.now in
-    let group_is : c.set_from-group.result.0 ≡ group_at film q many place
-    = c.set_from-group.ensures ∙ (λ i. set_of (take (c.loop-place.invariant.parties.many i) (drop (place * c.loop-place.invariant.parties.many i) (c.requires.located i)))) in
-    let there : place < number_of_parties film q many
-    = omega (arith, c.loop-place-test.true, c.requires.parties.number) in
-    let coming : c.at-newcomers.result.0 ≡ newcomers_at film q many c.args.count place
-    = coming_is film q many c.args.count place c.at-newcomers.result.0 c.args.choices.now c.requires.choices there
-    c.at-newcomers.ensures.none c.at-newcomers.ensures.first c.at-newcomers.ensures.both c.requires.count in
-    let no_more : size c.at-newcomers.result.0 ≤ c.args.count
-    = omega (arith, ap size coming, newcomers_few film q c.keeps_limits.ensures c.requires.lies many c.args.count place) in
-    let here : located ≡ size (on_location film q) = ap length c.requires.located ∙ located_count film q in
-    let few = group_few film q c.keeps_limits.ensures c.requires.lies many place in
-    let within = group_within film q c.keeps_limits.ensures c.requires.lies many place in
-    let no_larger : size c.set_from-group.result.0 ≤ min many located = omega (arith, ap size group_is, few, within, here) in
-    room_for (size c.at-newcomers.result.0) c.args.count (size c.set_from-group.result.0) (min many located) (length c.loop-place.room) no_more no_larger
-    (omega (arith, c.requires.room, c.loop-place.invariant.room))

@@ -6,9 +6,9 @@ use Rattle.strip_bound.proofs.parties.Parties.new.Goals as goal
 
 pub returns-clause-parties : goal.returns-clause-parties
 returns-clause-parties c =
-    let film = c.args.film.now in
+    let film = c.args.here.now.film.now in
     let q = c.args.here.now.q.0 in
-    let count : length c.args.here.now.actors.now ≡ size (on_location film q) = ap length c.requires.located ∙ located_count film q in
+    let count : length c.args.here.now.actors.now ≡ size (on_location film q) = ap length c.args.here.now.located ∙ located_count film q in
     let number : (length c.args.here.now.actors.now + (c.args.many - 1)) / c.args.many ≡ (size (on_location film q) + (c.args.many - 1)) / c.args.many
     = ap (λ (n : ℕ). (n + (c.args.many - 1)) / c.args.many) count in
-    none_known film q c.args.many ((length c.args.here.now.actors.now + (c.args.many - 1)) / c.args.many) c.args.need number c.requires.many
+    none_known film q c.args.many ((length c.args.here.now.actors.now + (c.args.many - 1)) / c.args.many) c.args.need number c.requires

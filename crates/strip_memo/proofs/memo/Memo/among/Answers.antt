@@ -4,5 +4,5 @@ use Rattle.strip_mask.proofs.ByMembers.{has-empty}
 use Rattle.strip_memo.proofs.memo.Memo.among.Goals as goal
 
 -- the empty set lies in every film
-pub at-requires-clause-lies : goal.at-requires-clause-lies
-at-requires-clause-lies g c = λ i there. absurd (let e : has 0 i ≡ false = has-empty i in cc)
+pub whole-requires : goal.whole-requires
+whole-requires g c = record { lies = λ i there. absurd (let e : has 0 i ≡ false = has-empty i in cc) }

@@ -9,6 +9,6 @@ top_bits n shift few fits =
     shr_lt {n = n} (64 - shift) shift (subst (λ (bits : ℕ). n < 2 ^ bits) all fits)
 
 pub returns : goal.returns
-returns c =
-    let room = c.args.self.now.room in
+returns g c =
+    let room = c.args.self.now.places in
     omega (arith, room.1, top_bits (c.args.q.0 * 11400714819323198485 % 2 ^ 64) c.args.self.now.shift room.0 (omega arith))

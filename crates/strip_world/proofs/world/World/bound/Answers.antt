@@ -5,10 +5,12 @@ use Rattle.strip_film.specs.Film.{LiesIn}
 use Rattle.strip_bound.specs.Bounds.{bound}
 use Rattle.strip_world.proofs.world.World.bound.Goals as goal
 
-pub at-requires-clause-lies : goal.at-requires-clause-lies
-at-requires-clause-lies g c = subst (λ (f : FilmData). LiesIn f c.args.set.0) c.requires.search.0 c.requires.lies
+pub whole-requires : goal.whole-requires
+whole-requires g c = record {
+  lies = subst (λ (f : FilmData). LiesIn f c.args.set.0) c.requires.search.0 c.requires.lies;
+}
 
 pub returns : goal.returns
 returns g c =
-    c.at.ensures ∙ ap (λ (f : FilmData). bound c.args.bounds.now.kind f c.args.set.0) (sym c.requires.search.0)
+    c.whole.ensures ∙ ap (λ (f : FilmData). bound g.B.Bounds.kind f c.args.set.0) (sym c.requires.search.0)
     ∙ ap (λ (k : Kind). bound k c.args.self.now.search.film c.args.set.0) (sym c.requires.search.1)

@@ -14,9 +14,9 @@ use Rattle.strip_world.proofs.world.World.comes_after.Goals as goal
 
 pub is_earlier-requires-clause-lies : goal.is_earlier-requires-clause-lies
 is_earlier-requires-clause-lies g c =
-    subst (LiesIn c.args.bounds.now.film.now)
+    subst (LiesIn g.B.Bounds.film)
     (ap all_scenes (sym (ap (λ (w : WorldData). w.search.film) c.self.view_is ∙ c.requires.search.0)) ∙ sym c.all.ensures)
-    (LiesBelow-full (length c.args.bounds.now.film.now.casts))
+    (LiesBelow-full (length g.B.Bounds.film.casts))
 
 pub is_earlier-requires-clause-first : goal.is_earlier-requires-clause-first
 is_earlier-requires-clause-first g c =
@@ -27,9 +27,9 @@ is_earlier-requires-clause-first g c =
     = ap (λ (w : WorldData). (part_at w c.args.part).last) (sym c.self.view_is)
     ∙ ap (λ (p : PartData). p.last) (get_or-map part_data inside.parts.items c.args.part c.index.result.now no_part within)
     ∙ ap (λ (p : Part). option_map path_data p.last) (sym c.index.ensures) ∙ ap (option_map path_data) c.in-Some.is in
-    let own : IsPath c.args.bounds.now.film.now (path_data c.in-Some.last)
+    let own : IsPath g.B.Bounds.film (path_data c.in-Some.last)
     = subst (λ (film : FilmData). IsPath film (path_data c.in-Some.last)) c.requires.search.0
     ((c.requires.sound.parts c.args.part c.requires.part).own (path_data c.in-Some.last) last) in
-    subst (λ (scenes : List ℕ). Remained c.args.bounds.now.film.now c.all.result.0 scenes) (sym c.scenes.ensures)
-    (subst (λ (set : ℕ). Remained c.args.bounds.now.film.now set (path_data c.in-Some.last).scenes)
+    subst (λ (scenes : List ℕ). Remained g.B.Bounds.film c.all.result.0 scenes) (sym c.scenes.ensures)
+    (subst (λ (set : ℕ). Remained g.B.Bounds.film set (path_data c.in-Some.last).scenes)
     (ap all_scenes (sym (ap (λ (w : WorldData). w.search.film) c.self.view_is ∙ c.requires.search.0)) ∙ sym c.all.ensures) own.remained)

@@ -26,7 +26,7 @@ loop-count-preserved g c = record {
   took = took_next c.loop-count.count c.args.self.now c.args.events.now c.loop-count.self c.step.new.self c.index-events-count.result c.step.result c.loop-count.invariant.took
       c.loop-count-test.true c.index-events-count.is (c.allows.ensures.0 c.if-not-allows.false) c.step.ensures.steps;
   sound = c.step.ensures.sound;
-  search = subst (λ (search : SearchData). GoesBy c.args.bounds.now.kind c.args.bounds.now.film.now search)
+  search = subst (λ (search : SearchData). GoesBy g.B.Bounds.kind g.B.Bounds.film search)
       (sym (search_stays c.loop-count.self c.step.new.self c.index-events-count.result c.step.result c.step.ensures.steps)) c.loop-count.invariant.search;
 }
 

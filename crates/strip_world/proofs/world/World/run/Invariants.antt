@@ -7,5 +7,5 @@ abbrev pub invariant-loop-count : goal.invariant-loop-count
 invariant-loop-count g l = record {
   took : Took l.fn.self l.fn.events l.count l.self;
   sound : IsSound l.self;
-  search : GoesBy l.bounds.kind l.bounds.film.now l.self.search;
+  search : GoesBy g.B.Bounds.kind g.B.Bounds.film l.self.search;
 }
