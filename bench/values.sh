@@ -16,7 +16,7 @@ fi
 cp "$repository/HANDLES" "$work/"
 crates="strip_io strip_mask strip_group strip_sets strip_arrivals"
 grep -E "^(${crates// /|}):" "$repository/crates.txt" > "$work/crates.txt"
-echo "values: strip_io strip_mask strip_group strip_sets strip_arrivals" >> "$work/crates.txt"
+echo "values: strip_io strip_mask strip_arrivals" >> "$work/crates.txt"
 values=$work/crates/values
 mkdir -p "$values/src" "$values/proofs/value_of"
 : > "$values/proofs/Lib.antt"
@@ -35,10 +35,9 @@ use std::alloc::Global;
 use std::env;
 use std::process::ExitCode;
 use std::rt::Env;
-use strip_arrivals::ArrivalsTable;
+use strip_arrivals::{ArrivalsTable, Room};
 use strip_io::Memory;
 use strip_mask::Mask;
-use strip_sets::{BySet, SixPlaces};
 
 const TURNS: u64 = 50_000;
 
@@ -89,7 +88,7 @@ fn round(first: u32, count: u32) -> Mask {
 }
 
 /// The value, if it can be asked for, or 0.
-fn value_of(table: &ArrivalsTable, set: Mask, group: Mask, others: Mask, room: &mut [SixPlaces; 224]) -> u64
+fn value_of(table: &ArrivalsTable, set: Mask, group: Mask, others: Mask, room: &mut Room) -> u64
     requires { length table.now.holds ≡ 12 }
 {
     let newcomers = others.minus(group);
@@ -118,7 +117,7 @@ fn sum_values(table: &ArrivalsTable, words: usize) -> u64
         10 => (10, 1),
         _ => (10, 2),
     };
-    let mut room = [SixPlaces::all(0); 224];
+    let mut room = Room::new();
     let mut sum: u64 = 0;
     let mut mixed: u64 = 1;
     for _ in 0..TURNS {
@@ -134,22 +133,13 @@ fn sum_values(table: &ArrivalsTable, words: usize) -> u64
 END
 
 cat > "$values/proofs/value_of/Answers.antt" <<'END'
-use Rattle.std.proofs.Common.{◌≡◌, ◌∙◌, ◌+◌, ◌*◌, ◌-◌, ◌^◌, ◌≤◌, ap, sym, arith}
-use Rattle.std.proofs.Math.Nat.{mul-le-mul}
-use Rattle.std.proofs.Math.Pow.{pow_mono}
-use Rattle.strip_mask.specs.Set.{has, size}
+use Rattle.std.proofs.Common.{◌∙◌, ap, sym}
+use Rattle.strip_mask.specs.Set.{has}
 use Rattle.strip_mask.proofs.ByMembers.{has_from_minus}
 use Rattle.values.proofs.value_of.Goals as goal
 
 pub value-requires-clause-apart : goal.value-requires-clause-apart
 value-requires-clause-apart c = λ actor there. (has_from_minus c.args.others.0 c.args.group.0 actor (ap (λ s. has s actor) (sym c.minus-newcomers.ensures) ∙ there)).1
-
-pub value-requires-clause-room : goal.value-requires-clause-room
-value-requires-clause-room c =
-    let tables : 2 + 6 * size c.minus-newcomers.result.0 ≤ 14 = omega (arith, c.size-else-size-gt10.ensures, c.if-size-gt2.false) in
-    let blocks : 2 ^ (size c.args.group.0 - 6) ≤ 2 ^ 4 = pow_mono {j = 4} (omega (arith, c.size.ensures, c.if-size-gt10.false)) in
-    let all : (2 + 6 * size c.minus-newcomers.result.0) * 2 ^ (size c.args.group.0 - 6) ≤ 14 * 2 ^ 4 = mul-le-mul tables blocks in
-    omega (arith, all)
 END
 
 (cd "$values" && rt run > "$work/log" 2>&1) || {
